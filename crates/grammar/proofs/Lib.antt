@@ -1,0 +1,9 @@
+pub mod Derivation
+pub mod Leftmost
+pub mod Join
+pub mod Sets
+pub mod Unique
+pub mod Useful
+pub mod Machine
+pub mod Place
+pub mod Halting
