@@ -1,9 +1,8 @@
 -- Derivations: in a context, one after another, and side by side.
-use mathlib.Core.Path.{_≡_, refl, sym, _∙_, ap, subst}
-use mathlib.Core.List.{List, [], _∷_, _++_, map, append-assoc, append-nil}
+use mathlib.Core.List.{[], _∷_, _++_, append-assoc, append-nil}
 use Prim.Native.Nat.{ℕ}
-use Rattle.grammar.specs.declared.Symbol.the-variants.{Token, Nonterminal}
-use Rattle.grammar.specs.Grammar.{Form, spelled, Grammar, Rule, Step, replace, Derives, itself, step}
+use Rattle.grammar.specs.declared.Symbol.the-variants.{Nonterminal}
+use Rattle.grammar.specs.Grammar.{Form, Grammar, Rule, Step, replace, Derives, itself, step}
 
 module _ {g : Grammar} where
   pub derives-trans : {α β γ : Form} → Derives g α β → Derives g β γ → Derives g α γ

@@ -1,7 +1,7 @@
 -- Halting: driven by exact cells the machine stops on every string, accepting it or at a syntax error.
 use mathlib.Core.Path.{_≡_, refl, sym, _∙_, ap, subst}
 use mathlib.Core.List.{List, [], _∷_, _++_, append-assoc, append-nil}
-use mathlib.Core.Option.{Option, some, none}
+use mathlib.Core.Option.{Option, some}
 use Prim.Native.Nat.{ℕ}
 use native.Mathlib.Decide.{ℕ-discrete}
 use native.Mathlib.Omega.{arith}
@@ -12,9 +12,9 @@ use Rattle.grammar.specs.Grammar as textbook
 use Rattle.grammar.specs.Machine as machine
 use Rattle.grammar.specs.Machine.{front, Exact, Run, here, match, Halted, accepted, stopped, left-over, unmatched, vacant}
 use Rattle.grammar.proofs.Derivation.{derives-trans, derives-behind, derives-before}
-use Rattle.grammar.proofs.Leftmost.{Split, leftmost-split, leftmost-derives, derives-leftmost, recast}
+use Rattle.grammar.proofs.Leftmost.{Split, leftmost-split, leftmost-derives, derives-leftmost}
 use Rattle.grammar.proofs.Unique.{sentential-expand}
-use Rattle.grammar.proofs.Machine.{claims-cell, run-derives}
+use Rattle.grammar.proofs.Machine.{claims-cell}
 
 -- the productions ps, applied leftmost from α, bring the token t to the front, with δ behind it
 data Starting (g : Grammar) (t : ℕ) : Form → List ℕ → Form → Type 0 where
@@ -195,10 +195,6 @@ module _ {g : Grammar} where
     halts-token t y next x (Token b ∷ α) s = match-next b t y α (next (x ++ (Token b ∷ [])) α (rw append-assoc s))
     halts-token t y next x (Nonterminal A ∷ α) s = turn-token t y next x A α s (halts-token t y next x α)
 
-    halts-from : (w : List ℕ) (x α : Form) → Sentential g (x ++ α) → Halted g cell α w
+    pub halts-from : (w : List ℕ) (x α : Form) → Sentential g (x ++ α) → Halted g cell α w
     halts-from [] x α s = halts-end x α s
     halts-from (t ∷ w) x α s = halts-token t w (halts-from w) x α s
-
-    -- with room without end the machine accepts or stops on every string
-    pub halts : (w : List ℕ) → Halted g cell (Nonterminal (g .start) ∷ []) w
-    halts w = halts-from w [] (Nonterminal (g .start) ∷ []) itself

@@ -1,7 +1,7 @@
 -- What a form can begin with, read off a family of sets: the join of its symbols' sets, going on with K where all of them vanish.
 -- In a family the end mark stands for the empty string.
 use mathlib.Core.Path.{_≡_, refl, ap}
-use mathlib.Core.List.{List, [], _∷_, _++_}
+use mathlib.Core.List.{[], _∷_, _++_}
 use Prim.Native.Nat.{ℕ}
 use Rattle.grammar.specs.declared.Symbol.{Symbol}
 use Rattle.grammar.specs.declared.Symbol.the-variants.{Token, Nonterminal}

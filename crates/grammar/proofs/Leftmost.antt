@@ -1,13 +1,12 @@
 -- Leftmost derivations: their list is the textbook's chain of leftmost steps, and whatever derives a token string has one.
 use mathlib.Core.Path.{_≡_, refl, sym, _∙_, ap, subst}
-use mathlib.Core.List.{List, [], _∷_, _++_, map, append-assoc, append-nil}
+use mathlib.Core.List.{List, [], _∷_, _++_, append-assoc, append-nil}
 use mathlib.Core.Option.{Option, some}
 use Prim.Native.Nat.{ℕ}
 use native.Mathlib.Omega.{arith}
-use lib.ListN.{getElem?}
 use Rattle.grammar.specs.declared.Symbol.the-variants.{Token, Nonterminal}
-use Rattle.grammar.specs.Grammar.{Form, spelled, Production, Grammar, Rule, Step, replace, Derives, itself, step, LeftmostStep, leftmost, LeftmostSteps, stay, next, Leftmost, done, shift, expand}
-use Rattle.grammar.proofs.Derivation.{derives-trans, derives-behind}
+use Rattle.grammar.specs.Grammar.{Form, spelled, Production, Grammar, Rule, replace, Derives, itself, step, leftmost, LeftmostSteps, stay, next, Leftmost, done, shift, expand}
+use Rattle.grammar.proofs.Derivation.{derives-behind}
 
 pub spelled-append : (u w : List ℕ) → spelled (u ++ w) ≡ spelled u ++ spelled w
 spelled-append [] w = refl
@@ -42,16 +41,16 @@ module _ {g : Grammar} where
 
   whole : {β : Form} {ps w : List ℕ} → Leftmost g β ps w → Split g [] β ps w
   whole {ps = ps} {w = w} d =
-      record
-        { list-left = []
-        ; list-right = ps
-        ; string-left = []
-        ; string-right = w
-        ; lists = refl
-        ; strings = refl
-        ; left = done
-        ; right = d
-        }
+      record {
+        list-left = [];
+        list-right = ps;
+        string-left = [];
+        string-right = w;
+        lists = refl;
+        strings = refl;
+        left = done;
+        right = d;
+      }
 
   pub leftmost-split : {σ : Form} {ps w : List ℕ} → Leftmost g σ ps w → (α β : Form) → σ ≡ α ++ β → Split g α β ps w
   leftmost-split done [] β e = whole (recast e done)
@@ -61,16 +60,16 @@ module _ {g : Grammar} where
     where
       again : Split g α β ps w → Token t ≡ x → Split g (x ∷ α) β ps (t ∷ w)
       again s f =
-          record
-            { list-left = s .list-left
-            ; list-right = s .list-right
-            ; string-left = t ∷ s .string-left
-            ; string-right = s .string-right
-            ; lists = s .lists
-            ; strings = ap (λ y. t ∷ y) (s .strings)
-            ; left = recast (ap (λ y. y ∷ α) f) (shift (s .left))
-            ; right = s .right
-            }
+          record {
+            list-left = s .list-left;
+            list-right = s .list-right;
+            string-left = t ∷ s .string-left;
+            string-right = s .string-right;
+            lists = s .lists;
+            strings = ap (λ y. t ∷ y) (s .strings);
+            left = recast (ap (λ y. y ∷ α) f) (shift (s .left));
+            right = s .right;
+          }
   leftmost-split (expand r d) [] β e = whole (recast e (expand r d))
   leftmost-split (expand {p = p} {A = A} {α = σ} {β = γ} {ps = ps} {w = w} r d) (x ∷ α) β e =
       let f : σ ≡ α ++ β = cc in
@@ -78,16 +77,16 @@ module _ {g : Grammar} where
     where
       again : Split g (γ ++ α) β ps w → Nonterminal A ≡ x → Split g (x ∷ α) β (p ∷ ps) w
       again s f =
-          record
-            { list-left = p ∷ s .list-left
-            ; list-right = s .list-right
-            ; string-left = s .string-left
-            ; string-right = s .string-right
-            ; lists = ap (λ y. p ∷ y) (s .lists)
-            ; strings = s .strings
-            ; left = recast (ap (λ y. y ∷ α) f) (expand r (s .left))
-            ; right = s .right
-            }
+          record {
+            list-left = p ∷ s .list-left;
+            list-right = s .list-right;
+            string-left = s .string-left;
+            string-right = s .string-right;
+            lists = ap (λ y. p ∷ y) (s .lists);
+            strings = s .strings;
+            left = recast (ap (λ y. y ∷ α) f) (expand r (s .left));
+            right = s .right;
+          }
 
   pub leftmost-append : {α β : Form} {ps qs u v : List ℕ} → Leftmost g α ps u → Leftmost g β qs v → Leftmost g (α ++ β) (ps ++ qs) (u ++ v)
   leftmost-append done e = e

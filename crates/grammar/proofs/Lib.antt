@@ -7,3 +7,10 @@ pub mod Useful
 pub mod Machine
 pub mod Place
 pub mod Halting
+pub mod Theorems
+pub mod Tests
+pub mod Worked
+pub mod WorkedCells
+pub mod WorkedUseful
+pub mod WorkedForm
+pub mod House

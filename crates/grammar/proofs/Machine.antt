@@ -1,18 +1,16 @@
 -- The LL(1) machine on exact cells: it accepts a string with a list exactly if the list is the string's leftmost derivation, and where it
 -- stops, what it has read is the longest beginning that some derivable string shares.
 use mathlib.Core.Path.{_≡_, refl, sym, _∙_, ap, subst}
-use mathlib.Core.Logic.{_↔_}
 use mathlib.Core.List.{List, [], _∷_, _++_, append-assoc, append-nil}
 use mathlib.Core.Option.{Option, some, none}
-use Prim.Native.Nat.{ℕ, suc, _+_, _≤_, _<_}
+use Prim.Native.Nat.{ℕ}
 use native.Mathlib.Omega.{arith}
-use lib.ListN.{length, take, drop, length-append}
 use Rattle.grammar.specs.declared.Symbol.the-variants.{Token, Nonterminal}
-use Rattle.grammar.specs.Grammar.{Form, spelled, Grammar, Column, token, endmark, column, empty, Rule, replace, Derives, itself, step, Sentential, Derivable, Leftmost, done, shift, Complete, Claims, Cell, only, Conflict}
+use Rattle.grammar.specs.Grammar.{Form, spelled, Grammar, Column, Rule, replace, Derives, itself, step, Sentential, Derivable, Leftmost, done, shift, Complete, Claims, Cell, only, Conflict}
 use Rattle.grammar.specs.Grammar as textbook
-use Rattle.grammar.specs.Machine.{front, Exact, Run, here, match, expand, Accepts, Stopped, left-over, unmatched, vacant, Begins, Longest}
-use Rattle.grammar.proofs.Derivation.{derives-trans, derives-behind}
-use Rattle.grammar.proofs.Leftmost.{Split, leftmost-split, leftmost-derives, derives-leftmost, recast, rule-same, spelled-append}
+use Rattle.grammar.specs.Machine.{front, Exact, Run, here, match, expand, Stopped, left-over, unmatched, vacant}
+use Rattle.grammar.proofs.Derivation.{derives-behind}
+use Rattle.grammar.proofs.Leftmost.{derives-leftmost, rule-same}
 use Rattle.grammar.proofs.Unique.{leads-claims, sentential-expand}
 
 front-behind : (u y z : List ℕ) → front y ≡ front z → front (u ++ y) ≡ front (u ++ z)
@@ -33,7 +31,8 @@ module _ {g : Grammar} {cell : ℕ → Column → Option ℕ} where
       let other : cell (k .row) (k .col) ≡ some (k .other) = claims-cell x (k .claims-other) in
       k .distinct (cc)
 
-  run-from : Exact g cell → (x : Form) {α : Form} {ps w : List ℕ} → Sentential g (x ++ α) → Leftmost g α ps w → Run g cell [] α w ps []
+  -- the machine follows a leftmost derivation to its end
+  pub run-from : Exact g cell → (x : Form) {α : Form} {ps w : List ℕ} → Sentential g (x ++ α) → Leftmost g α ps w → Run g cell [] α w ps []
   run-from h x s done = here
   run-from h x s (shift {t = t} d) = match (run-from h (x ++ (Token t ∷ [])) (rw append-assoc s) d)
   run-from h x s (textbook.expand {p = p} {A = A} {α = α} {w = w} r d) =
@@ -44,10 +43,6 @@ module _ {g : Grammar} {cell : ℕ → Column → Option ℕ} where
   run-leftmost here = done
   run-leftmost (match r) = shift (run-leftmost r)
   run-leftmost (expand e k r) = textbook.expand k (run-leftmost r)
-
-  -- it accepts w with the list ps exactly if ps is the leftmost derivation of w
-  pub accepts-exactly : Exact g cell → {w ps : List ℕ} → Accepts g cell w ps ↔ Complete g ps w
-  accepts-exactly h = (λ r. run-leftmost r, λ d. run-from h [] itself d)
 
   pub run-derives : {z : List ℕ} {α β : Form} {u ps : List ℕ} → Run g cell z α u ps β → Derives g α (spelled u ++ β)
   run-derives here = itself
@@ -68,8 +63,8 @@ module _ {g : Grammar} {cell : ℕ → Column → Option ℕ} where
   run-through (match r) (match a) e = run-through r a (cc)
   run-through {z} (expand {p = p} {A = A} {α = α} {γ = γ} {u = u} c k r) {v} (expand {p = q} {γ = δ} {ps = qs} d l a) e =
       let same : q ≡ p =
-        let one : cell A (front (u ++ z)) ≡ some q = ap (λ (x : List ℕ). cell A (front x)) (sym (append-nil v ∙ e)) ∙ d in
-        cc in
+      let one : cell A (front (u ++ z)) ≡ some q = ap (λ (x : List ℕ). cell A (front x)) (sym (append-nil v ∙ e)) ∙ d in
+      cc in
       let right : δ ≡ γ = rule-same (subst (λ (o : ℕ). Rule g o A δ) same l) k .1 in
       run-through r (subst (λ (x : Form). Run g cell [] (x ++ α) v qs []) right a) e
 

@@ -1,15 +1,15 @@
 -- Viable prefix: where the machine stops, what it has read is the longest beginning that some derivable string shares.
-use mathlib.Core.Path.{_≡_, refl, sym, _∙_, ap, subst}
+use mathlib.Core.Path.{_≡_, refl, ap, subst}
 use mathlib.Core.List.{List, [], _∷_, _++_, append-assoc}
 use mathlib.Core.Option.{Option}
-use Prim.Native.Nat.{ℕ, zero, suc, _+_, _-_, _≤_, _<_}
+use Prim.Native.Nat.{ℕ, suc, _+_, _-_, _≤_}
 use native.Mathlib.Omega.{arith}
 use native.Mathlib.Decide.{decLe}
 use lib.ListN.{length, take, length-append}
 use lib.Seq.{take-append-seam, take-append-add}
 use Rattle.grammar.specs.declared.Symbol.the-variants.{Nonterminal}
-use Rattle.grammar.specs.Grammar.{Form, spelled, Grammar, Column, Sentential, Derivable, Productive, Reachable}
-use Rattle.grammar.specs.Machine.{front, Exact, Run, Stopped, Begins, Longest}
+use Rattle.grammar.specs.Grammar.{Form, spelled, Grammar, Column, Sentential, Productive, Reachable}
+use Rattle.grammar.specs.Machine.{Exact, Run, Stopped, Begins, Longest}
 use Rattle.grammar.proofs.Derivation.{derives-trans, derives-behind}
 use Rattle.grammar.proofs.Leftmost.{spelled-append}
 use Rattle.grammar.proofs.Join.{Behind, behind-split}
@@ -39,8 +39,8 @@ module _ {g : Grammar} where
       one-more m [] e b h = omega (arith, length-append u z, ap length e)
       one-more m (t ∷ y) e b h = blocked exact r s (t ∷ (take m y ++ b .rest)) (rw e) (rw append-assoc at (b .derivable))
 
-      longest-read : (j : ℕ) → j ≤ length (u ++ z) → Begins g (take j (u ++ z)) → j ≤ length u
-      longest-read j h b = go (decLe j (length u))
+      no-longer : (j : ℕ) → j ≤ length (u ++ z) → Begins g (take j (u ++ z)) → j ≤ length u
+      no-longer j h b = go (decLe j (length u))
         where
           go : Dec (j ≤ length u) → j ≤ length u
           go (yes k) = k
@@ -50,8 +50,5 @@ module _ {g : Grammar} where
               let more : Begins g (take (length u + suc m) (u ++ z)) = subst (λ (n : ℕ). Begins g (take n (u ++ z))) e b in
               absurd (one-more m z refl (rw take-append-add at more) (omega arith))
 
-      pub viable-prefix : Longest g (u ++ z) (length u)
-      viable-prefix = record { inside = omega (arith, length-append u z); begun = rw take-append-seam (read-begins r); longest = longest-read }
-
-      pub stopped-not-derivable : ¬ Derivable g (u ++ z)
-      stopped-not-derivable d = blocked exact r s z refl d
+      pub longest-read : Longest g (u ++ z) (length u)
+      longest-read = record { inside = omega (arith, length-append u z); begun = rw take-append-seam (read-begins r); longest = no-longer }

@@ -1,15 +1,14 @@
 -- Sound and closed is exact: a family of sets in which every member has a derivation, and which is closed under every production, is
 -- the family by derivation. FIRST, FOLLOW, and with them lookaheads.
-use mathlib.Core.Path.{_≡_, refl, sym, _∙_, ap, subst}
+use mathlib.Core.Path.{_≡_}
 use mathlib.Core.Logic.{_↔_}
-use mathlib.Core.List.{List, [], _∷_, _++_, append-assoc, append-nil}
+use mathlib.Core.List.{[], _∷_, _++_, append-assoc}
 use Prim.Native.Nat.{ℕ}
-use Rattle.grammar.specs.declared.Symbol.{Symbol}
 use Rattle.grammar.specs.declared.Symbol.the-variants.{Token, Nonterminal}
 use Rattle.grammar.specs.Grammar.{Form, Grammar, Column, token, endmark, Member, column, empty, Rule, Step, replace, Derives, itself, step, Sentential, First, starts, vanishes, Follow, before, last, Lookahead, Reachable}
 use Rattle.grammar.specs.Grammar as textbook
-use Rattle.grammar.proofs.Derivation.{derives-trans, derives-before, derives-behind, derives-rule, derives-in}
-use Rattle.grammar.proofs.Join.{Family, End, ended, Join, over, here, begins, past, Behind, first, later, Cases, own, beyond, Within, left, right, join-map, join-in, join-out, join-cases, join-own, join-beyond, cases-join, behind-split, behind-at, behind-left, behind-right, behind-append}
+use Rattle.grammar.proofs.Derivation.{derives-trans, derives-before, derives-behind, derives-rule}
+use Rattle.grammar.proofs.Join.{Family, End, ended, Join, over, here, begins, past, Behind, first, later, Cases, own, beyond, Within, left, right, join-map, join-in, join-out, join-cases, join-own, join-beyond, behind-split, behind-at, behind-left, behind-right, behind-append}
 
 -- in a family the end mark stands for the empty string
 abbrev pub merged : Column → Member
@@ -156,3 +155,8 @@ module _ {g : Grammar} where
       own-first : {A : ℕ} {α : Form} {c : Column} → First g α (column c) → Join (FirstOf g) (FollowOf g A) α c
       own-first (starts {t = t} γ d) = join-own (first-join first-of-closed (token t) (starts γ d))
   lookahead-join (textbook.follow v f) = join-beyond (first-join first-of-closed endmark v) f
+
+  -- exact families give exact lookaheads
+  pub lookahead-exact : {F W : Family} → ((A : ℕ) (c : Column) → F A c ↔ FirstOf g A c) → ((A : ℕ) (c : Column) → W A c ↔ FollowOf g A c) → {A : ℕ} {α : Form} {c : Column} → Join F (W A) α c ↔ Lookahead g A α (column c)
+  lookahead-exact f w {A} =
+      (λ j. join-lookahead (join-cases (join-map (λ B c. f B c .0) (λ c. w A c .0) j)), λ l. join-map (λ B c. f B c .1) (λ c. w A c .1) (lookahead-join l))

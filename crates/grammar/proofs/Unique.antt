@@ -1,10 +1,10 @@
 -- Determinism: each production of a leftmost derivation claims its cell, so without conflict one string has one list.
-use mathlib.Core.Path.{_≡_, refl, sym, _∙_, ap, subst}
-use mathlib.Core.List.{List, [], _∷_, _++_, append-assoc, append-nil}
+use mathlib.Core.Path.{_≡_, refl, ap, subst}
+use mathlib.Core.List.{List, [], _∷_, _++_, append-assoc}
 use Prim.Native.Nat.{ℕ}
 use native.Mathlib.Decide.{ℕ-discrete}
 use Rattle.grammar.specs.declared.Symbol.the-variants.{Token, Nonterminal}
-use Rattle.grammar.specs.Grammar.{Form, spelled, Grammar, Column, token, endmark, column, empty, Rule, replace, Derives, itself, step, Sentential, Leftmost, done, shift, expand, Complete, First, starts, vanishes, Follow, before, last, Lookahead, first, follow, Claims, Conflict}
+use Rattle.grammar.specs.Grammar.{Form, spelled, Grammar, Column, column, Rule, replace, Derives, itself, step, Sentential, Leftmost, done, shift, expand, starts, vanishes, Follow, before, last, Lookahead, first, follow, Claims, Conflict}
 use Rattle.grammar.specs.Machine.{front}
 use Rattle.grammar.proofs.Derivation.{derives-trans, derives-behind}
 use Rattle.grammar.proofs.Leftmost.{Split, leftmost-split, leftmost-derives, recast, rule-same}
@@ -22,13 +22,13 @@ module _ {g : Grammar} where
   -- a production that leads on to a string claims the cell of the string's first column
   pub leads-claims : (x α : Form) {p A : ℕ} {β : Form} {ps w : List ℕ} → Sentential g (x ++ (Nonterminal A ∷ α)) → Rule g p A β → Leftmost g (β ++ α) ps w → Claims g A (front w) p
   leads-claims x α {p} {A} {β} {ps} {w} s r d =
-      record
-        { right = β
-        ; rule = r
-        ; ahead =
-          let cut : Split g β α ps w = leftmost-split d β α refl in
-          rw (cut .strings) (ahead-of x s (cut .string-left) (cut .string-right) (leftmost-derives (cut .left)) (leftmost-derives (cut .right)))
-        }
+      record {
+        right = β;
+        rule = r;
+        ahead =
+            let cut : Split g β α ps w = leftmost-split d β α refl in
+            rw (cut .strings) (ahead-of x s (cut .string-left) (cut .string-right) (leftmost-derives (cut .left)) (leftmost-derives (cut .right)));
+      }
 
   pub sentential-expand : (x α : Form) {p A : ℕ} {β : Form} → Sentential g (x ++ (Nonterminal A ∷ α)) → Rule g p A β → Sentential g (x ++ (β ++ α))
   sentential-expand x α s r = derives-trans s (step (replace x α r) itself)
@@ -41,7 +41,7 @@ module _ {g : Grammar} where
       go (no d) = absurd (n (record { row = A; col = c; one = p; other = q; distinct = d; claims-one = h; claims-other = k }))
 
   module _ (n : ¬ Conflict g) where
-    unique-from : (x : Form) {α : Form} {ps qs w : List ℕ} → Sentential g (x ++ α) → Leftmost g α ps w → Leftmost g α qs w → ps ≡ qs
+    pub unique-from : (x : Form) {α : Form} {ps qs w : List ℕ} → Sentential g (x ++ α) → Leftmost g α ps w → Leftmost g α qs w → ps ≡ qs
     unique-from x s done done = refl
     unique-from x s (shift {t = t} {α = α} d) (shift e) = unique-from (x ++ (Token t ∷ [])) (rw append-assoc s) d e
     unique-from x s (expand {p = p} {A = A} {α = α} {β = β} {ps = ps} r d) (expand {p = q} {β = γ} {ps = qs} k e) =
@@ -49,7 +49,3 @@ module _ {g : Grammar} where
         let right : γ ≡ β = rule-same (subst (λ (o : ℕ). Rule g o A γ) same k) r .1 in
         let rest : ps ≡ qs = unique-from x (sentential-expand x α s r) d (recast (ap (λ (y : Form). y ++ α) right) e) in
         cc
-
-  -- no conflict: one string, one list
-  pub leftmost-unique : ¬ Conflict g → {ps qs w : List ℕ} → Complete g ps w → Complete g qs w → ps ≡ qs
-  leftmost-unique n d e = unique-from n [] itself d e

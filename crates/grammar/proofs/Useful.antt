@@ -1,11 +1,11 @@
 -- Useful symbols: productive, then reachable through productive productions only; what is sound and closed under these is exact.
-use mathlib.Core.Path.{_≡_, refl, sym, _∙_, ap, subst}
-use mathlib.Core.List.{List, [], _∷_, _++_, append-assoc, append-nil}
+use mathlib.Core.Path.{_≡_, refl}
+use mathlib.Core.List.{List, [], _∷_, _++_, append-assoc}
 use Prim.Native.Nat.{ℕ, _<_}
 use Rattle.grammar.specs.declared.Symbol.{Symbol}
 use Rattle.grammar.specs.declared.Symbol.the-variants.{Token, Nonterminal}
-use Rattle.grammar.specs.Grammar.{Form, spelled, Grammar, Every, nothing, each, Rule, Step, replace, Derives, itself, step, Sentential, Leftmost, done, shift, expand, Productive, Reachable, Useful, Known, known-nonterminal, WellFormed}
-use Rattle.grammar.proofs.Derivation.{derives-trans, derives-behind, derives-before, derives-both, derives-rule}
+use Rattle.grammar.specs.Grammar.{Form, spelled, Grammar, Every, nothing, each, Rule, replace, Derives, itself, step, Sentential, Leftmost, done, shift, expand, Productive, Reachable, Useful, Known, known-nonterminal, WellFormed}
+use Rattle.grammar.proofs.Derivation.{derives-trans, derives-both, derives-rule}
 use Rattle.grammar.proofs.Leftmost.{Split, leftmost-split, leftmost-derives, derives-leftmost, spelled-append}
 use Rattle.grammar.proofs.Join.{Behind, first, later, behind-split}
 

@@ -1,2 +1,3 @@
 pub mod Grammar
+pub mod House
 pub mod Machine

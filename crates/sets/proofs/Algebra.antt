@@ -45,7 +45,7 @@ join-assoc e x y z =
     by-place e (joined e (joined e x y) z) (joined e x (joined e y z))
     (simp joined-vanishes (and-assoc (member e x) (member e y) (member e z)))
     (λ k d. simp (joined-vanishes, joined-elsewhere)
-      (regroup (member k x) (member e x) (member k y) (member e y) (member k z)))
+    (regroup (member k x) (member e x) (member k y) (member e y) (member k z)))
   where
     regroup : (kx ex ky ey kz : Bool)
         → (kx || (ex && ky)) || ((ex && ey) && kz) ≡ kx || (ex && (ky || (ey && kz)))
@@ -81,7 +81,7 @@ join-distributes-right e x y z =
     by-place e (joined e (united x y) z) (united (joined e x z) (joined e y z))
     (simp (joined-vanishes, member-united) (and-or-distrib-right (member e x) (member e y) (member e z)))
     (λ k d. simp (joined-elsewhere, member-united, and-or-distrib-right)
-      (swap (member k x) (member k y) (member e x && member k z) (member e y && member k z)))
+    (swap (member k x) (member k y) (member e x && member k z) (member e y && member k z)))
   where
     swap : (a b c d : Bool) → (a || b) || (c || d) ≡ (a || c) || (b || d)
     swap true b c d = refl

@@ -1,13 +1,13 @@
 -- The answers as those who cite the contracts use them: the number that each function makes, a Bool that decides, and the
 -- sets of a family.
 use mathlib.Core.Path.{_≡_, refl, sym, _∙_}
-use mathlib.Core.Bool.{Bool, true, false, false≢true, and-true}
+use mathlib.Core.Bool.{Bool, true, false, false≢true, true≢false, and-true}
+use mathlib.Core.Logic.{_≢_}
 use mathlib.Core.List.{List}
 use Prim.Native.Nat.{ℕ, _<_}
 use borrow.Author.Tests.{lt-ltb}
 use lib.ListN.{length, length-set}
 use lib.Seq.{getD-set-same, getD-set-other}
-use mathlib.Core.Logic.{_≢_}
 use Rattle.sets.specs.declared.Set.{Set}
 use Rattle.sets.specs.Calls.{number, Decides, None, With, Without, Union, Join, setAt, stored}
 use Rattle.sets.specs.Sets.{width, emptyString, united, added, removed, joined}
@@ -41,6 +41,15 @@ pub decided : {A : Type 0} (r : Bool) → (r ≡ true → A) → (A → r ≡ tr
 decided true holds told = holds refl
 decided false holds told = λ a. false≢true (told a)
 
+pub decides-true : (A : Type 0) (r : Bool) → Decides r A → r ≡ true → A
+decides-true A true answer told = answer
+decides-true A false answer told = absurd (false≢true told)
+
+pub decides-false : (A : Type 0) (r : Bool) → Decides r A → r ≡ false → A → ⊥
+decides-false A true answer told = absurd (true≢false told)
+decides-false A false answer told = answer
+
+-- a family after one of its sets is replaced
 module _ (sets : List ℕ) (n x : ℕ) where
   pub stored-length : length (stored sets n x) ≡ length sets
   stored-length = length-set sets n x

@@ -13,8 +13,8 @@ pub same-below : (w x y : ℕ) → x < 2 ^ w → y < 2 ^ w → ((k : ℕ) → k 
 same-below zero x y hx hy same = lt-one hx ∙ sym (lt-one hy)
 same-below (suc w) x y hx hy same =
     let halves : x / 2 ≡ y / 2 =
-          same-below w (x / 2) (y / 2) (omega arith) (omega arith)
-          (λ k l. sym (member-next k x) ∙ same (suc k) (omega arith) ∙ member-next k y) in
+    same-below w (x / 2) (y / 2) (omega arith) (omega arith)
+    (λ k l. sym (member-next k x) ∙ same (suc k) (omega arith) ∙ member-next k y) in
     let lowest : x % 2 ≡ y % 2 = member-lowest x ∙ ap digit (same 0 (omega arith)) ∙ sym (member-lowest y) in
     omega arith
 

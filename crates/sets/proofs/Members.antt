@@ -46,7 +46,6 @@ pub member-next : (k x : ℕ) → member (suc k) x ≡ member k (x / 2)
 unfolding member
 member-next k x = rw (← (one-add k), ← (shr-shr x 1 k))
 
-
 -- an operation on numbers that goes digit by digit, as f on each pair of digits, goes member by member, as g on the two Bools
 module _ (op f : ℕ → ℕ → ℕ) (g : Bool → Bool → Bool)
     (shift : (x y k : ℕ) → op x y / 2 ^ k ≡ op (x / 2 ^ k) (y / 2 ^ k))
@@ -125,6 +124,7 @@ member-cleared w k j x h l = rw member-and (go (decLt k w))
   where
     mask : ℕ
     mask = (2 ^ w - 1) - 2 ^ j
+
     go : Dec (k < w) → member k x && member k mask ≡ member k x && not (eqb k j)
     go (yes b) =
         rw (member-complement w k (2 ^ j) mask (omega (arith, pow-lt l)) b, member-power)

@@ -35,7 +35,7 @@ fits-members w k x h m = go (decLt k w)
 pub members-fit : (w x : ℕ) → ((k : ℕ) → member k x ≡ true → k < w) → x < 2 ^ w
 members-fit zero x below =
     let empty : x ≡ 0 =
-          same-members x 0 (λ k. lacks (member k x) (λ m. not-suc-le-zero (below k m)) ∙ sym (member-none k)) in
+    same-members x 0 (λ k. lacks (member k x) (λ m. not-suc-le-zero (below k m)) ∙ sym (member-none k)) in
     omega arith
   where
     lacks : (b : Bool) → (b ≡ true → ⊥) → b ≡ false
@@ -43,7 +43,7 @@ members-fit zero x below =
     lacks false n = refl
 members-fit (suc w) x below =
     let half : x / 2 < 2 ^ w =
-          members-fit w (x / 2) (λ k m. le-of-suc-le-suc (below (suc k) (member-next k x ∙ m))) in
+    members-fit w (x / 2) (λ k m. le-of-suc-le-suc (below (suc k) (member-next k x ∙ m))) in
     omega arith
 
 pub only-fits : (w k : ℕ) → k < w → only k < 2 ^ w

@@ -36,8 +36,8 @@ pub record Join (x y r : Set) : Type 0 where
   pub members : (k : ℕ)
       → member k (number r)
       ≡ cond (member emptyString (number x))
-        ((member k (number x) && not (eqb k emptyString)) || member k (number y))
-        (member k (number x))
+      ((member k (number x) && not (eqb k emptyString)) || member k (number y))
+      (member k (number x))
 
 -- the answer r says whether A holds
 abbrev pub Decides : Bool → Type 0 → Type 0

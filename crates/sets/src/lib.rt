@@ -1,4 +1,4 @@
-// Sets as numbers: bit k of a set's word says whether k is a member. A set goes by value; families of sets are kept flat.
+// Sets as numbers: bit k of a set's word says whether k is a member. A set goes by value, a family of sets is kept flat.
 ghost use mathlib.Core.Path.{_≡_};
 ghost use Rattle.sets.specs.Sets.{member, columnPlace};
 ghost use Rattle.sets.specs.Calls.{number, None, With, Without, Union, Join, Within, Same, Load, stored};
@@ -7,10 +7,14 @@ pub struct Set {
     pub word: u64,
 }
 
+// How many bits a set has; those below the end mark's are the tokens.
 pub const WIDTH: u8 = 64;
+
 pub const END_MARK: u8 = 62;
+
 pub const EMPTY_STRING: u8 = 63;
 
+// The set with no member.
 pub fn none() -> Set
     ensures { λ r. ⌜ None r ⌝ }
 {
@@ -27,7 +31,7 @@ pub fn has(s: Set, bit: u8) -> bool
     }
 }
 
-// A bit that is not below the width changes nothing.
+// A bit that is not below the width adds nothing.
 pub fn with(s: Set, bit: u8) -> Set
     ensures { λ r. ⌜ With s bit r ⌝ }
 {
@@ -84,26 +88,21 @@ pub fn same(x: Set, y: Set) -> bool
     x.word == y.word
 }
 
-// The bit of a column of a table with `tokens` tokens: the column after the tokens is the end mark's, whatever their number.
+// The bit of a column of a table: after the tokens comes the end mark's column, and its bit is the same for every number of tokens.
 pub fn column_bit(column: u8, tokens: u8) -> u8
     ensures { λ r. ⌜ r ≡ columnPlace column tokens ⌝ }
 {
-    if column < tokens {
-        column
-    } else {
-        END_MARK
-    }
+    if column < tokens { column } else { END_MARK }
 }
 
 // Set number n of a family; past its end there is no member.
 pub fn load(sets: &[u64], n: usize) -> Set
     ensures { λ r. ⌜ Load (now (sets .entry)) n r ⌝ }
 {
-    if n < sets.len() {
-        Set { word: sets[n] }
-    } else {
-        none()
+    if sets.len() <= n {
+        return none();
     }
+    Set { word: sets[n] }
 }
 
 // Set number n of a family is replaced; past its end nothing changes.

@@ -1,0 +1,10 @@
+pub mod Turns
+pub mod Judged
+pub mod Joined
+pub mod Bytes
+pub mod Written
+pub mod Positions
+pub mod Order
+pub mod Place
+pub mod Longest
+pub mod Cells

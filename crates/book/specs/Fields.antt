@@ -1,0 +1,36 @@
+-- What the bytes of a record say, read by place: the left side, the length, the symbols, and where each record starts.
+-- Document 01, "The book": `PR`, then left side, length L, L symbols. Past the book's end every byte counts as 0.
+use mathlib.Core.Bool.{Bool, true, false}
+use mathlib.Core.List.{List, [], _∷_}
+use Prim.Native.Nat.{ℕ, zero, suc, _+_, _-_, min}
+use lib.Dec.{ltb}
+use lib.ListN.{getD, replicate}
+use lib.Seq.{sets}
+use Rattle.grammar.specs.declared.Symbol.{Symbol}
+use Rattle.grammar.specs.declared.Symbol.the-variants.{Token, Nonterminal}
+
+-- a token below 128, else the nonterminal 128 less
+unfoldable pub symbolOfByte : ℕ → Symbol
+symbolOfByte b = elim (ltb b 128) [ true ↦ Token b | false ↦ Nonterminal (b - 128) ]
+
+-- symbol i of the record at a place
+unfoldable pub symbolAt : List ℕ → ℕ → ℕ → Symbol
+symbolAt b at i = symbolOfByte (getD b (at + 4 + i) 0)
+
+-- the place after the record at a place
+unfoldable pub placeAfter : List ℕ → ℕ → ℕ
+placeAfter b at = at + 4 + getD b (at + 3) 0
+
+-- the place of record p
+unfoldable pub placeOfRecord : List ℕ → ℕ → ℕ
+placeOfRecord b zero = 6
+placeOfRecord b (suc p) = placeAfter b (placeOfRecord b p)
+
+-- the places of so many records, from record p on
+unfoldable pub placesFrom : List ℕ → ℕ → ℕ → List ℕ
+placesFrom b zero p = []
+placesFrom b (suc count) p = placeOfRecord b p ∷ placesFrom b count (suc p)
+
+-- the places of the first records, at most 128, and 0 in each cell beyond them
+unfoldable pub placesOf : List ℕ → ℕ → List ℕ
+placesOf b count = sets (replicate 128 0) 0 (placesFrom b (min count 128) 0)

@@ -1,0 +1,49 @@
+-- What judging a book answers: the refusal 1 to 5 that its bytes spell, refusal 6, or the index of its grammar.
+-- Document 01, "The book" and "Refusals and their numbers".
+use mathlib.Core.Path.{_≡_}
+use mathlib.Core.List.{List, [], _∷_, _++_}
+use Prim.Native.Nat.{ℕ, _+_, _-_, _<_}
+use lib.ListN.{length, replicate}
+use Rattle.grammar.specs.Grammar.{Production, Grammar, Useful}
+use Rattle.book.specs.declared.Reading.{Reading}
+use Rattle.book.specs.Answers.{done, refusal}
+use Rattle.book.specs.Book.{refused, reads, spells}
+use Rattle.book.specs.Refusals.{useless}
+
+pub record AllUseful (g : Grammar) : Type 0 where
+  pub useful : (A : ℕ) → A < g .nonterminals → Useful g A
+
+-- A is the lowest nonterminal that occurs in no derivation of a token string from the start symbol
+pub record LowestUseless (g : Grammar) (A : ℕ) : Type 0 where
+  pub inside : A < g .nonterminals
+  pub useless : ¬ Useful g A
+  pub lowest : (B : ℕ) → B < A → Useful g B
+
+-- the place of each record, the first of them at a place
+unfoldable pub recordPlaces : ℕ → List Production → List ℕ
+recordPlaces at [] = []
+recordPlaces at (r ∷ rest) = at ∷ recordPlaces (at + 4 + length (r .right)) rest
+
+-- the places of a grammar's records, and 0 in each of the 128 cells beyond them
+unfoldable pub placesIn : List Production → List ℕ
+placesIn ps = recordPlaces 6 ps ++ replicate (128 - length ps) 0
+
+-- on a refusal every other field is 0
+unfoldable pub refusing : (number place : ℕ) → Reading
+refusing number place = record { answer = refusal number place 0; tokens = 0; nonterminals = 0; start = 0; productions = 0; places = replicate 128 0 }
+
+unfoldable pub indexOf : Grammar → Reading
+indexOf g =
+    record {
+      answer = done 0;
+      tokens = g .tokens;
+      nonterminals = g .nonterminals;
+      start = g .start;
+      productions = length (g .productions);
+      places = placesIn (g .productions);
+    }
+
+pub data Judged (book : List ℕ) : Reading → Type 0 where
+  misread : {number place : ℕ} → spells book ≡ refused number place → Judged book (refusing number place)
+  unused : {g : Grammar} {A : ℕ} → spells book ≡ reads g → LowestUseless g A → Judged book (refusing useless A)
+  served : {g : Grammar} → spells book ≡ reads g → AllUseful g → Judged book (indexOf g)

@@ -1,0 +1,89 @@
+ghost use mathlib.Core.Path.{_≡_};
+ghost use Prim.Native.Nat.{_+_, _≤_, _<_, min};
+ghost use lib.ListN.{getD};
+ghost use Rattle.book.specs.Fields.{symbolAt, symbolOfByte, placeAfter, placesOf};
+use grammar::Symbol;
+
+// The byte at place `at + more`, 0 past the end; the sum is never formed where it could wrap.
+pub fn byte_at(book: &[u8], at: usize, more: usize) -> u8
+    ensures { λ r. ⌜ r ≡ getD (now (book .entry)) (at + more) 0 ⌝ }
+{
+    if at < book.len() {
+        if more < book.len() - at {
+            let place = at + more;
+            book[place]
+        } else {
+            0
+        }
+    } else {
+        0
+    }
+}
+
+// The left side of the record at `at`.
+pub fn left_at(book: &[u8], at: usize) -> u8
+    ensures { λ r. ⌜ r ≡ getD (now (book .entry)) (at + 2) 0 ⌝ }
+{
+    byte_at(book, at, 2)
+}
+
+// The length of the right side of the record at `at`.
+pub fn length_at(book: &[u8], at: usize) -> u8
+    ensures { λ r. ⌜ r ≡ getD (now (book .entry)) (at + 3) 0 ⌝ }
+{
+    byte_at(book, at, 3)
+}
+
+// The symbol that a byte of a right side stands for.
+fn symbol_of(byte: u8) -> Symbol
+    ensures { λ r. ⌜ r ≡ symbolOfByte byte ⌝ }
+{
+    if byte < 128 {
+        Symbol::Token(byte)
+    } else {
+        Symbol::Nonterminal(byte - 128)
+    }
+}
+
+// Symbol `i` of the right side of the record at `at`.
+pub fn symbol_at(book: &[u8], at: usize, i: usize) -> Symbol
+    ensures { λ r. ⌜ r ≡ symbolAt (now (book .entry)) at i ⌝ }
+{
+    if i < book.len() {
+        symbol_of(byte_at(book, at, 4 + i))
+    } else {
+        Symbol::Token(0)
+    }
+}
+
+// At most as many records as there are cells.
+fn cells_for(count: u8) -> usize
+    ensures { λ r. ⌜ r ≡ min count 128 ⌝ }
+{
+    if count < 128 { count as usize } else { 128 }
+}
+
+// The place after the record at `place`.
+fn place_after(book: &[u8], place: u16) -> u16
+    requires { ⌜ place < 65000 ⌝ }
+    ensures { λ r. ⌜ (r ≡ placeAfter (now (book .entry)) place) × (r ≤ place + 259) ⌝ }
+{
+    let length = length_at(book, place as usize);
+    place + 4 + length as u16
+}
+
+// The place of each record, and 0 in the cells from `count` on; a place rises by at most 259, so 128 of them cannot wrap.
+pub fn places(book: &[u8], count: u8) -> [u16; 128]
+    ensures { λ r. ⌜ r ≡ placesOf (now (book .entry)) count ⌝ }
+{
+    let last = cells_for(count);
+    let mut places = [0u16; 128];
+    let mut place: u16 = 6;
+    let mut p: usize = 0;
+    while p < last {
+        places[p] = place;
+        place = place_after(book, place);
+        p += 1;
+    }
+    places
+}

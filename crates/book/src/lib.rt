@@ -1,0 +1,29 @@
+use sets::Set;
+
+pub mod fields;
+pub mod spelling;
+
+// Number, place, detail, steps and expected set, as the paper's table of refusals has them.
+pub struct Answer {
+    pub number: u32,
+    pub place: u64,
+    pub detail: u64,
+    pub steps: u64,
+    pub expected: Set,
+}
+
+// The answer to judging a book and, where that is done, T, N, start, P and the place of each record.
+pub struct Reading {
+    pub answer: Answer,
+    pub tokens: u8,
+    pub nonterminals: u8,
+    pub start: u8,
+    pub productions: u8,
+    pub places: [u16; 128],
+}
+
+// What reading has come to: the next place, or a refusal with its number and place.
+pub enum Verdict {
+    Next(usize),
+    Bad(u32, usize),
+}

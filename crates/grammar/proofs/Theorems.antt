@@ -1,0 +1,57 @@
+-- What LL(1) promises, one page: each theorem under the sentence that it proves.
+use mathlib.Core.Path.{_≡_, refl}
+use mathlib.Core.Logic.{_↔_}
+use mathlib.Core.List.{List, [], _∷_, _++_}
+use mathlib.Core.Option.{Option}
+use Prim.Native.Nat.{ℕ, _<_}
+use lib.ListN.{length}
+use Rattle.grammar.specs.declared.Symbol.the-variants.{Nonterminal}
+use Rattle.grammar.specs.Grammar.{Form, spelled, Grammar, Column, Derives, itself, Derivable, LeftmostSteps, Leftmost, Complete, Conflict, WellFormed, Useful}
+use Rattle.grammar.specs.Machine.{Exact, Run, Accepts, Stopped, Halted, Longest}
+use Rattle.grammar.proofs.Leftmost.{leftmost-steps, steps-leftmost, derives-leftmost, leftmost-derives}
+use Rattle.grammar.proofs.Unique.{unique-from}
+use Rattle.grammar.proofs.Useful.{useful-all}
+use Rattle.grammar.proofs.Machine.{run-from, run-leftmost, blocked}
+use Rattle.grammar.proofs.Place.{longest-read}
+use Rattle.grammar.proofs.Halting.{halts-from}
+-- a list derives one string only
+pub use Rattle.grammar.proofs.Leftmost.{list-string}
+-- FIRST, FOLLOW and lookahead: what is sound and closed is exact, and each single addition is sound
+pub use Rattle.grammar.proofs.Sets.{first-exact, follow-exact, lookahead-exact, first-addition, follow-addition}
+-- productive, reachable, useful: the same; and a start that derives nothing makes every nonterminal useless
+pub use Rattle.grammar.proofs.Useful.{productive-addition, productive-complete, useful-addition, useful-complete, useful-start, useful-productive, useful-reachable}
+-- exact cells leave no conflict
+pub use Rattle.grammar.proofs.Machine.{exact-no-conflict}
+-- the place of a syntax stop is determined
+pub use Rattle.grammar.proofs.Place.{place-determined}
+
+module _ {g : Grammar} where
+  -- a leftmost derivation with its list is the textbook's chain of leftmost steps
+  pub leftmost-chain : {α : Form} {ps : List ℕ} (w : List ℕ) → Leftmost g α ps w ↔ LeftmostSteps g α ps (spelled w)
+  leftmost-chain w = (λ d. leftmost-steps d, λ s. steps-leftmost w s)
+
+  -- what derives a token string has a leftmost derivation of it, and conversely
+  pub derives-complete : {α : Form} (w : List ℕ) → Derives g α (spelled w) ↔ ((ps : List ℕ) × Leftmost g α ps w)
+  derives-complete w = (λ d. derives-leftmost w d, λ l. leftmost-derives (l .1))
+
+  -- no conflict: one string, one list
+  pub leftmost-unique : ¬ Conflict g → {ps qs w : List ℕ} → Complete g ps w → Complete g qs w → ps ≡ qs
+  leftmost-unique n d e = unique-from n [] itself d e
+
+  module _ {cell : ℕ → Column → Option ℕ} (exact : Exact g cell) where
+    -- the machine accepts w with the list ps exactly if ps is the leftmost derivation of w
+    pub accepts-exactly : {w ps : List ℕ} → Accepts g cell w ps ↔ Complete g ps w
+    accepts-exactly = (λ r. run-leftmost r, λ d. run-from exact [] itself d)
+
+    -- it accepts or stops on every string
+    pub halts : (w : List ℕ) → Halted g cell (Nonterminal (g .start) ∷ []) w
+    halts w = halts-from exact w [] (Nonterminal (g .start) ∷ []) itself
+
+    module _ {z : List ℕ} {β : Form} {u ps : List ℕ} (run : Run g cell z (Nonterminal (g .start) ∷ []) u ps β) (stop : Stopped g cell β z) where
+      -- a string on which it stops is not derivable
+      pub stopped-not-derivable : ¬ Derivable g (u ++ z)
+      stopped-not-derivable d = blocked exact run stop z refl d
+
+      -- where it stops, what it has read is the longest beginning that some derivable string shares
+      pub viable-prefix : WellFormed g → ((A : ℕ) → A < g .nonterminals → Useful g A) → Longest g (u ++ z) (length u)
+      viable-prefix well useful = longest-read (useful-all well useful) exact run stop
