@@ -5,6 +5,7 @@ use mathlib.Core.List.{List, [], _∷_, _++_}
 use Prim.Native.Nat.{ℕ, _+_, _-_, _<_}
 use lib.ListN.{length, replicate}
 use Rattle.grammar.specs.Grammar.{Production, Grammar, Useful}
+use Rattle.book.specs.declared.Answer.{Answer}
 use Rattle.book.specs.declared.Reading.{Reading}
 use Rattle.book.specs.Answers.{done, refusal}
 use Rattle.book.specs.Book.{refused, reads, spells}
@@ -29,8 +30,8 @@ unfoldable pub placesIn : List Production → List ℕ
 placesIn ps = recordPlaces 6 ps ++ replicate (128 - length ps) 0
 
 -- on a refusal every other field is 0
-unfoldable pub refusing : (number place : ℕ) → Reading
-refusing number place = record { answer = refusal number place 0; tokens = 0; nonterminals = 0; start = 0; productions = 0; places = replicate 128 0 }
+unfoldable pub refusing : Answer → Reading
+refusing answer = record { answer = answer; tokens = 0; nonterminals = 0; start = 0; productions = 0; places = replicate 128 0 }
 
 unfoldable pub indexOf : Grammar → Reading
 indexOf g =
@@ -43,7 +44,16 @@ indexOf g =
       places = placesIn (g .productions);
     }
 
+-- the book is refused with this answer, 1 to 5 or 6
+pub data Refuses (book : List ℕ) : Answer → Type 0 where
+  misread : {number place : ℕ} → spells book ≡ refused number place → Refuses book (refusal number place 0)
+  unused : {g : Grammar} {A : ℕ} → spells book ≡ reads g → LowestUseless g A → Refuses book (refusal useless A 0)
+
+-- the book spells this grammar and is not refused
+pub record Serves (book : List ℕ) (g : Grammar) : Type 0 where
+  pub read : spells book ≡ reads g
+  pub useful : AllUseful g
+
 pub data Judged (book : List ℕ) : Reading → Type 0 where
-  misread : {number place : ℕ} → spells book ≡ refused number place → Judged book (refusing number place)
-  unused : {g : Grammar} {A : ℕ} → spells book ≡ reads g → LowestUseless g A → Judged book (refusing useless A)
-  served : {g : Grammar} → spells book ≡ reads g → AllUseful g → Judged book (indexOf g)
+  refuses : {answer : Answer} → Refuses book answer → Judged book (refusing answer)
+  serves : {g : Grammar} → Serves book g → Judged book (indexOf g)

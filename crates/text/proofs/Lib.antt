@@ -1,0 +1,6 @@
+pub mod Writing
+pub mod Value
+pub mod DecimalDigits
+pub mod HexadecimalDigits
+pub mod Examples
+pub mod Promise
