@@ -8,12 +8,12 @@ use lib.ListN.{length, getD, drop, replicate, length-replicate, List·getD-eq-de
 use lib.Seq.{sets, sets-eq, length-sets, getD-drop}
 use Rattle.book.specs.Fields.{placeOfRecord, placesFrom, placesOf}
 
-zero-cell : (size i : ℕ) → _≡_ {A = ℕ} (getD (replicate size 0) i 0) 0
+pub zero-cell : (size i : ℕ) → _≡_ {A = ℕ} (getD (replicate size 0) i 0) 0
 zero-cell zero i = refl
 zero-cell (suc size) zero = refl
 zero-cell (suc size) (suc i) = zero-cell size i
 
-zeros-behind : (cells behind : List ℕ) (i : ℕ) → ((j : ℕ) → getD behind j 0 ≡ 0) → getD (cells ++ behind) i 0 ≡ getD cells i 0
+pub zeros-behind : (cells behind : List ℕ) (i : ℕ) → ((j : ℕ) → getD behind j 0 ≡ 0) → getD (cells ++ behind) i 0 ≡ getD cells i 0
 zeros-behind [] behind i zeros = zeros i
 zeros-behind (cell ∷ cells) behind zero zeros = refl
 zeros-behind (cell ∷ cells) behind (suc i) zeros = zeros-behind cells behind i zeros

@@ -8,3 +8,13 @@ pub mod Order
 pub mod Place
 pub mod Longest
 pub mod Cells
+pub mod Passes
+pub mod Filling
+pub mod Rules
+pub mod Usefulness
+pub mod Index
+pub mod Sides
+pub mod Outcome
+pub mod Unique
+pub mod Promise
+pub mod Tools

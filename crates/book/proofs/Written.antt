@@ -1,28 +1,14 @@
 -- The bytes of a grammar within the limits read back to it, and a book that reads is the bytes of what it reads to.
 use mathlib.Core.Path.{_≡_, refl, sym, _∙_, ap, subst}
 use mathlib.Core.List.{List, [], _∷_, _++_, map, append-assoc, append-nil}
-use mathlib.Core.Option.{some, Option·none-ne-some}
 use Prim.Native.Nat.{ℕ, zero, suc, _≤_, _<_}
 use native.Mathlib.Omega.{arith}
-use lib.ListN.{length, getElem?}
+use lib.ListN.{length}
 use Rattle.grammar.specs.Grammar.{Form, Production, Grammar, Rule, Every, nothing, each}
+use Rattle.grammar.proofs.Every.{at-every, every-at, every-map}
 use Rattle.book.specs.Refusals.{mark, limit, symbol}
 use Rattle.book.specs.Book.{Spelling, reads, Rest, marked, symbols, records, ending, spells, byteOf, recordBytes, recordsBytes, bytesOf, Limits}
 use Rattle.book.proofs.Bytes.{refused-not-reads, Spelled, Look, taken, turned, Takes, wanted-takes, symbols-takes, wanted-taken, marked-taken, symbolOf-byteOf, symbolOf-known}
-
-module _ {A : Type 0} {P : A → Type 0} where
-  every-of : (xs : List A) → ((i : ℕ) (x : A) → getElem? xs i ≡ some x → P x) → Every P xs
-  every-of [] h = nothing
-  every-of (x ∷ xs) h = each (h zero x refl) (every-of xs (λ i. h (suc i)))
-
-  every-at : {xs : List A} {x : A} → Every P xs → (i : ℕ) → getElem? xs i ≡ some x → P x
-  every-at {x = x} nothing i e = absurd (Option·none-ne-some x e)
-  every-at {x = x} (each {x = y} p ps) zero e = let same : y ≡ x = cc in rw same at p
-  every-at (each p ps) (suc i) e = every-at ps i e
-
-  every-map : {Q : A → Type 0} {xs : List A} → ((x : A) → P x → Q x) → Every P xs → Every Q xs
-  every-map f nothing = nothing
-  every-map f (each {x = x} p ps) = each (f x p) (every-map f ps)
 
 -- a production that a record can hold
 record Held (T N : ℕ) (r : Production) : Type 0 where
@@ -52,7 +38,7 @@ module _ (T N : ℕ) where
 -- each production of a grammar within the limits can be held by a record
 every-held : {g : Grammar} → Limits g → Every (Held (g .tokens) (g .nonterminals)) (g .productions)
 every-held {g} limits =
-    every-of
+    at-every
     (g .productions)
     (λ p r at.
     let rule : Rule g p (r .left) (r .right) = record { at = at } in
@@ -137,11 +123,11 @@ held-limits g tokens nonterminals start count held =
       nonterminals-fit = omega arith;
       some-production = count .0;
       productions-fit = omega arith;
-      lengths-fit = λ {p} {A} {β} rule. every-at held p (rule .at) .length-fits;
+      lengths-fit = λ {p} {A} {β} rule. every-at held p _ (rule .at) .length-fits;
       well-formed = record {
         start-known = start;
-        left-known = λ {p} {A} {β} rule. every-at held p (rule .at) .left-known;
-        right-known = λ {p} {A} {β} rule. every-map (λ s spelled. symbolOf-known (byteOf s) spelled .1) (every-at held p (rule .at) .right-spelled);
+        left-known = λ {p} {A} {β} rule. every-at held p _ (rule .at) .left-known;
+        right-known = λ {p} {A} {β} rule. every-map (λ s spelled. symbolOf-known (byteOf s) spelled .1) (every-at held p _ (rule .at) .right-spelled);
       };
     }
 

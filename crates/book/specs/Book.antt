@@ -1,10 +1,10 @@
 -- What the bytes of a book spell: a refusal 1 to 5 with its place, or the grammar; and the bytes that spell a grammar.
 -- Document 01, "The book" and "Refusals". The bytes are judged from the front; the first bad or missing byte decides.
 use mathlib.Core.Path.{_≡_}
-use mathlib.Core.Bool.{Bool, true, false, _&&_}
+use mathlib.Core.Bool.{true, false, _&&_}
 use mathlib.Core.List.{List, [], _∷_, _++_, map}
 use mathlib.Core.Option.{Option, some, none}
-use Prim.Native.Nat.{ℕ, zero, suc, _+_, _-_, _≤_, _<_}
+use Prim.Native.Nat.{ℕ, zero, suc, _+_, _-_, _≤_}
 use lib.Dec.{leb, ltb}
 use lib.ListN.{length}
 use Rattle.grammar.specs.declared.Symbol.{Symbol}

@@ -1,6 +1,6 @@
 -- What the bytes of a record say, read by place: the left side, the length, the symbols, and where each record starts.
 -- Document 01, "The book": `PR`, then left side, length L, L symbols. Past the book's end every byte counts as 0.
-use mathlib.Core.Bool.{Bool, true, false}
+use mathlib.Core.Bool.{true, false}
 use mathlib.Core.List.{List, [], _∷_}
 use Prim.Native.Nat.{ℕ, zero, suc, _+_, _-_, min}
 use lib.Dec.{ltb}

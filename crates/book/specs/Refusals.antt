@@ -18,3 +18,39 @@ symbol = 5
 
 abbrev pub useless : ℕ
 useless = 6
+
+abbrev pub room : ℕ
+room = 7
+
+abbrev pub conflict : ℕ
+conflict = 8
+
+abbrev pub table : ℕ
+table = 9
+
+abbrev pub token : ℕ
+token = 10
+
+abbrev pub syntax : ℕ
+syntax = 11
+
+abbrev pub production : ℕ
+production = 12
+
+abbrev pub stackRoom : ℕ
+stackRoom = 1
+
+abbrev pub listRoom : ℕ
+listRoom = 2
+
+abbrev pub outputRoom : ℕ
+outputRoom = 3
+
+abbrev pub firstRoom : ℕ
+firstRoom = 4
+
+abbrev pub followRoom : ℕ
+followRoom = 5
+
+abbrev pub tableRoom : ℕ
+tableRoom = 6

@@ -5,7 +5,7 @@ ghost use Rattle.book.specs.Fields.{symbolAt, symbolOfByte, placeAfter, 
 use grammar::Symbol;
 
 // The byte at place `at + more`, 0 past the end; the sum is never formed where it could wrap.
-pub fn byte_at(book: &[u8], at: usize, more: usize) -> u8
+pub(crate) fn byte_at(book: &[u8], at: usize, more: usize) -> u8
     ensures { λ r. ⌜ r ≡ getD (now (book .entry)) (at + more) 0 ⌝ }
 {
     if at < book.len() {
@@ -73,7 +73,7 @@ fn place_after(book: &[u8], place: u16) -> u16
 }
 
 // The place of each record, and 0 in the cells from `count` on; a place rises by at most 259, so 128 of them cannot wrap.
-pub fn places(book: &[u8], count: u8) -> [u16; 128]
+pub(crate) fn places(book: &[u8], count: u8) -> [u16; 128]
     ensures { λ r. ⌜ r ≡ placesOf (now (book .entry)) count ⌝ }
 {
     let last = cells_for(count);

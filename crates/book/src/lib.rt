@@ -1,7 +1,13 @@
 use sets::Set;
 
+pub mod answers;
+mod closure;
 pub mod fields;
+pub mod judging;
+pub mod refusals;
 pub mod spelling;
+mod useful;
+pub mod walk;
 
 // Number, place, detail, steps and expected set, as the paper's table of refusals has them.
 pub struct Answer {
@@ -26,4 +32,10 @@ pub struct Reading {
 pub enum Verdict {
     Next(usize),
     Bad(u32, usize),
+}
+
+// A reader carries the caller's book and its own place.
+pub struct Reader<'a> {
+    pub book: &'a [u8],
+    pub at: usize,
 }

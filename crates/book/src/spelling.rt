@@ -5,19 +5,14 @@ ghost use Rattle.book.specs.Positional.{within, isSymbol, nextByte, judg
 ghost use Rattle.book.specs.Positional.{markedFrom, rightFrom, recordFrom, eachRecordFrom, resumedAt, headerFrom, recordsFrom, endFrom};
 use crate::Verdict;
 use crate::fields::byte_at;
-
-const SHORT: u32 = 1;
-
-const MARK: u32 = 2;
-
-const EXTRA: u32 = 3;
-
-const LIMIT: u32 = 4;
-
-const SYMBOL: u32 = 5;
+use crate::refusals::EXTRA;
+use crate::refusals::LIMIT;
+use crate::refusals::MARK;
+use crate::refusals::SHORT;
+use crate::refusals::SYMBOL;
 
 // The place that a verdict names.
-pub fn place_of(v: Verdict) -> usize
+pub(crate) fn place_of(v: Verdict) -> usize
     ensures { λ r. ⌜ r ≡ placeOf v ⌝ }
 {
     match v {
@@ -193,13 +188,4 @@ pub(crate) fn end(book: &[u8], at: usize, v: Verdict) -> Verdict
         }
         Verdict::Bad(number, place) => Verdict::Bad(number, place),
     }
-}
-
-// The refusal 1 to 5 of a book, or its length as the next place.
-pub fn read(book: &[u8]) -> Verdict
-    ensures { λ r. ⌜ r ≡ verdictOf (now (book .entry)) ⌝ }
-{
-    let headed = header(book, 0);
-    let listed = records(book, place_of(headed), headed);
-    end(book, place_of(listed), listed)
 }

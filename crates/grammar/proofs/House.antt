@@ -10,7 +10,7 @@ use Rattle.grammar.specs.Grammar as textbook
 use Rattle.grammar.specs.House.{house}
 use Rattle.grammar.specs.Machine.{Exact, Accepts, Run, here, match, expand, Stopped, vacant, Longest}
 use Rattle.grammar.proofs.Sets.{FirstOf, FollowOf}
-use Rattle.grammar.proofs.Useful.{every-map}
+use Rattle.grammar.proofs.Every.{every-map}
 use Rattle.grammar.proofs.Theorems.{first-exact, follow-exact, useful-reachable, accepts-exactly, exact-no-conflict, viable-prefix, stopped-not-derivable}
 use Rattle.grammar.proofs.Tests.{below, below-each}
 use Rattle.grammar.proofs.Worked.{Entry, In, firstSets, firstTest, followSets, followTest, first-sets-sound, first-test-closed, follow-sets-sound, follow-test-closed, in-every, ruled}

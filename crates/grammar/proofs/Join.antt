@@ -6,6 +6,7 @@ use Prim.Native.Nat.{ℕ}
 use Rattle.grammar.specs.declared.Symbol.{Symbol}
 use Rattle.grammar.specs.declared.Symbol.the-variants.{Token, Nonterminal}
 use Rattle.grammar.specs.Grammar.{Form, Column, token, endmark}
+pub use Rattle.grammar.specs.Occurrence.{Behind, first, later}
 
 abbrev pub Family : Type 1
 Family = ℕ → Column → Type 0
@@ -18,11 +19,6 @@ pub data Join (F : Family) (K : Column → Type 0) : Form → Column → Type 0 
   here : {t : ℕ} {α : Form} → Join F K (Token t ∷ α) (token t)
   begins : {A t : ℕ} {α : Form} → F A (token t) → Join F K (Nonterminal A ∷ α) (token t)
   past : {A : ℕ} {α : Form} {c : Column} → F A endmark → Join F K α c → Join F K (Nonterminal A ∷ α) c
-
--- an occurrence of A in a form, with v after it
-pub data Behind (A : ℕ) (v : Form) : Form → Type 0 where
-  first : Behind A v (Nonterminal A ∷ v)
-  later : {s : Symbol} {α : Form} → Behind A v α → Behind A v (s ∷ α)
 
 -- a token of α itself, or α vanishes and K has it
 pub data Cases (F : Family) (K : Column → Type 0) (α : Form) : Column → Type 0 where
@@ -66,10 +62,6 @@ module _ {F : Family} where
   pub join-beyond : {K : Column → Type 0} {α : Form} {c : Column} → Join F End α endmark → K c → Join F K α c
   join-beyond (over e) k = over k
   join-beyond (past h j) k = past h (join-beyond j k)
-
-  pub cases-join : {K : Column → Type 0} {α : Form} {c : Column} → Cases F K α c → Join F K α c
-  cases-join (own j) = join-own j
-  cases-join (beyond j k) = join-beyond j k
 
 pub behind-split : {A : ℕ} {v α : Form} → Behind A v α → (u : Form) × (α ≡ u ++ (Nonterminal A ∷ v))
 behind-split first = ([], refl)

@@ -1,3 +1,4 @@
+pub mod Every
 pub mod Derivation
 pub mod Leftmost
 pub mod Join

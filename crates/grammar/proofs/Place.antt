@@ -21,7 +21,7 @@ pub place-determined : {g : Grammar} {w : List ℕ} {j k : ℕ} → Longest g w 
 place-determined {j = j} {k = k} a b = omega (arith, a .longest k (b .inside) (b .begun), b .longest j (a .inside) (a .begun))
 
 module _ {g : Grammar} where
-  behind-reachable : (x : Form) {A : ℕ} {v β : Form} → Sentential g (x ++ β) → Behind A v β → Reachable g A
+  pub behind-reachable : (x : Form) {A : ℕ} {v β : Form} → Sentential g (x ++ β) → Behind A v β → Reachable g A
   behind-reachable x {v = v} s b =
       let (u, e) = behind-split b in
       record { left = x ++ u; right = v; occurs = rw append-assoc (rw e at s) }

@@ -47,11 +47,6 @@ unfolding all
 all-every f [] t = nothing
 all-every f (x ∷ xs) t = each (and-left (f x) (all f xs) t) (all-every f xs (and-right (f x) (all f xs) t))
 
-pub every-all : {A : Type 0} (f : A → Bool) (xs : List A) → Every (λ x. T (f x)) xs → T (all f xs)
-unfolding all
-every-all f [] h = tt
-every-all f (x ∷ xs) (each t h) = and-both (f x) (all f xs) t (every-all f xs h)
-
 pub any-append-left : {A : Type 0} (f : A → Bool) (xs ys : List A) → T (any f xs) → T (any f (xs ++ ys))
 unfolding any
 any-append-left f [] ys t = absurd t

@@ -7,6 +7,7 @@ use Rattle.grammar.specs.declared.Symbol.the-variants.{Token, Nontermina
 use Rattle.grammar.specs.Grammar.{Form, spelled, Grammar, Every, nothing, each, Rule, replace, Derives, itself, step, Sentential, Leftmost, done, shift, expand, Productive, Reachable, Useful, Known, known-nonterminal, WellFormed}
 use Rattle.grammar.proofs.Derivation.{derives-trans, derives-both, derives-rule}
 use Rattle.grammar.proofs.Leftmost.{Split, leftmost-split, leftmost-derives, derives-leftmost, spelled-append}
+use Rattle.grammar.proofs.Every.{every-append, every-left, every-right}
 use Rattle.grammar.proofs.Join.{Behind, first, later, behind-split}
 
 -- a symbol of which nothing is asked if it is a token, and M if it is a nonterminal
@@ -17,22 +18,6 @@ pub data Named (M : ℕ → Type 0) : Symbol → Type 0 where
 -- every nonterminal of the form is in M
 abbrev pub Names : (ℕ → Type 0) → Form → Type 0
 Names M α = Every (Named M) α
-
-pub every-append : {A : Type 0} {P : A → Type 0} (xs ys : List A) → Every P xs → Every P ys → Every P (xs ++ ys)
-every-append [] ys h k = k
-every-append (x ∷ xs) ys (each p h) k = each p (every-append xs ys h k)
-
-pub every-left : {A : Type 0} {P : A → Type 0} (xs ys : List A) → Every P (xs ++ ys) → Every P xs
-every-left [] ys h = nothing
-every-left (x ∷ xs) ys (each p h) = each p (every-left xs ys h)
-
-pub every-right : {A : Type 0} {P : A → Type 0} (xs ys : List A) → Every P (xs ++ ys) → Every P ys
-every-right [] ys h = h
-every-right (x ∷ xs) ys (each p h) = every-right xs ys h
-
-pub every-map : {A : Type 0} {P Q : A → Type 0} → ((x : A) → P x → Q x) → {xs : List A} → Every P xs → Every Q xs
-every-map f nothing = nothing
-every-map f (each {x = x} p h) = each (f x p) (every-map f h)
 
 pub behind-named : {M : ℕ → Type 0} {A : ℕ} {v α : Form} → Behind A v α → Names M α → M A
 behind-named first (each (named m) h) = m
@@ -159,7 +144,7 @@ module _ {g : Grammar} where
         behind-named first (every-right (u .left) (Nonterminal A ∷ u .right) (names-derived (u .occurs) (useful-ends u) (each (named (U-closed .at-start)) nothing)))
 
   module _ (well : WellFormed g) where
-    known-derived : {α γ : Form} → Derives g α γ → Every (Known g) α → Every (Known g) γ
+    pub known-derived : {α γ : Form} → Derives g α γ → Every (Known g) α → Every (Known g) γ
     known-derived itself h = h
     known-derived (step (replace u v {A = A} {β = β} r) d) h =
         known-derived d

@@ -3,16 +3,13 @@
 use mathlib.Core.Path.{_≡_, refl, ap, subst}
 use mathlib.Core.Bool.{Bool, true, false, _&&_, _||_}
 use mathlib.Core.List.{List, [], _∷_, _++_, map}
-use mathlib.Core.Option.{some}
-use Prim.Native.Nat.{ℕ, zero, suc}
-use native.Mathlib.Omega.{arith}
+use Prim.Native.Nat.{ℕ}
 use lib.Dec.{T, eqb, eqb→eq, eqb-refl}
-use lib.ListN.{getElem?}
 use Rattle.grammar.specs.declared.Symbol.the-variants.{Token, Nonterminal}
 use Rattle.grammar.specs.Grammar.{Form, Production, Grammar, Column, token, endmark, Every, nothing, each, Rule, itself, last, Reachable}
 use Rattle.grammar.proofs.Join.{Family, End, ended, Join, over, here, begins, past, Behind, first, later, join-map}
 use Rattle.grammar.proofs.Sets.{FirstOf, FollowOf, FirstClosed, FollowClosed, first-addition, follow-addition}
-use Rattle.grammar.proofs.Useful.{every-append, every-map}
+use Rattle.grammar.proofs.Every.{every-append, every-map, every-at, at-every, repeated, every-repeated}
 use Rattle.grammar.proofs.Tests.{and-left, and-right, and-both, or-left, or-right, or-elim, all, any, all-every, any-append-left, any-append-right, any-of}
 
 pub record Entry : Type 0 where
@@ -175,24 +172,6 @@ unfolding entries
 every-entries A nothing = nothing
 every-entries A (each p h) = each p (every-entries A h)
 
-unfoldable pub passes : ℕ → (List Entry → List Entry) → List Entry → List Entry
-passes zero f fam = fam
-passes (suc n) f fam = passes n f (f fam)
-
-every-passes : {P : Entry → Type 0} (f : List Entry → List Entry) → ((fam : List Entry) → Every P fam → Every P (f fam)) → (n : ℕ) (fam : List Entry) → Every P fam → Every P (passes n f fam)
-unfolding passes
-every-passes f k zero fam h = h
-every-passes f k (suc n) fam h = every-passes f k n (f fam) (k fam h)
-
-pub every-at : {A : Type 0} {P : A → Type 0} {xs : List A} → Every P xs → (i : ℕ) (x : A) → getElem? xs i ≡ some x → P x
-every-at nothing i x e = let bad : _≡_ {A = ℕ} 0 1 = cc in absurd (omega arith)
-every-at {P = P} (each p h) zero x e = subst P (cc) p
-every-at (each p h) (suc i) x e = every-at h i x e
-
-pub at-every : {A : Type 0} {P : A → Type 0} (xs : List A) → ((i : ℕ) (x : A) → getElem? xs i ≡ some x → P x) → Every P xs
-at-every [] f = nothing
-at-every (x ∷ xs) f = each (f zero x refl) (at-every xs (λ i y e. f (suc i) y e))
-
 -- a production with its number
 pub record Ruled (g : Grammar) (r : Production) : Type 0 where
   pub number : ℕ
@@ -235,8 +214,8 @@ end-among c ended = tt
 
 module _ (g : Grammar) where
   unfoldable pub firstSets : ℕ → List Entry
-  unfolding passes firstPass joins inserts insert entries entry rowOf tokensIn any is same
-  firstSets n = passes n (firstPass (g .productions)) []
+  unfolding repeated firstPass joins inserts insert entries entry rowOf tokensIn any is same
+  firstSets n = repeated n (firstPass (g .productions)) []
 
   -- no production adds anything
   unfoldable pub firstTest : List Entry → Bool
@@ -244,8 +223,8 @@ module _ (g : Grammar) where
   firstTest fam = all (λ r. all (λ c. any (is (r .left) c) fam) (joins fam (endmark ∷ []) (r .right))) (g .productions)
 
   unfoldable pub followSets : List Entry → ℕ → List Entry
-  unfolding passes followPass followAdds joins inserts insert entries entry rowOf tokensIn any is same
-  followSets fam n = passes n (followPass fam (g .productions)) (entry (g .start) endmark ∷ [])
+  unfolding repeated followPass followAdds joins inserts insert entries entry rowOf tokensIn any is same
+  followSets fam n = repeated n (followPass fam (g .productions)) (entry (g .start) endmark ∷ [])
 
   unfoldable pub followTest : List Entry → List Entry → Bool
   unfolding all any is same followAdds joins entries entry rowOf tokensIn
@@ -270,7 +249,7 @@ module _ (g : Grammar) where
 
   pub first-sets-sound : (n : ℕ) → SoundFirst (firstSets n)
   unfolding firstSets
-  first-sets-sound n = every-passes (firstPass (g .productions)) (first-pass-sound (g .productions) (ruled g)) n [] nothing
+  first-sets-sound n = every-repeated (firstPass (g .productions)) (first-pass-sound (g .productions) (ruled g)) n [] nothing
 
   pub first-test-closed : (fam : List Entry) → T (firstTest fam) → FirstClosed g (In fam)
   unfolding firstTest
@@ -305,7 +284,7 @@ module _ (g : Grammar) where
   pub follow-sets-sound : {fam : List Entry} → SoundFirst fam → Every (λ r. Reachable g (r .left)) (g .productions) → (n : ℕ) → SoundFollow (followSets fam n)
   unfolding followSets entry
   follow-sets-sound {fam} f b n =
-      every-passes (followPass fam (g .productions)) (follow-pass-sound f (g .productions) (ruled g) b) n _ (each (last [] itself) nothing)
+      every-repeated (followPass fam (g .productions)) (follow-pass-sound f (g .productions) (ruled g) b) n _ (each (last [] itself) nothing)
 
   pub follow-test-closed : (fam W : List Entry) → T (followTest fam W) → FollowClosed g (In fam) (In W)
   unfolding followTest

@@ -12,8 +12,9 @@ use Rattle.grammar.specs.Grammar.{Form, Production, Grammar, Column, Eve
 use Rattle.grammar.specs.Machine.{Exact}
 use Rattle.grammar.proofs.Join.{Join, join-map}
 use Rattle.grammar.proofs.Sets.{FirstOf, FollowOf, lookahead-exact}
+use Rattle.grammar.proofs.Every.{every-at}
 use Rattle.grammar.proofs.Tests.{and-left, and-right, and-both, or-left, or-right, or-elim, all, any, all-every, any-of}
-use Rattle.grammar.proofs.Worked.{Entry, same, same-is, is, In, Among, rowOf, tokensIn, joins, joins-every, joins-all, row-every, in-row, in-self, every-at}
+use Rattle.grammar.proofs.Worked.{Entry, same, same-is, is, In, Among, rowOf, tokensIn, joins, joins-every, joins-all, row-every, in-row, in-self}
 
 -- production number i of the list, on which the test holds
 pub record Found (f : Production → Bool) (rs : List Production) (i : ℕ) : Type 0 where
@@ -25,10 +26,6 @@ pub record Found (f : Production → Bool) (rs : List Production) (i : ℕ) : Ty
 unfoldable pub numbers : (Production → Bool) → List Production → List ℕ
 numbers f [] = []
 numbers f (r ∷ rs) = elim (f r) [ true ↦ zero ∷ map suc (numbers f rs) | false ↦ map suc (numbers f rs) ]
-
-every-suc : {P : ℕ → Type 0} {xs : List ℕ} → Every (λ n. P (suc n)) xs → Every P (map suc xs)
-every-suc nothing = nothing
-every-suc (each p h) = each p (every-suc h)
 
 found-below : {f : Production → Bool} (r : Production) {rs : List Production} {xs : List ℕ} → Every (Found f rs) xs → Every (Found f (r ∷ rs)) (map suc xs)
 found-below r nothing = nothing

@@ -6,7 +6,7 @@ use lib.Dec.{T, ltb, ltb→lt}
 use Rattle.grammar.specs.declared.Symbol.the-variants.{Token, Nonterminal}
 use Rattle.grammar.specs.Grammar.{Form, Production, Grammar, Every, nothing, each, Rule, Known, known-token, known-nonterminal, WellFormed}
 use Rattle.grammar.proofs.Tests.{and-left, and-right, all, all-every}
-use Rattle.grammar.proofs.Worked.{every-at}
+use Rattle.grammar.proofs.Every.{every-at}
 
 module _ (g : Grammar) where
   unfoldable pub knownTest : Form → Bool

@@ -3,15 +3,16 @@ use mathlib.Core.Path.{sym, subst}
 use mathlib.Core.Logic.{_↔_}
 use mathlib.Core.Bool.{Bool, true, false, _&&_, _||_, not}
 use mathlib.Core.List.{List, [], _∷_}
-use Prim.Native.Nat.{ℕ, zero, suc}
+use Prim.Native.Nat.{ℕ}
 use lib.Dec.{T, eqb, eqb→eq}
 use Rattle.grammar.specs.declared.Symbol.{Symbol}
 use Rattle.grammar.specs.declared.Symbol.the-variants.{Token, Nonterminal}
 use Rattle.grammar.specs.Grammar.{Form, Production, Grammar, Every, nothing, each, Rule, Productive, Useful}
 use Rattle.grammar.proofs.Join.{Behind, first, later}
-use Rattle.grammar.proofs.Useful.{Named, Names, a-token, named, productive-addition, useful-addition, productive-complete, useful-complete, start-useful, every-map}
+use Rattle.grammar.proofs.Useful.{Named, Names, a-token, named, productive-addition, useful-addition, productive-complete, useful-complete, start-useful}
 use Rattle.grammar.proofs.Tests.{and-left, and-right, and-both, all, any, all-every, any-of}
-use Rattle.grammar.proofs.Worked.{every-at, Ruled, ruled}
+use Rattle.grammar.proofs.Every.{every-map, every-at, repeated, every-repeated}
+use Rattle.grammar.proofs.Worked.{Ruled, ruled}
 
 -- A is in the list
 unfoldable pub has : List ℕ → ℕ → Bool
@@ -75,15 +76,6 @@ productivePass (r ∷ rs) M = productivePass rs (elim (namesIn M (r .right)) [ t
 unfoldable pub usefulPass : List ℕ → List Production → List ℕ → List ℕ
 usefulPass M [] U = U
 usefulPass M (r ∷ rs) U = usefulPass M rs (elim (has U (r .left) && namesIn M (r .right)) [ true ↦ joinLists (namesOf (r .right)) U | false ↦ U ])
-
-unfoldable pub repeated : ℕ → (List ℕ → List ℕ) → List ℕ → List ℕ
-repeated zero f M = M
-repeated (suc n) f M = repeated n f (f M)
-
-every-repeated : {P : ℕ → Type 0} (f : List ℕ → List ℕ) → ((M : List ℕ) → Every P M → Every P (f M)) → (n : ℕ) (M : List ℕ) → Every P M → Every P (repeated n f M)
-unfolding repeated
-every-repeated f k zero M h = h
-every-repeated f k (suc n) M h = every-repeated f k n (f M) (k M h)
 
 implies-use : (a b : Bool) → T (not a || b) → T a → T b
 implies-use true b t s = t

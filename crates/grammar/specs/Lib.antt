@@ -1,3 +1,4 @@
 pub mod Grammar
 pub mod House
 pub mod Machine
+pub mod Occurrence

@@ -1,0 +1,65 @@
+-- From what the bytes spell, and the lowest useless nonterminal, to what judging answers.
+use mathlib.Core.Path.{_≡_, refl, sym, _∙_, ap}
+use mathlib.Core.List.{List}
+use Prim.Native.Nat.{ℕ, _≤_, _<_}
+use native.Mathlib.Omega.{arith}
+use lib.ListN.{length, getD}
+use Rattle.grammar.specs.Grammar.{Grammar}
+use Rattle.book.specs.declared.Answer.{Answer}
+use Rattle.book.specs.declared.Verdict.{Verdict}
+use Rattle.book.specs.declared.Verdict.the-variants.{Next, Bad}
+use Rattle.book.specs.Answers.{done, refusal}
+use Rattle.book.specs.Book.{Spelling, refused, reads, spells}
+use Rattle.book.specs.Fields.{placesOf}
+use Rattle.book.specs.Judging.{AllUseful, refusing, indexOf, Judged, refuses, serves, unused}
+use Rattle.book.specs.Refusals.{useless}
+use Rattle.book.specs.Useful.{FirstUseless, Indexed}
+use Rattle.book.specs.Verdicts.{told, verdictOf}
+use Rattle.book.proofs.Index.{header-tokens, header-nonterminals, header-start, header-productions, places-indexed}
+
+told-reads : (size : ℕ) (x : Spelling) {at : ℕ} → told size x ≡ Next at → (g : Grammar) × (x ≡ reads g)
+unfolding told
+told-reads size (reads g) e = (g, refl)
+told-reads size (refused number place) e = let bad : _≡_ {A = ℕ} 0 1 = cc in absurd (omega arith)
+
+told-refused : (size : ℕ) (x : Spelling) {number place : ℕ} → told size x ≡ Bad number place → x ≡ refused number place
+unfolding told
+told-refused size (reads g) e = let bad : _≡_ {A = ℕ} 0 1 = cc in absurd (omega arith)
+told-refused size (refused number place) e = cc
+
+module _ (b : List ℕ) where
+  -- a verdict that goes on means that the book spells a grammar
+  pub verdict-reads : {v : Verdict} {at : ℕ} → v ≡ verdictOf b → v ≡ Next at → (g : Grammar) × (spells b ≡ reads g)
+  unfolding verdictOf
+  verdict-reads e next = told-reads (length b) (spells b) (sym e ∙ next)
+
+  pub verdict-refused : {v : Verdict} {number place : ℕ} → v ≡ verdictOf b → v ≡ Bad number place → spells b ≡ refused number place
+  unfolding verdictOf
+  verdict-refused e bad = told-refused (length b) (spells b) (sym e ∙ bad)
+
+  -- the header's bytes and the places counted through the book are the fields of the index
+  pub header-indexed : {g : Grammar} {places : List ℕ} {P N start : ℕ} → spells b ≡ reads g → N ≡ getD b 3 0 → start ≡ getD b 4 0 → P ≡ getD b 5 0 → places ≡ placesOf b P → Indexed b places P N start g
+  header-indexed {g} {P = P} read N-is start-is P-is places-are =
+      let counted : P ≡ length (g .productions) = P-is ∙ header-productions b read in
+      record {
+        read = read;
+        placed = places-are ∙ ap (placesOf b) counted ∙ places-indexed b read;
+        counted = counted;
+        numbered = N-is ∙ header-nonterminals b read;
+        started = start-is ∙ header-start b read;
+      }
+
+module _ {b places : List ℕ} {P N start r : ℕ} {g : Grammar} (indexed : Indexed b places P N start g) (first : FirstUseless g r) where
+  pub judged-useless : r < N → Judged b (refusing (refusal useless r 0))
+  judged-useless below =
+      let inside : r < g .nonterminals = omega (arith, indexed .numbered) in
+      refuses (unused (indexed .read) (record { inside = inside; useless = first .useless inside; lowest = first .lowest }))
+
+  -- the fields of the index are those that are read off the book
+  pub judged-served : {tokens : ℕ} {answer : Answer} → N ≤ r → tokens ≡ getD b 2 0 → answer ≡ done 0
+      → Judged b (record { answer = answer; tokens = tokens; nonterminals = N; start = start; productions = P; places = places })
+  unfolding indexOf
+  judged-served past tokens-are answered =
+      let all : AllUseful g = record { useful = λ A inside. first .lowest A (omega (arith, indexed .numbered)) } in
+      rw (answered, tokens-are, header-tokens b (indexed .read), indexed .numbered, indexed .started, indexed .counted, indexed .placed)
+      (serves (record { read = indexed .read; useful = all }))

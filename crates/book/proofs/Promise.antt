@@ -1,0 +1,108 @@
+-- What crates above cite of the reading layer: a judged book is refused, or it serves a grammar, which the index gives back
+-- through the accessors of `fields`.
+use mathlib.Core.Path.{_≡_, refl, _∙_}
+use mathlib.Core.Logic.{_≢_, ⊎-elim}
+use mathlib.Core.List.{List}
+use mathlib.Core.Option.{some}
+use Prim.Native.Nat.{ℕ, _+_, _≤_, _<_}
+use native.Mathlib.Omega.{arith}
+use lib.ListN.{length, getD, take, getElem?}
+use Rattle.grammar.specs.declared.Symbol.{Symbol}
+use Rattle.grammar.specs.Grammar.{Form, Grammar, Rule, Productive, Reachable, WellFormed}
+use Rattle.grammar.proofs.Useful.{useful-all}
+use Rattle.book.specs.declared.Answer.{Answer}
+use Rattle.book.specs.declared.Reading.{Reading}
+use Rattle.book.specs.Answers.{done, refusal}
+use Rattle.book.specs.Book.{spells, Limits}
+use Rattle.book.specs.Fields.{symbolAt}
+use Rattle.book.specs.Judging.{refusing, indexOf, Refuses, misread, unused, Serves, Judged, refuses, serves}
+use Rattle.book.proofs.Index.{record-indexed, symbol-indexed, place-fits, placesIn-length}
+use Rattle.book.proofs.Longest.{judged-by-first}
+use Rattle.book.proofs.Order.{Fault, bad-mark, extra-byte, over-limit, not-a-symbol}
+use Rattle.book.proofs.Place.{refused-kinds}
+use Rattle.book.proofs.Written.{read-limits}
+pub use Rattle.book.proofs.Rules.{rule-below, below-rule}
+pub use Rattle.book.proofs.Unique.{refuses-unique, refuses-not-serves, serves-unique, judged-unique}
+
+fault-some : {n : ℕ} → Fault n → 1 ≤ n
+fault-some bad-mark = omega arith
+fault-some extra-byte = omega arith
+fault-some over-limit = omega arith
+fault-some not-a-symbol = omega arith
+
+module _ {b : List ℕ} where
+  -- a refusal has a number
+  pub refuses-some : {answer : Answer} → Refuses b answer → 1 ≤ answer .number
+  unfolding refusal
+  refuses-some (misread e) = ⊎-elim (λ same. omega arith) fault-some (refused-kinds b e .kind)
+  refuses-some (unused e h) = omega arith
+
+  pub judged-done : {r : Reading} → Judged b r → r .answer .number ≡ 0 → (g : Grammar) × Serves b g × (r ≡ indexOf g)
+  unfolding refusing
+  judged-done (refuses x) none = absurd (omega (arith, refuses-some x))
+  judged-done (serves {g = g} s) none = (g, s, refl)
+
+  pub judged-refused : {r : Reading} → Judged b r → r .answer .number ≢ 0 → Refuses b (r .answer) × (r ≡ refusing (r .answer))
+  unfolding refusing indexOf done
+  judged-refused (refuses x) some-number = (x, refl)
+  judged-refused (serves s) some-number = absurd (some-number refl)
+
+-- what a place of the book says through the accessors: the production A → β
+pub record Entry (b : List ℕ) (at A : ℕ) (β : Form) : Type 0 where
+  pub place-fits : at < 2566
+  pub length-fits : length β ≤ 16
+  pub left : getD b (at + 2) 0 ≡ A
+  pub size : getD b (at + 3) 0 ≡ length β
+  pub symbols : (i : ℕ) {s : Symbol} → getElem? β i ≡ some s → symbolAt b at i ≡ s
+
+-- the index of a book that serves a grammar
+pub record Served (b : List ℕ) (g : Grammar) (r : Reading) : Type 0 where
+  pub tokens : r .tokens ≡ g .tokens
+  pub nonterminals : r .nonterminals ≡ g .nonterminals
+  pub start : r .start ≡ g .start
+  pub productions : r .productions ≡ length (g .productions)
+  pub cells : length (r .places) ≡ 128
+  pub entry : {p A : ℕ} {β : Form} → Rule g p A β → Entry b (getD (r .places) p 0) A β
+
+module _ {b : List ℕ} {g : Grammar} (s : Serves b g) where
+  pub serves-limits : Limits g
+  serves-limits = read-limits b (s .read)
+
+  pub serves-well-formed : WellFormed g
+  serves-well-formed = serves-limits .well-formed
+
+  -- what a sentential form holds derives a token string
+  pub serves-productive : (A : ℕ) → Reachable g A → Productive g A
+  serves-productive = useful-all serves-well-formed (s .useful .useful)
+
+  index-served : Served b g (indexOf g)
+  unfolding indexOf
+  index-served =
+      record {
+        tokens = refl;
+        nonterminals = refl;
+        start = refl;
+        productions = refl;
+        cells = placesIn-length (g .productions) (serves-limits .productions-fit);
+        entry = λ {p} {A} {β} rule.
+            record {
+              place-fits = place-fits b (s .read) rule;
+              length-fits = serves-limits .lengths-fit rule;
+              left = record-indexed b (s .read) rule .left;
+              size = record-indexed b (s .read) rule .size;
+              symbols = symbol-indexed b (s .read) rule;
+            };
+      }
+
+  pub served : {r : Reading} → r ≡ indexOf g → Served b g r
+  served same = rw same index-served
+
+-- books that spell the same are judged alike
+pub judged-alike : (b c : List ℕ) {r : Reading} → spells b ≡ spells c → Judged c r → Judged b r
+judged-alike b c same (refuses (misread e)) = refuses (misread (same ∙ e))
+judged-alike b c same (refuses (unused e h)) = refuses (unused (same ∙ e) h)
+judged-alike b c same (serves s) = serves (record { read = same ∙ s .read; useful = s .useful })
+
+-- a longer book is judged by its first 2,567 bytes
+pub judged-by-beginning : (m : ℕ) → 2567 ≤ m → (b : List ℕ) {r : Reading} → Judged (take m b) r → Judged b r
+judged-by-beginning m enough b = judged-alike b (take m b) (judged-by-first m enough b)

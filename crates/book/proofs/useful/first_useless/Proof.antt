@@ -1,0 +1,58 @@
+-- The first closure is the productive nonterminals, the second the useful ones.
+use mathlib.Core.Path.{sym, _∙_}
+use borrow.Author.Needs.{needs}
+use Rattle.sets.proofs.Promise.{none-is}
+use Rattle.book.proofs.Usefulness.{productive-exactly, useful-exactly, lowest-useless, all-useless}
+use Rattle.book.proofs.useful.first_useless.Statement.{statement}
+use Rattle.book.proofs.useful.first_useless.Tie as tie
+
+none-requires : tie.Need-none-requires
+none-requires c κs = search needs
+
+closure-requires : tie.Need-closure-requires
+closure-requires c κs = search needs
+
+has-requires : tie.Need-has-requires
+has-requires c κs = search needs
+
+productive-names-requires : tie.Need-productive-names-requires
+productive-names-requires c κs = search needs
+
+slice-aggregate-closure : tie.Need-slice-aggregate-closure
+slice-aggregate-closure c = search needs
+
+single-requires : tie.Need-single-requires
+single-requires c κs = search needs
+
+closure-requires-2 : tie.Need-closure-requires-2
+closure-requires-2 c κs = search needs
+
+lowest-missing-requires : tie.Need-lowest-missing-requires
+lowest-missing-requires c κs = search needs
+
+returns : tie.Need-returns
+returns c = λ g sides numbered started.
+    let productive = productive-exactly sides (rw (none-is (c .before .before .before .before .before .before .before .before .none .ensures)) at (c .before .before .before .before .before .before .before .closure .ensures)) in
+    let starts = rw started at (sym (c .before .before .before .before .before .before .has .ensures) ∙ c .before .before .before .before .before .if1 .taken) in
+    let one = rw started at (c .before .before .single .ensures) in
+    lowest-useless (useful-exactly sides productive (c .before .before .before .before .productive-names .ensures) one starts (c .before .closure2 .ensures)) (rw numbered at (c .lowest-missing .ensures))
+
+returns-2 : tie.Need-returns-2
+returns-2 c = λ g sides numbered started.
+    let productive = productive-exactly sides (rw (none-is (c .before .before .before .none .ensures)) at (c .before .before .closure .ensures)) in
+    all-useless productive (rw started at (sym (c .before .has .ensures) ∙ c .if1 .left))
+
+pub first-useless-spec : {M : Type 1} → statement M
+first-useless-spec =
+    tie.close
+    (tie.spec
+    none-requires
+    closure-requires
+    has-requires
+    productive-names-requires
+    slice-aggregate-closure
+    single-requires
+    closure-requires-2
+    lowest-missing-requires
+    returns
+    returns-2)

@@ -1,0 +1,60 @@
+-- The invariant: the sets of the records gone through.
+use mathlib.Core.Path.{sym}
+use Prim.Native.Nat.{_-_, _≤_}
+use native.Mathlib.Nat.{le-antisymm}
+use borrow.Author.Needs.{needs}
+use Rattle.sets.specs.Calls.{number, setAt}
+use Rattle.book.specs.Closure.{Follows}
+use Rattle.book.specs.Useful.{Filled}
+use Rattle.book.proofs.Filling.{filled-none, filled-next}
+use Rattle.book.proofs.useful.productive_names.Statement.{statement}
+use Rattle.book.proofs.useful.productive_names.Tie as tie
+
+abbrev Inv-loop : tie.InvT-loop
+Inv-loop names count productive cells₀ p₀ cells p = (p ≤ count) × Filled (λ p. Follows (setAt names p) (setAt names p) (number productive)) p cells
+
+abbrev μ-loop : tie.MeasureT-loop
+μ-loop names count productive cells₀ p₀ cells p = count - p
+
+loop-holds : tie.Need-loop-holds Inv-loop μ-loop
+loop-holds c = (search needs, filled-none)
+
+slice-aggregate-store : tie.Need-slice-aggregate-store Inv-loop μ-loop
+slice-aggregate-store c = sym (c .before .before .loop .inv .1 .size)
+
+load-requires : tie.Need-load-requires Inv-loop μ-loop
+load-requires c κs = search needs
+
+kept-requires : tie.Need-kept-requires Inv-loop μ-loop
+kept-requires c κs = search needs
+
+store-requires : tie.Need-store-requires Inv-loop μ-loop
+store-requires c κs = search needs
+
+add-p : tie.Need-add-p Inv-loop μ-loop
+add-p c = search needs
+
+loop-less : tie.Need-loop-less Inv-loop μ-loop
+loop-less c = search needs
+
+loop-again : tie.Need-loop-again Inv-loop μ-loop
+loop-again c = (search needs, filled-next (search needs) (c .before .before .before .before .before .before .loop .inv .1) (rw (c .before .before .before .load .ensures .loaded) at (c .before .before .kept .ensures)) (c .before .store .ensures))
+
+returns : tie.Need-returns Inv-loop μ-loop
+returns c = rw (le-antisymm (c .before .loop .inv .0) (c .loop-test .left)) at (c .before .loop .inv .1)
+
+pub productive-names-spec : {M : Type 1} → statement M
+productive-names-spec =
+    tie.close
+    (tie.spec
+    Inv-loop
+    μ-loop
+    loop-holds
+    slice-aggregate-store
+    load-requires
+    kept-requires
+    store-requires
+    add-p
+    loop-less
+    loop-again
+    returns)

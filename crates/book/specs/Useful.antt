@@ -1,0 +1,77 @@
+-- The steps to refusal 6: which nonterminals the right sides name, and the lowest nonterminal that is useless.
+-- Document 01, "Refusals and their numbers", 6; only contracts inside the crate cite what stands here.
+use mathlib.Core.Path.{_≡_}
+use mathlib.Core.Bool.{true, false}
+use mathlib.Core.List.{List}
+use mathlib.Core.Option.{some}
+use Prim.Native.Nat.{ℕ, _+_, _≤_, _<_}
+use lib.ListN.{length, getD, getElem?}
+use Rattle.grammar.specs.declared.Symbol.{Symbol}
+use Rattle.grammar.specs.declared.Symbol.the-variants.{Nonterminal}
+use Rattle.grammar.specs.Grammar.{Form, Grammar, Rule, Useful}
+use Rattle.sets.specs.Sets.{width, member, Exactly}
+use Rattle.sets.specs.Calls.{setAt}
+use Rattle.book.specs.Book.{reads, spells}
+use Rattle.book.specs.Fields.{symbolAt}
+use Rattle.book.specs.Judging.{placesIn}
+
+-- k is the number a, and has a place in a set
+pub record Single (a k : ℕ) : Type 0 where
+  pub same : k ≡ a
+  pub fits : k < width
+
+-- the symbol is the nonterminal k, and k has a place in a set
+pub record IsNonterminal (s : Symbol) (k : ℕ) : Type 0 where
+  pub same : s ≡ Nonterminal k
+  pub fits : k < width
+
+-- one of the first l symbols of the record at a place is the nonterminal k
+pub record NamedAt (book : List ℕ) (at l k : ℕ) : Type 0 where
+  pub index : ℕ
+  pub inside : index < l
+  pub names : IsNonterminal (symbolAt book at index) k
+
+-- the nonterminals on the right side of record p
+abbrev pub RightNames : List ℕ → List ℕ → ℕ → ℕ → Type 0
+RightNames book places p = NamedAt book (getD places p 0) (getD book (getD places p 0 + 3) 0)
+
+-- the left side of record p
+abbrev pub LeftName : List ℕ → List ℕ → ℕ → ℕ → Type 0
+LeftName book places p = Single (getD book (getD places p 0 + 2) 0)
+
+-- 128 sets, of which each number p below `count` has those k as members of which P p holds
+pub record Filled (P : ℕ → ℕ → Type 0) (count : ℕ) (sets : List ℕ) : Type 0 where
+  pub size : length sets ≡ 128
+  pub each : (p : ℕ) → p < count → Exactly width (setAt sets p) (P p)
+
+-- the nonterminal k occurs in a form
+pub record Occurs (β : Form) (k : ℕ) : Type 0 where
+  pub index : ℕ
+  pub at : getElem? β index ≡ some (Nonterminal k)
+
+-- the nonterminals of each right side, and each left side, as sets
+pub record Sides (g : Grammar) (count : ℕ) (names lefts : List ℕ) : Type 0 where
+  pub counted : count ≡ length (g .productions)
+  pub names-of : {p A : ℕ} {β : Form} → Rule g p A β → Exactly width (setAt names p) (Occurs β)
+  pub left-of : {p A : ℕ} {β : Form} → Rule g p A β → Exactly width (setAt lefts p) (λ k. k ≡ A)
+  pub start-fits : g .start < width
+
+-- the lowest number below `count` that is not in the set, or `count`
+pub record LowestMissing (set count r : ℕ) : Type 0 where
+  pub inside : r ≤ count
+  pub before : (k : ℕ) → k < r → member k set ≡ true
+  pub missing : r < count → member r set ≡ false
+
+-- the lowest useless nonterminal, or N where there is none
+pub record FirstUseless (g : Grammar) (r : ℕ) : Type 0 where
+  pub inside : r ≤ g .nonterminals
+  pub lowest : (B : ℕ) → B < r → Useful g B
+  pub useless : r < g .nonterminals → ¬ Useful g r
+
+-- the book spells the grammar, and these are the fields of its index
+pub record Indexed (book places : List ℕ) (productions nonterminals start : ℕ) (g : Grammar) : Type 0 where
+  pub read : spells book ≡ reads g
+  pub placed : places ≡ placesIn (g .productions)
+  pub counted : productions ≡ length (g .productions)
+  pub numbered : nonterminals ≡ g .nonterminals
+  pub started : start ≡ g .start

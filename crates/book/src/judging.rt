@@ -1,0 +1,63 @@
+ghost use mathlib.Core.Path.{_≡_};
+ghost use Rattle.grammar.specs.Grammar.{Grammar};
+ghost use Rattle.book.specs.Book.{spells, reads};
+ghost use Rattle.book.specs.Judging.{Judged};
+ghost use Rattle.book.specs.Judging as judging;
+use crate::Answer;
+use crate::Reading;
+use crate::Verdict;
+use crate::answers::done;
+use crate::answers::refusal;
+use crate::fields::byte_at;
+use crate::fields::places;
+use crate::refusals::USELESS;
+use crate::useful::useless;
+use crate::walk::read;
+
+// On a refusal every other field is 0.
+fn refusing(answer: Answer) -> Reading
+    ensures { λ r. ⌜ r ≡ judging.refusing answer ⌝ }
+{
+    Reading {
+        answer,
+        tokens: 0,
+        nonterminals: 0,
+        start: 0,
+        productions: 0,
+        places: [0u16; 128],
+    }
+}
+
+// Refusal 6 or the index of a book that spells a grammar.
+fn indexed(book: &[u8]) -> Reading
+    requires { ⌜ ((g : Grammar) × (spells (now book) ≡ reads g)) ⌝ }
+    ensures { λ r. ⌜ Judged (now (book .entry)) r ⌝ }
+{
+    let nonterminals = byte_at(book, 0, 3);
+    let start = byte_at(book, 0, 4);
+    let productions = byte_at(book, 0, 5);
+    let cells = places(book, productions);
+    let lowest = useless(book, &cells, productions, nonterminals, start);
+    if lowest < nonterminals {
+        return refusing(refusal(USELESS, lowest as u64, 0));
+    }
+    Reading {
+        answer: done(0),
+        tokens: byte_at(book, 0, 2),
+        nonterminals,
+        start,
+        productions,
+        places: cells,
+    }
+}
+
+// The refusal 1 to 6 of a book, or the index of its grammar.
+pub fn judge(book: &[u8]) -> Reading
+    ensures { λ r. ⌜ Judged (now (book .entry)) r ⌝ }
+{
+    let verdict = read(book);
+    match verdict {
+        Verdict::Next(_) => indexed(book),
+        Verdict::Bad(number, place) => refusing(refusal(number, place as u64, 0)),
+    }
+}

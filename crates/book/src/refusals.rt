@@ -1,0 +1,38 @@
+// The numbers of the paper's table of refusals, and the details of refusal 7.
+pub const DONE: u32 = 0;
+
+pub const SHORT: u32 = 1;
+
+pub const MARK: u32 = 2;
+
+pub const EXTRA: u32 = 3;
+
+pub const LIMIT: u32 = 4;
+
+pub const SYMBOL: u32 = 5;
+
+pub const USELESS: u32 = 6;
+
+pub const ROOM: u32 = 7;
+
+pub const CONFLICT: u32 = 8;
+
+pub const TABLE: u32 = 9;
+
+pub const TOKEN: u32 = 10;
+
+pub const SYNTAX: u32 = 11;
+
+pub const PRODUCTION: u32 = 12;
+
+pub const STACK_ROOM: u64 = 1;
+
+pub const LIST_ROOM: u64 = 2;
+
+pub const OUTPUT_ROOM: u64 = 3;
+
+pub const FIRST_ROOM: u64 = 4;
+
+pub const FOLLOW_ROOM: u64 = 5;
+
+pub const TABLE_ROOM: u64 = 6;
