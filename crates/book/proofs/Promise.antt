@@ -24,18 +24,21 @@ use Rattle.book.proofs.Written.{read-limits}
 pub use Rattle.book.proofs.Rules.{rule-below, below-rule}
 pub use Rattle.book.proofs.Unique.{refuses-unique, refuses-not-serves, serves-unique, judged-unique}
 
-fault-some : {n : ℕ} → Fault n → 1 ≤ n
-fault-some bad-mark = omega arith
-fault-some extra-byte = omega arith
-fault-some over-limit = omega arith
-fault-some not-a-symbol = omega arith
+fault-number : {n : ℕ} → Fault n → (1 ≤ n) × (n ≤ 6)
+fault-number bad-mark = omega arith
+fault-number extra-byte = omega arith
+fault-number over-limit = omega arith
+fault-number not-a-symbol = omega arith
 
 module _ {b : List ℕ} where
-  -- a refusal has a number
-  pub refuses-some : {answer : Answer} → Refuses b answer → 1 ≤ answer .number
+  -- a refused book has one of the numbers 1 to 6
+  pub refuses-number : {answer : Answer} → Refuses b answer → (1 ≤ answer .number) × (answer .number ≤ 6)
   unfolding refusal
-  refuses-some (misread e) = ⊎-elim (λ same. omega arith) fault-some (refused-kinds b e .kind)
-  refuses-some (unused e h) = omega arith
+  refuses-number (misread e) = ⊎-elim (λ same. omega arith) fault-number (refused-kinds b e .kind)
+  refuses-number (unused e h) = omega arith
+
+  pub refuses-some : {answer : Answer} → Refuses b answer → 1 ≤ answer .number
+  refuses-some x = refuses-number x .0
 
   pub judged-done : {r : Reading} → Judged b r → r .answer .number ≡ 0 → (g : Grammar) × Serves b g × (r ≡ indexOf g)
   unfolding refusing
