@@ -15,7 +15,7 @@ use Rattle.grammar.proofs.Every.{every-at}
 use Rattle.book.specs.Book.{reads, spells, byteOf, bytesOf, Limits}
 use Rattle.book.specs.Fields.{symbolOfByte, symbolAt, placeAfter, placeOfRecord, placesOf}
 use Rattle.book.specs.Judging.{recordPlaces, placesIn}
-use Rattle.book.specs.Records.{recordsSize, recordPlace, RecordAt}
+use Rattle.book.proofs.Records.{recordsSize, recordPlace, RecordAt}
 use Rattle.book.proofs.Cells.{zero-cell, zeros-behind, places-length, places-cell, places-rest}
 use Rattle.book.proofs.Longest.{longest-book}
 use Rattle.book.proofs.Positions.{record-at, record-within, recordPlace-suc}

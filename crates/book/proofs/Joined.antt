@@ -18,9 +18,9 @@ use Rattle.book.specs.declared.Verdict.the-variants.{Next, Bad}
 use Rattle.book.specs.Refusals.{short, mark, limit, symbol}
 use Rattle.book.specs.Book.{refused, Rest, wanted, marked, symbolOf, symbols, records, ending, spells}
 use Rattle.book.specs.Verdicts.{told, verdictOf, placeOf}
-use Rattle.book.specs.Positional.{andThen, nextByte, within, isSymbol, judged, wantedFrom, symbolFrom, symbolsFrom}
+use Rattle.book.specs.Positional.{andThen, nextByte, within, isSymbol, checkedAt, wantedFrom, symbolFrom, symbolsFrom}
 use Rattle.book.specs.Positional.{markedFrom, rightFrom, recordFrom, eachRecordFrom, resumedAt, headerFrom, recordsFrom, endFrom}
-use Rattle.book.proofs.Judged.{Passes, by-cases, judged-right, judged-wrong, judged-short, symbols-pass, records-pass}
+use Rattle.book.proofs.Checked.{Passes, by-cases, checked-right, checked-wrong, checked-short, symbols-pass, records-pass}
 
 module _ (T N : ℕ) where
   symbol-known : (byte : ℕ) → isSymbol T N byte ≡ true → (s : Symbol) × (symbolOf T N byte ≡ some s)
@@ -52,17 +52,17 @@ module _ (b : List ℕ) where
       reader [] at ≡ refused short at →
       (at < length b → right ≡ true → told (length b) (reader (getD b at 0 ∷ drop (suc at) b) at) ≡ K (Next (suc at))) →
       (right ≡ false → reader (getD b at 0 ∷ drop (suc at) b) at ≡ refused refusal at) →
-      Comes reader at (K (judged b right refusal at))
+      Comes reader at (K (checkedAt b right refusal at))
   unfolding told
   judged-joins right refusal reader K at inside passes missing fine wrong =
       by-cases (ltb at (length b))
       (λ t. let h : at < length b = ltb-true at (length b) t in
       by-cases right
-      (λ e. rw (drop-cons b at 0 h, judged-right b right refusal at h e) (fine h e))
-      (λ e. rw (drop-cons b at 0 h, judged-wrong b right refusal at h e, wrong e, passes)))
+      (λ e. rw (drop-cons b at 0 h, checked-right b right refusal at h e) (fine h e))
+      (λ e. rw (drop-cons b at 0 h, checked-wrong b right refusal at h e, wrong e, passes)))
       (λ t. let h : length b ≤ at = ltb-false at (length b) t in
       let e : at ≡ length b = omega arith in
-      rw (drop-of-length-le b h, judged-short b right refusal at h, missing, passes) (ap (Bad short) e))
+      rw (drop-of-length-le b h, checked-short b right refusal at h, missing, passes) (ap (Bad short) e))
 
   wanted-joins : (low high refusal : ℕ) (next : ℕ → Rest) (K : Verdict → Verdict) (at : ℕ) →
       at ≤ length b →

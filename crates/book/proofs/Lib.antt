@@ -1,5 +1,6 @@
+pub mod Records
 pub mod Turns
-pub mod Judged
+pub mod Checked
 pub mod Joined
 pub mod Bytes
 pub mod Written
@@ -18,3 +19,4 @@ pub mod Outcome
 pub mod Unique
 pub mod Promise
 pub mod Tools
+pub mod Examples

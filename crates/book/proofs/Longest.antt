@@ -9,9 +9,9 @@ use lib.Seq.{take-all, take-append-add}
 use Rattle.grammar.specs.declared.Symbol.the-variants.{Token}
 use Rattle.grammar.specs.Grammar.{Production, Grammar}
 use Rattle.book.specs.Book.{Spelling, reads, wanted, marked, symbolOf, symbols, records, ending, spells, byteOf, recordBytes, recordsBytes, bytesOf, Limits, Continued}
-use Rattle.book.specs.Records.{recordsSize}
+use Rattle.book.proofs.Records.{recordsSize}
 use Rattle.book.proofs.Positions.{recordsBytes-length}
-use Rattle.book.proofs.Order.{Judged, whole, ended, stopped, spells-judged, continued}
+use Rattle.book.proofs.Order.{Decided, whole, ended, stopped, spells-decided, continued}
 use Rattle.book.proofs.Written.{written-read, read-limits}
 
 recordsSize-fits : (ps : List Production) → ((p : ℕ) (r : Production) → getElem? ps p ≡ some r → length (r .right) ≤ 16) → recordsSize ps ≤ 20 * length ps
@@ -32,12 +32,12 @@ continued-fits {b} c = omega (arith, longest-book (b ++ c .more) (c .read), leng
 
 -- a longer book is judged by its first 2,567 bytes
 pub judged-by-first : (m : ℕ) → 2567 ≤ m → (b : List ℕ) → spells b ≡ spells (take m b)
-judged-by-first m enough b = sym (by-judged refl (spells-judged b))
+judged-by-first m enough b = sym (by-judged refl (spells-decided b))
   where
     fits : {x : Spelling} → spells b ≡ x → length b ≤ 2566 → spells (take m b) ≡ x
     fits e small = ap spells (take-all m b (omega arith)) ∙ e
 
-    by-judged : {x : Spelling} → spells b ≡ x → Judged spells 0 b x → spells (take m b) ≡ x
+    by-judged : {x : Spelling} → spells b ≡ x → Decided spells 0 b x → spells (take m b) ≡ x
     by-judged e whole = fits e (longest-book b e)
     by-judged e (ended k place g) = fits e (continued-fits (continued g))
     by-judged e (stopped k fault used c rest split place g all) =

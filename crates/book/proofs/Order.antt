@@ -24,23 +24,23 @@ pub record Goes (answer : List ℕ → Spelling) (bs : List ℕ) : Type 0 where
   pub read : answer (bs ++ more) ≡ reads to
 
 -- an answer to bytes from the place `at` on that the first bad or missing byte decides
-pub data Judged (answer : List ℕ → Spelling) (at : ℕ) (bs : List ℕ) : Spelling → Type 0 where
-  whole : {g : Grammar} → Judged answer at bs (reads g)
-  ended : (k : ℕ) → k ≡ at + length bs → Goes answer bs → Judged answer at bs (refused short k)
+pub data Decided (answer : List ℕ → Spelling) (at : ℕ) (bs : List ℕ) : Spelling → Type 0 where
+  whole : {g : Grammar} → Decided answer at bs (reads g)
+  ended : (k : ℕ) → k ≡ at + length bs → Goes answer bs → Decided answer at bs (refused short k)
   stopped : {n : ℕ} (k : ℕ) → Fault n → (used : List ℕ) (b : ℕ) (rest : List ℕ) → bs ≡ used ++ (b ∷ rest) → k ≡ at + length used → Goes answer used
-      → ((others : List ℕ) → answer (used ++ (b ∷ others)) ≡ refused n k) → Judged answer at bs (refused n k)
+      → ((others : List ℕ) → answer (used ++ (b ∷ others)) ≡ refused n k) → Decided answer at bs (refused n k)
 
 -- the reader's answers are such, and there are bytes that it reads
 record Orderly (r : Rest) : Type 0 where
   goes : (at : ℕ) → Goes (λ bs. r bs at) []
-  judged : (bs : List ℕ) (at : ℕ) → Judged (λ bs. r bs at) at bs (r bs at)
+  judged : (bs : List ℕ) (at : ℕ) → Decided (λ bs. r bs at) at bs (r bs at)
 
 -- one byte more in front
 module _ {answer next : List ℕ → Spelling} {b : ℕ} (on : (bs : List ℕ) → answer (b ∷ bs) ≡ next bs) where
   goes-before : {bs : List ℕ} → Goes next bs → Goes answer (b ∷ bs)
   goes-before {bs} g = record { more = g .more; to = g .to; read = on (bs ++ g .more) ∙ g .read }
 
-  judged-before : {at : ℕ} {bs : List ℕ} {x : Spelling} → Judged next (suc at) bs x → Judged answer at (b ∷ bs) x
+  judged-before : {at : ℕ} {bs : List ℕ} {x : Spelling} → Decided next (suc at) bs x → Decided answer at (b ∷ bs) x
   judged-before whole = whole
   judged-before (ended k place g) = ended k (omega arith) (goes-before g)
   judged-before (stopped k fault used c rest split place g all) =
@@ -53,11 +53,11 @@ module _ {A : Type 0} {byte : A → ℕ} {Fine : A → Type 0} {next : A → Res
       goes : (at : ℕ) → Goes (λ bs. r bs at) []
       goes at = let g = h a fine .goes (suc at) in record { more = byte a ∷ g .more; to = g .to; read = t .goes a fine (g .more) at ∙ g .read }
 
-      by-look : {b : ℕ} → Look byte Fine next n r b → (bs : List ℕ) (at : ℕ) → Judged (λ bs. r bs at) at (b ∷ bs) (r (b ∷ bs) at)
+      by-look : {b : ℕ} → Look byte Fine next n r b → (bs : List ℕ) (at : ℕ) → Decided (λ bs. r bs at) at (b ∷ bs) (r (b ∷ bs) at)
       by-look (taken a fine) bs at = rw (t .goes a fine bs at) (judged-before (λ bs. t .goes a fine bs at) (h a fine .judged bs (suc at)))
       by-look (turned b stops) bs at = rw (stops bs at) (stopped at fault [] b bs refl (omega arith) (goes at) (λ others. stops others at))
 
-      judged : (bs : List ℕ) (at : ℕ) → Judged (λ bs. r bs at) at bs (r bs at)
+      judged : (bs : List ℕ) (at : ℕ) → Decided (λ bs. r bs at) at bs (r bs at)
       judged [] at = rw (t .missing at) (ended at (omega arith) (goes at))
       judged (b ∷ bs) at = by-look (t .look b) bs at
 
@@ -90,14 +90,14 @@ ending-orderly g = record { goes = goes; judged = judged }
     goes : (at : ℕ) → Goes (λ bs. ending g bs at) []
     goes at = record { more = []; to = g; read = refl }
 
-    judged : (bs : List ℕ) (at : ℕ) → Judged (λ bs. ending g bs at) at bs (ending g bs at)
+    judged : (bs : List ℕ) (at : ℕ) → Decided (λ bs. ending g bs at) at bs (ending g bs at)
     judged [] at = whole
     judged (b ∷ bs) at = stopped at extra-byte [] b bs refl (omega arith) (goes at) (λ others. refl)
 
 -- what a book spells is decided by the first bad or missing byte
-pub spells-judged : (b : List ℕ) → Judged spells 0 b (spells b)
+pub spells-decided : (b : List ℕ) → Decided spells 0 b (spells b)
 unfolding spells
-spells-judged b =
+spells-decided b =
     let order =
     marked-orderly 71 82
     (takes-orderly (wanted-takes 1 63 limit) over-limit 1 (omega arith) λ T tokens.
@@ -108,8 +108,8 @@ spells-judged b =
     ending-orderly (record { tokens = T; nonterminals = N; start = start; productions = ps })) in
     order .judged b 0
 
-pub judged-as : (b : List ℕ) {x : Spelling} → spells b ≡ x → Judged spells 0 b x
-judged-as b e = rw e at (spells-judged b)
+pub decided-as : (b : List ℕ) {x : Spelling} → spells b ≡ x → Decided spells 0 b x
+decided-as b e = rw e at (spells-decided b)
 
 pub continued : {b : List ℕ} → Goes spells b → Continued b
 continued g = record { more = g .more; to = g .to; read = g .read }

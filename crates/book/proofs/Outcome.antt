@@ -11,7 +11,7 @@ use Rattle.book.specs.declared.Verdict.the-variants.{Next, Bad}
 use Rattle.book.specs.Answers.{done, refusal}
 use Rattle.book.specs.Book.{Spelling, refused, reads, spells}
 use Rattle.book.specs.Fields.{placesOf}
-use Rattle.book.specs.Judging.{AllUseful, refusing, indexOf, Judged, refuses, serves, unused}
+use Rattle.book.specs.Judging.{AllUseful, refusing, indexOf, Judged, refuses, serves, useless-one}
 use Rattle.book.specs.Refusals.{useless}
 use Rattle.book.specs.Useful.{FirstUseless, Indexed}
 use Rattle.book.specs.Verdicts.{told, verdictOf}
@@ -53,7 +53,7 @@ module _ {b places : List ℕ} {P N start r : ℕ} {g : Grammar} (indexed : Inde
   pub judged-useless : r < N → Judged b (refusing (refusal useless r 0))
   judged-useless below =
       let inside : r < g .nonterminals = omega (arith, indexed .numbered) in
-      refuses (unused (indexed .read) (record { inside = inside; useless = first .useless inside; lowest = first .lowest }))
+      refuses (useless-one (indexed .read) (record { inside = inside; useless = first .useless inside; lowest = first .lowest }))
 
   -- the fields of the index are those that are read off the book
   pub judged-served : {tokens : ℕ} {answer : Answer} → N ≤ r → tokens ≡ getD b 2 0 → answer ≡ done 0

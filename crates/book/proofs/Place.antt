@@ -9,7 +9,7 @@ use lib.Seq.{take-at, take-append-add}
 use Rattle.book.specs.Refusals.{short}
 use Rattle.book.specs.Book.{refused, reads, spells, Continued}
 use Rattle.book.proofs.Bytes.{refused-not-reads}
-use Rattle.book.proofs.Order.{Fault, bad-mark, extra-byte, over-limit, not-a-symbol, Judged, ended, stopped, judged-as, continued}
+use Rattle.book.proofs.Order.{Fault, bad-mark, extra-byte, over-limit, not-a-symbol, Decided, ended, stopped, decided-as, continued}
 
 fault-not-short : {n : ℕ} → Fault n → n ≢ short
 fault-not-short bad-mark e = omega arith
@@ -24,9 +24,9 @@ pub record Refusal (b : List ℕ) (n k : ℕ) : Type 0 where
   pub inside : n ≢ short → k < length b
 
 pub refused-kinds : (b : List ℕ) {n k : ℕ} → spells b ≡ refused n k → Refusal b n k
-refused-kinds b e = by-judged (judged-as b e)
+refused-kinds b e = by-judged (decided-as b e)
   where
-    by-judged : {n k : ℕ} → Judged spells 0 b (refused n k) → Refusal b n k
+    by-judged : {n k : ℕ} → Decided spells 0 b (refused n k) → Refusal b n k
     by-judged (ended k place g) = record { kind = inl refl; within = omega arith; inside = λ other. absurd (other refl) }
     by-judged (stopped k fault used c rest split place g all) =
         let long : length b ≡ length used + suc (length rest) = ap length split ∙ length-append used (c ∷ rest) in
@@ -34,17 +34,17 @@ refused-kinds b e = by-judged (judged-as b e)
 
 -- a missing byte is missing behind the whole book, which can be continued
 pub book-short : (b : List ℕ) {k : ℕ} → spells b ≡ refused short k → (k ≡ length b) × Continued b
-book-short b e = by-judged (judged-as b e) refl
+book-short b e = by-judged (decided-as b e) refl
   where
-    by-judged : {n k : ℕ} → Judged spells 0 b (refused n k) → n ≡ short → (k ≡ length b) × Continued b
+    by-judged : {n k : ℕ} → Decided spells 0 b (refused n k) → n ≡ short → (k ≡ length b) × Continued b
     by-judged (ended k place g) _ = (omega arith, continued g)
     by-judged (stopped k fault used c rest split place g all) e = absurd (fault-not-short fault e)
 
 -- the bytes before a bad byte can be continued, and with it they cannot
 pub book-place : (b : List ℕ) {n k : ℕ} → spells b ≡ refused n k → n ≢ short → Continued (take k b) × (¬ Continued (take (suc k) b))
-book-place b e = by-judged (judged-as b e)
+book-place b e = by-judged (decided-as b e)
   where
-    by-judged : {n k : ℕ} → Judged spells 0 b (refused n k) → n ≢ short → Continued (take k b) × (¬ Continued (take (suc k) b))
+    by-judged : {n k : ℕ} → Decided spells 0 b (refused n k) → n ≢ short → Continued (take k b) × (¬ Continued (take (suc k) b))
     by-judged (ended k place g) other = absurd (other refl)
     by-judged (stopped k fault used c rest split place g all) _ =
         let before : take k b ≡ used = rw split (take-at used (c ∷ rest) k (omega arith)) in

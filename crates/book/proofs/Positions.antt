@@ -9,7 +9,7 @@ use lib.ListN.{length, getD, take, drop, getElem?, length-append, length-map}
 use lib.Seq.{getD-append-add, take-length}
 use Rattle.grammar.specs.Grammar.{Form, Production, Grammar, Rule}
 use Rattle.book.specs.Book.{byteOf, recordBytes, recordsBytes, bytesOf}
-use Rattle.book.specs.Records.{recordsSize, recordPlace, RecordAt}
+use Rattle.book.proofs.Records.{recordsSize, recordPlace, RecordAt}
 
 pub recordsBytes-length : (ps : List Production) → length (recordsBytes ps) ≡ recordsSize ps
 unfolding recordsBytes recordBytes recordsSize

@@ -4,7 +4,7 @@ use mathlib.Core.Path.{_≡_, refl, _∙_}
 use mathlib.Core.Logic.{_≢_, ⊎-elim}
 use mathlib.Core.List.{List}
 use mathlib.Core.Option.{some}
-use Prim.Native.Nat.{ℕ, _+_, _≤_, _<_}
+use Prim.Native.Nat.{ℕ, _≤_, _<_}
 use native.Mathlib.Omega.{arith}
 use lib.ListN.{length, getD, take, getElem?}
 use Rattle.grammar.specs.declared.Symbol.{Symbol}
@@ -14,13 +14,14 @@ use Rattle.book.specs.declared.Answer.{Answer}
 use Rattle.book.specs.declared.Reading.{Reading}
 use Rattle.book.specs.Answers.{done, refusal}
 use Rattle.book.specs.Book.{spells, Limits}
-use Rattle.book.specs.Fields.{symbolAt}
-use Rattle.book.specs.Judging.{refusing, indexOf, Refuses, misread, unused, Serves, Judged, refuses, serves}
+use Rattle.book.specs.Fields.{leftAt, lengthAt, symbolAt}
+use Rattle.book.specs.Judging.{refusing, indexOf, Refuses, misread, useless-one, Serves, Judged, refuses, serves}
 use Rattle.book.proofs.Index.{record-indexed, symbol-indexed, place-fits, placesIn-length}
 use Rattle.book.proofs.Longest.{judged-by-first}
 use Rattle.book.proofs.Order.{Fault, bad-mark, extra-byte, over-limit, not-a-symbol}
 use Rattle.book.proofs.Place.{refused-kinds}
 use Rattle.book.proofs.Written.{read-limits}
+pub use Rattle.book.proofs.Examples.{house-reads, house-serves, useless-refused}
 pub use Rattle.book.proofs.Rules.{rule-below, below-rule}
 pub use Rattle.book.proofs.Unique.{refuses-unique, refuses-not-serves, serves-unique, judged-unique}
 
@@ -35,7 +36,7 @@ module _ {b : List ℕ} where
   pub refuses-number : {answer : Answer} → Refuses b answer → (1 ≤ answer .number) × (answer .number ≤ 6)
   unfolding refusal
   refuses-number (misread e) = ⊎-elim (λ same. omega arith) fault-number (refused-kinds b e .kind)
-  refuses-number (unused e h) = omega arith
+  refuses-number (useless-one e h) = omega arith
 
   pub refuses-some : {answer : Answer} → Refuses b answer → 1 ≤ answer .number
   refuses-some x = refuses-number x .0
@@ -54,8 +55,8 @@ module _ {b : List ℕ} where
 pub record Entry (b : List ℕ) (at A : ℕ) (β : Form) : Type 0 where
   pub place-fits : at < 2566
   pub length-fits : length β ≤ 16
-  pub left : getD b (at + 2) 0 ≡ A
-  pub size : getD b (at + 3) 0 ≡ length β
+  pub left : leftAt b at ≡ A
+  pub size : lengthAt b at ≡ length β
   pub symbols : (i : ℕ) {s : Symbol} → getElem? β i ≡ some s → symbolAt b at i ≡ s
 
 -- the index of a book that serves a grammar
@@ -103,7 +104,7 @@ module _ {b : List ℕ} {g : Grammar} (s : Serves b g) where
 -- books that spell the same are judged alike
 pub judged-alike : (b c : List ℕ) {r : Reading} → spells b ≡ spells c → Judged c r → Judged b r
 judged-alike b c same (refuses (misread e)) = refuses (misread (same ∙ e))
-judged-alike b c same (refuses (unused e h)) = refuses (unused (same ∙ e) h)
+judged-alike b c same (refuses (useless-one e h)) = refuses (useless-one (same ∙ e) h)
 judged-alike b c same (serves s) = serves (record { read = same ∙ s .read; useful = s .useful })
 
 -- a longer book is judged by its first 2,567 bytes

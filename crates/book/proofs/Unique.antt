@@ -1,23 +1,16 @@
--- No contract of the crate allows a second outcome.
+-- Judging allows one outcome only. (A leaf whose contract says `r ≡ f inputs` allows one by `value-unique` of crate sets.)
 use mathlib.Core.Path.{_≡_, ap, ap₂}
 use mathlib.Core.List.{List}
-use Prim.Native.Nat.{ℕ, _+_, _<_}
+use Prim.Native.Nat.{ℕ, _<_}
 use native.Mathlib.Decide.{decLt}
 use native.Mathlib.Omega.{arith}
-use lib.ListN.{getD}
-use Rattle.grammar.specs.declared.Symbol.{Symbol}
 use Rattle.grammar.specs.Grammar.{Grammar}
-use Rattle.sets.specs.declared.Set.{Set}
-use Rattle.sets.proofs.Promise.{value-unique}
 use Rattle.book.specs.declared.Answer.{Answer}
 use Rattle.book.specs.declared.Reading.{Reading}
-use Rattle.book.specs.declared.Verdict.{Verdict}
-use Rattle.book.specs.Answers.{done, refusal, stop}
+use Rattle.book.specs.Answers.{refusal}
 use Rattle.book.specs.Book.{reads, spells}
-use Rattle.book.specs.Fields.{symbolAt}
-use Rattle.book.specs.Judging.{LowestUseless, refusing, indexOf, Refuses, misread, unused, Serves, Judged, refuses, serves}
+use Rattle.book.specs.Judging.{LowestUseless, refusing, indexOf, Refuses, misread, useless-one, Serves, Judged, refuses, serves}
 use Rattle.book.specs.Refusals.{useless}
-use Rattle.book.specs.Verdicts.{verdictOf}
 use Rattle.book.proofs.Bytes.{refused-not-reads}
 
 pub reads-unique : (b : List ℕ) {g h : Grammar} → spells b ≡ reads g → spells b ≡ reads h → g ≡ h
@@ -37,13 +30,13 @@ module _ {b : List ℕ} where
       let numbers : n ≡ m = cc in
       let places : p ≡ q = cc in
       ap₂ (λ (n p : ℕ). refusal n p 0) numbers places
-  refuses-unique (misread e) (unused f h) = absurd (refused-not-reads e f)
-  refuses-unique (unused e h) (misread f) = absurd (refused-not-reads f e)
-  refuses-unique (unused e h) (unused f k) = ap (λ (A : ℕ). refusal useless A 0) (lowest-unique h (rw (← (reads-unique b e f)) at k))
+  refuses-unique (misread e) (useless-one f h) = absurd (refused-not-reads e f)
+  refuses-unique (useless-one e h) (misread f) = absurd (refused-not-reads f e)
+  refuses-unique (useless-one e h) (useless-one f k) = ap (λ (A : ℕ). refusal useless A 0) (lowest-unique h (rw (← (reads-unique b e f)) at k))
 
   pub refuses-not-serves : {r : Answer} {g : Grammar} → Refuses b r → Serves b g → ⊥
   refuses-not-serves (misread e) s = refused-not-reads e (s .read)
-  refuses-not-serves (unused {A = A} e h) s = h .useless (rw (reads-unique b (s .read) e) at (s .useful) .useful A (h .inside))
+  refuses-not-serves (useless-one {A = A} e h) s = h .useless (rw (reads-unique b (s .read) e) at (s .useful) .useful A (h .inside))
 
   pub serves-unique : {g h : Grammar} → Serves b g → Serves b h → g ≡ h
   serves-unique s t = reads-unique b (s .read) (t .read)
@@ -53,25 +46,3 @@ module _ {b : List ℕ} where
   judged-unique (refuses x) (serves y) = absurd (refuses-not-serves x y)
   judged-unique (serves x) (refuses y) = absurd (refuses-not-serves y x)
   judged-unique (serves x) (serves y) = ap indexOf (serves-unique x y)
-
-pub read-unique : (book : List ℕ) {r s : Verdict} → r ≡ verdictOf book → s ≡ verdictOf book → r ≡ s
-read-unique book = value-unique
-
-pub left-at-unique : (book : List ℕ) (at : ℕ) {r s : ℕ} → r ≡ getD book (at + 2) 0 → s ≡ getD book (at + 2) 0 → r ≡ s
-left-at-unique book at = value-unique
-
-pub length-at-unique : (book : List ℕ) (at : ℕ) {r s : ℕ} → r ≡ getD book (at + 3) 0 → s ≡ getD book (at + 3) 0 → r ≡ s
-length-at-unique book at = value-unique
-
-pub symbol-at-unique : (book : List ℕ) (at i : ℕ) {r s : Symbol} → r ≡ symbolAt book at i → s ≡ symbolAt book at i → r ≡ s
-symbol-at-unique book at i = value-unique
-
-pub done-unique : (steps : ℕ) {r s : Answer} → r ≡ done steps → s ≡ done steps → r ≡ s
-done-unique steps = value-unique
-
-pub refusal-unique : (number place detail : ℕ) {r s : Answer} → r ≡ refusal number place detail → s ≡ refusal number place detail → r ≡ s
-refusal-unique number place detail = value-unique
-
-pub stop-unique : (number place detail steps : ℕ) (expected : Set) {r s : Answer}
-    → r ≡ stop number place detail steps expected → s ≡ stop number place detail steps expected → r ≡ s
-stop-unique number place detail steps expected = value-unique

@@ -1,15 +1,13 @@
 -- The answers of document 01, "Refusals and their numbers": number, place, detail, steps, expected set. Fields not named are 0.
 use Prim.Native.Nat.{ℕ}
 use Rattle.sets.specs.declared.Set.{Set}
+pub use Rattle.sets.specs.Calls.{noSet}
 use Rattle.book.specs.declared.Answer.{Answer}
-
--- no member
-abbrev pub noSet : Set
-noSet = record { word = 0 }
+use Rattle.book.specs.Refusals.{served}
 
 -- served, after so many steps
 unfoldable pub done : ℕ → Answer
-done steps = record { number = 0; place = 0; detail = 0; steps = steps; expected = noSet }
+done steps = record { number = served; place = 0; detail = 0; steps = steps; expected = noSet }
 
 -- refused before any step
 unfoldable pub refusal : (number place detail : ℕ) → Answer

@@ -13,13 +13,21 @@ use Rattle.grammar.specs.declared.Symbol.the-variants.{Token, Nonterminal}
 unfoldable pub symbolOfByte : ℕ → Symbol
 symbolOfByte b = elim (ltb b 128) [ true ↦ Token b | false ↦ Nonterminal (b - 128) ]
 
+-- the left side of the record at a place
+abbrev pub leftAt : List ℕ → ℕ → ℕ
+leftAt b at = getD b (at + 2) 0
+
+-- the length of its right side
+abbrev pub lengthAt : List ℕ → ℕ → ℕ
+lengthAt b at = getD b (at + 3) 0
+
 -- symbol i of the record at a place
 unfoldable pub symbolAt : List ℕ → ℕ → ℕ → Symbol
 symbolAt b at i = symbolOfByte (getD b (at + 4 + i) 0)
 
 -- the place after the record at a place
 unfoldable pub placeAfter : List ℕ → ℕ → ℕ
-placeAfter b at = at + 4 + getD b (at + 3) 0
+placeAfter b at = at + 4 + lengthAt b at
 
 -- the place of record p
 unfoldable pub placeOfRecord : List ℕ → ℕ → ℕ

@@ -47,7 +47,7 @@ indexOf g =
 -- the book is refused with this answer, 1 to 5 or 6
 pub data Refuses (book : List ℕ) : Answer → Type 0 where
   misread : {number place : ℕ} → spells book ≡ refused number place → Refuses book (refusal number place 0)
-  unused : {g : Grammar} {A : ℕ} → spells book ≡ reads g → LowestUseless g A → Refuses book (refusal useless A 0)
+  useless-one : {g : Grammar} {A : ℕ} → spells book ≡ reads g → LowestUseless g A → Refuses book (refusal useless A 0)
 
 -- the book spells this grammar and is not refused
 pub record Serves (book : List ℕ) (g : Grammar) : Type 0 where

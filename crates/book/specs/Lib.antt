@@ -1,11 +1,11 @@
 pub mod Answers
 pub mod Book
 pub mod Closure
+pub mod Examples
 pub mod Fields
 pub mod Judging
 pub mod Positional
 pub mod Reader
-pub mod Records
 pub mod Refusals
 pub mod Useful
 pub mod Verdicts

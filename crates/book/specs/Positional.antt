@@ -26,14 +26,14 @@ unfoldable pub isSymbol : (T N : ℕ) → ℕ → Bool
 isSymbol T N byte = elim (ltb byte T) [ true ↦ true | false ↦ leb 128 byte && ltb (byte - 128) N ]
 
 -- the byte at a place is missing, right or wrong
-unfoldable pub judged : List ℕ → Bool → ℕ → ℕ → Verdict
-judged b right refusal at = elim (ltb at (length b)) [ true ↦ elim right [ true ↦ Next (at + 1) | false ↦ Bad refusal at ] | false ↦ Bad short (length b) ]
+unfoldable pub checkedAt : List ℕ → Bool → ℕ → ℕ → Verdict
+checkedAt b right refusal at = elim (ltb at (length b)) [ true ↦ elim right [ true ↦ Next (at + 1) | false ↦ Bad refusal at ] | false ↦ Bad short (length b) ]
 
 unfoldable pub wantedFrom : List ℕ → (low high refusal : ℕ) → Verdict → Verdict
-wantedFrom b low high refusal v = andThen v λ at. judged b (within low high (getD b at 0)) refusal at
+wantedFrom b low high refusal v = andThen v λ at. checkedAt b (within low high (getD b at 0)) refusal at
 
 unfoldable pub symbolFrom : List ℕ → (T N : ℕ) → Verdict → Verdict
-symbolFrom b T N v = andThen v λ at. judged b (isSymbol T N (getD b at 0)) symbol at
+symbolFrom b T N v = andThen v λ at. checkedAt b (isSymbol T N (getD b at 0)) symbol at
 
 unfoldable pub symbolsFrom : List ℕ → (T N : ℕ) → ℕ → Verdict → Verdict
 symbolsFrom b T N zero v = v

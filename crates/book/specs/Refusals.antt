@@ -1,6 +1,9 @@
 -- The numbers of document 01's table of refusals, and the details of refusal 7.
 use Prim.Native.Nat.{ℕ}
 
+abbrev pub served : ℕ
+served = 0
+
 abbrev pub short : ℕ
 short = 1
 

@@ -1,11 +1,11 @@
 ghost use mathlib.Core.Path.{_≡_};
 ghost use Prim.Native.Nat.{_+_, _≤_, _<_, min};
 ghost use lib.ListN.{getD};
-ghost use Rattle.book.specs.Fields.{symbolAt, symbolOfByte, placeAfter, placesOf};
+ghost use Rattle.book.specs.Fields.{leftAt, lengthAt, symbolAt, symbolOfByte, placeAfter, placesOf};
 use grammar::Symbol;
 
 // The byte at place `at + more`, 0 past the end; the sum is never formed where it could wrap.
-pub(crate) fn byte_at(book: &[u8], at: usize, more: usize) -> u8
+pub fn byte_at(book: &[u8], at: usize, more: usize) -> u8
     ensures { λ r. ⌜ r ≡ getD (now (book .entry)) (at + more) 0 ⌝ }
 {
     if at < book.len() {
@@ -20,22 +20,32 @@ pub(crate) fn byte_at(book: &[u8], at: usize, more: usize) -> u8
     }
 }
 
+// The place of record p; 0 past the end.
+pub fn place_at(places: &[u16], p: usize) -> usize
+    ensures { λ r. ⌜ r ≡ getD (now (places .entry)) p 0 ⌝ }
+{
+    if places.len() <= p {
+        return 0;
+    }
+    places[p] as usize
+}
+
 // The left side of the record at `at`.
 pub fn left_at(book: &[u8], at: usize) -> u8
-    ensures { λ r. ⌜ r ≡ getD (now (book .entry)) (at + 2) 0 ⌝ }
+    ensures { λ r. ⌜ r ≡ leftAt (now (book .entry)) at ⌝ }
 {
     byte_at(book, at, 2)
 }
 
 // The length of the right side of the record at `at`.
 pub fn length_at(book: &[u8], at: usize) -> u8
-    ensures { λ r. ⌜ r ≡ getD (now (book .entry)) (at + 3) 0 ⌝ }
+    ensures { λ r. ⌜ r ≡ lengthAt (now (book .entry)) at ⌝ }
 {
     byte_at(book, at, 3)
 }
 
 // The symbol that a byte of a right side stands for.
-fn symbol_of(byte: u8) -> Symbol
+pub fn symbol_of(byte: u8) -> Symbol
     ensures { λ r. ⌜ r ≡ symbolOfByte byte ⌝ }
 {
     if byte < 128 {

@@ -5,9 +5,9 @@ mod closure;
 pub mod fields;
 pub mod judging;
 pub mod refusals;
-pub mod spelling;
+mod spelling;
 mod useful;
-pub mod walk;
+mod walk;
 
 // Number, place, detail, steps and expected set, as the paper's table of refusals has them.
 pub struct Answer {

@@ -1,7 +1,7 @@
 ghost use mathlib.Core.Path.{_≡_};
 ghost use Prim.Native.Nat.{_<_};
 ghost use Rattle.book.specs.Verdicts.{placeOf, verdictOf};
-ghost use Rattle.book.specs.Positional.{within, isSymbol, nextByte, judged, wantedFrom, symbolFrom, symbolsFrom};
+ghost use Rattle.book.specs.Positional.{within, isSymbol, nextByte, checkedAt, wantedFrom, symbolFrom, symbolsFrom};
 ghost use Rattle.book.specs.Positional.{markedFrom, rightFrom, recordFrom, eachRecordFrom, resumedAt, headerFrom, recordsFrom, endFrom};
 use crate::Verdict;
 use crate::fields::byte_at;
@@ -21,7 +21,7 @@ pub(crate) fn place_of(v: Verdict) -> usize
     }
 }
 
-// The byte that is next; 0 after a refusal, so that a refused record counts no symbols.
+// The byte that is next; 0 after a refusal.
 fn next_byte(book: &[u8], v: Verdict) -> u8
     ensures { λ r. ⌜ r ≡ nextByte (now (book .entry)) v ⌝ }
 {
@@ -50,8 +50,8 @@ fn is_symbol(byte: u8, t: u8, n: u8) -> bool
 }
 
 // The verdict on the byte at `at`, once it is known whether that byte is right.
-fn judge(book: &[u8], right: bool, refusal: u32, at: usize) -> Verdict
-    ensures { λ r. ⌜ r ≡ judged (now (book .entry)) right refusal at ⌝ }
+fn checked(book: &[u8], right: bool, refusal: u32, at: usize) -> Verdict
+    ensures { λ r. ⌜ r ≡ checkedAt (now (book .entry)) right refusal at ⌝ }
 {
     if at < book.len() {
         if right {
@@ -71,7 +71,7 @@ fn want(book: &[u8], v: Verdict, low: u8, high: u8, refusal: u32) -> Verdict
     match v {
         Verdict::Next(at) => {
             let right = is_within(byte_at(book, at, 0), low, high);
-            judge(book, right, refusal, at)
+            checked(book, right, refusal, at)
         }
         Verdict::Bad(number, place) => Verdict::Bad(number, place),
     }
@@ -84,7 +84,7 @@ fn symbol(book: &[u8], v: Verdict, t: u8, n: u8) -> Verdict
     match v {
         Verdict::Next(at) => {
             let right = is_symbol(byte_at(book, at, 0), t, n);
-            judge(book, right, SYMBOL, at)
+            checked(book, right, SYMBOL, at)
         }
         Verdict::Bad(number, place) => Verdict::Bad(number, place),
     }

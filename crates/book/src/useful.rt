@@ -4,11 +4,13 @@ ghost use lib.ListN.{getD};
 ghost use Rattle.grammar.specs.Grammar.{Grammar};
 ghost use Rattle.sets.specs.Sets.{width, Exactly};
 ghost use Rattle.sets.specs.Calls.{number, setAt};
+ghost use Rattle.book.specs.Fields.{lengthAt};
 ghost use Rattle.book.specs.Closure.{Adds, Follows};
 ghost use Rattle.book.specs.Useful.{Single, IsNonterminal, NamedAt, RightNames, LeftName, Filled, Sides, LowestMissing, FirstUseless, Indexed};
 use crate::closure::closure;
 use crate::fields::left_at;
 use crate::fields::length_at;
+use crate::fields::place_at;
 use crate::fields::symbol_at;
 use grammar::Symbol;
 use sets::Set;
@@ -18,16 +20,6 @@ use sets::none;
 use sets::store;
 use sets::with;
 use sets::within;
-
-// The place of record p; 0 past the end.
-fn place_at(places: &[u16], p: usize) -> usize
-    ensures { λ r. ⌜ r ≡ getD (now (places .entry)) p 0 ⌝ }
-{
-    if places.len() <= p {
-        return 0;
-    }
-    places[p] as usize
-}
 
 // The set with one member.
 fn single(member: u8) -> Set
@@ -48,7 +40,7 @@ fn with_symbol(names: Set, s: Symbol) -> Set
 
 // The nonterminals on the right side of the record at `at`.
 fn names_at(book: &[u8], at: usize) -> Set
-    ensures { λ r. ⌜ Exactly width (number r) (NamedAt (now (book .entry)) at (getD (now (book .entry)) (at + 3) 0)) ⌝ }
+    ensures { λ r. ⌜ Exactly width (number r) (NamedAt (now (book .entry)) at (lengthAt (now (book .entry)) at)) ⌝ }
 {
     let length = length_at(book, at) as usize;
     let mut names = none();

@@ -43,7 +43,7 @@ pub(crate) fn end<'a>(r: Reader<'a>, v: Verdict) -> Verdict
 }
 
 // The refusal 1 to 5 of a book, or its length as the next place.
-pub fn read(book: &[u8]) -> Verdict
+pub(crate) fn read(book: &[u8]) -> Verdict
     ensures { λ r. ⌜ r ≡ verdictOf (now (book .entry)) ⌝ }
 {
     let front = new(book);

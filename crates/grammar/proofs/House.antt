@@ -4,8 +4,9 @@ use mathlib.Core.Logic.{_↔_}
 use mathlib.Core.List.{List, [], _∷_, map}
 use mathlib.Core.Option.{Option, some, none}
 use Prim.Native.Nat.{ℕ, _<_}
+use lib.Dec.{T}
 use Rattle.grammar.specs.declared.Symbol.the-variants.{Nonterminal}
-use Rattle.grammar.specs.Grammar.{Column, token, endmark, Every, Derivable, done, shift, Complete, Reachable, Useful, WellFormed, Conflict}
+use Rattle.grammar.specs.Grammar.{Column, token, endmark, Every, Derivable, done, shift, Complete, Productive, Reachable, Useful, WellFormed, Conflict}
 use Rattle.grammar.specs.Grammar as textbook
 use Rattle.grammar.specs.House.{house}
 use Rattle.grammar.specs.Machine.{Exact, Accepts, Run, here, match, expand, Stopped, vacant, Longest}
@@ -13,14 +14,22 @@ use Rattle.grammar.proofs.Sets.{FirstOf, FollowOf}
 use Rattle.grammar.proofs.Every.{every-map}
 use Rattle.grammar.proofs.Theorems.{first-exact, follow-exact, useful-reachable, accepts-exactly, exact-no-conflict, viable-prefix, stopped-not-derivable}
 use Rattle.grammar.proofs.Tests.{below, below-each}
-use Rattle.grammar.proofs.Worked.{Entry, In, firstSets, firstTest, followSets, followTest, first-sets-sound, first-test-closed, follow-sets-sound, follow-test-closed, in-every, ruled}
+use Rattle.grammar.proofs.Worked.{Entry, In, rowOf, firstSets, firstTest, followSets, followTest, first-sets-sound, first-test-closed, follow-sets-sound, follow-test-closed, in-every, ruled}
 use Rattle.grammar.proofs.WorkedCells.{workedCell, conflictTest, conflict-test-exact}
-use Rattle.grammar.proofs.WorkedUseful.{productives, usefuls, productives-sound, usefuls-sound, has, has-every}
+use Rattle.grammar.proofs.WorkedUseful.{productives, usefuls, productiveTest, usefulTest, productives-sound, usefuls-sound, productives-exact, usefuls-exact, has, has-every}
 use Rattle.grammar.proofs.WorkedForm.{formTest, form-tested}
 
 pub house-well-formed : WellFormed house
 unfolding house formTest
 house-well-formed = form-tested house tt
+
+unfoldable pub houseProductive : List ℕ
+unfolding house productives
+houseProductive = productives house 3
+
+pub house-productive-exact : (A : ℕ) → T (has houseProductive A) ↔ Productive house A
+unfolding house houseProductive productiveTest
+house-productive-exact = productives-exact house (productives-sound house 3) tt
 
 unfoldable pub houseUseful : List ℕ
 unfolding house productives usefuls
@@ -29,6 +38,10 @@ houseUseful = usefuls house (productives house 3) 3
 all-useful : Every (Useful house) houseUseful
 unfolding houseUseful
 all-useful = usefuls-sound house (productives-sound house 3) tt 3
+
+pub house-useful-exact : (A : ℕ) → T (has houseUseful A) ↔ Useful house A
+unfolding house houseUseful productiveTest usefulTest
+house-useful-exact = usefuls-exact house (productives-sound house 3) tt all-useful tt
 
 -- every nonterminal of H is useful
 pub house-useful : (A : ℕ) → A < house .nonterminals → Useful house A
@@ -56,6 +69,15 @@ house-follow-exact =
     follow-exact (first-test-closed house houseFirst tt)
     (λ A c. in-every (FollowOf house) A c (follow-sets-sound house (first-sets-sound house 3) reachable-left 3))
     (follow-test-closed house houseFirst houseFollow tt)
+
+-- the sets that 01 lists, the end mark of FIRST standing for the empty string
+pub house-first-rows : map (λ A. rowOf A houseFirst) (0 ∷ 1 ∷ 2 ∷ 3 ∷ []) ≡ (token 0 ∷ []) ∷ (token 1 ∷ []) ∷ (endmark ∷ token 2 ∷ []) ∷ (endmark ∷ token 3 ∷ []) ∷ []
+unfolding houseFirst
+house-first-rows = refl
+
+pub house-follow-rows : map (λ A. rowOf A houseFollow) (0 ∷ 1 ∷ 2 ∷ 3 ∷ []) ≡ (endmark ∷ []) ∷ (endmark ∷ []) ∷ (endmark ∷ token 3 ∷ []) ∷ (endmark ∷ []) ∷ []
+unfolding houseFirst houseFollow
+house-follow-rows = refl
 
 -- the rows of the table of H, column by column
 unfoldable pub houseCell : ℕ → Column → Option ℕ

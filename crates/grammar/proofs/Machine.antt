@@ -1,6 +1,7 @@
 -- The LL(1) machine on exact cells: it accepts a string with a list exactly if the list is the string's leftmost derivation, and where it
 -- stops, what it has read is the longest beginning that some derivable string shares.
 use mathlib.Core.Path.{_≡_, refl, sym, _∙_, ap, subst}
+use mathlib.Core.Logic.{_≢_}
 use mathlib.Core.List.{List, [], _∷_, _++_, append-assoc, append-nil}
 use mathlib.Core.Option.{Option, some, none}
 use Prim.Native.Nat.{ℕ}
@@ -11,7 +12,7 @@ use Rattle.grammar.specs.Grammar as textbook
 use Rattle.grammar.specs.Machine.{front, Exact, Run, here, match, expand, Stopped, left-over, unmatched, vacant}
 use Rattle.grammar.proofs.Derivation.{derives-behind}
 use Rattle.grammar.proofs.Leftmost.{derives-leftmost, rule-same}
-use Rattle.grammar.proofs.Unique.{leads-claims, sentential-expand}
+use Rattle.grammar.proofs.Unique.{leads-claims, sentential-expand, claims-same}
 
 front-behind : (u y z : List ℕ) → front y ≡ front z → front (u ++ y) ≡ front (u ++ z)
 front-behind [] y z e = e
@@ -30,6 +31,14 @@ module _ {g : Grammar} {cell : ℕ → Column → Option ℕ} where
       let one : cell (k .row) (k .col) ≡ some (k .one) = claims-cell x (k .claims-one) in
       let other : cell (k .row) (k .col) ≡ some (k .other) = claims-cell x (k .claims-other) in
       k .distinct (cc)
+
+  -- without conflict, cells that hold a claimant wherever there is one, and nothing else, are exact
+  pub cells-exact : ¬ Conflict g → ((A : ℕ) (c : Column) (p : ℕ) → cell A c ≡ some p → Claims g A c p) → ((A : ℕ) (c : Column) (p : ℕ) → Claims g A c p → cell A c ≢ none) → Exact g cell
+  cells-exact n held found = record { cells = λ A c. go A c (cell A c) refl }
+    where
+      go : (A : ℕ) (c : Column) (o : Option ℕ) → cell A c ≡ o → Cell g A c o
+      go A c (some p) e = only (held A c p e) (λ q k. claims-same n k (held A c p e))
+      go A c none e = textbook.vacant (λ q k. found A c q k e)
 
   -- the machine follows a leftmost derivation to its end
   pub run-from : Exact g cell → (x : Form) {α : Form} {ps w : List ℕ} → Sentential g (x ++ α) → Leftmost g α ps w → Run g cell [] α w ps []

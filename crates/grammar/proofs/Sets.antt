@@ -5,7 +5,7 @@ use mathlib.Core.Logic.{_↔_}
 use mathlib.Core.List.{[], _∷_, _++_, append-assoc}
 use Prim.Native.Nat.{ℕ}
 use Rattle.grammar.specs.declared.Symbol.the-variants.{Token, Nonterminal}
-use Rattle.grammar.specs.Grammar.{Form, Grammar, Column, token, endmark, Member, column, empty, Rule, Step, replace, Derives, itself, step, Sentential, First, starts, vanishes, Follow, before, last, Lookahead, Reachable}
+use Rattle.grammar.specs.Grammar.{Form, Grammar, Column, token, endmark, Member, column, empty, Rule, Step, replace, Derives, itself, step, Sentential, First, starts, vanishes, Follow, before, last, Lookahead, Claims, Reachable}
 use Rattle.grammar.specs.Grammar as textbook
 use Rattle.grammar.proofs.Derivation.{derives-trans, derives-before, derives-behind, derives-rule}
 use Rattle.grammar.proofs.Join.{Family, End, ended, Join, over, here, begins, past, Behind, first, later, Cases, own, beyond, Within, left, right, join-map, join-in, join-out, join-cases, join-own, join-beyond, behind-split, behind-at, behind-left, behind-right, behind-append}
@@ -160,3 +160,18 @@ module _ {g : Grammar} where
   pub lookahead-exact : {F W : Family} → ((A : ℕ) (c : Column) → F A c ↔ FirstOf g A c) → ((A : ℕ) (c : Column) → W A c ↔ FollowOf g A c) → {A : ℕ} {α : Form} {c : Column} → Join F (W A) α c ↔ Lookahead g A α (column c)
   lookahead-exact f w {A} =
       (λ j. join-lookahead (join-cases (join-map (λ B c. f B c .0) (λ c. w A c .0) j)), λ l. join-map (λ B c. f B c .1) (λ c. w A c .1) (lookahead-join l))
+
+  -- FIRST never holds the end mark, FOLLOW and a lookahead never the empty string
+  pub first-not-end : {α : Form} → ¬ First g α (column endmark)
+  first-not-end f = elim f [ ]
+
+  pub follow-not-empty : {A : ℕ} → ¬ Follow g A empty
+  follow-not-empty f = elim f [ ]
+
+  pub lookahead-not-empty : {A : ℕ} {α : Form} → ¬ Lookahead g A α empty
+  lookahead-not-empty (textbook.follow v f) = follow-not-empty f
+
+  -- exact families give exact claims
+  pub claims-exact : {F W : Family} → ((A : ℕ) (c : Column) → F A c ↔ FirstOf g A c) → ((A : ℕ) (c : Column) → W A c ↔ FollowOf g A c) → {A p : ℕ} {c : Column} → ((β : Form) × Rule g p A β × Join F (W A) β c) ↔ Claims g A c p
+  claims-exact f w =
+      (λ k. record { right = k .0; rule = k .1; ahead = lookahead-exact f w .0 (k .2) }, λ k. (k .right, k .rule, lookahead-exact f w .1 (k .ahead)))

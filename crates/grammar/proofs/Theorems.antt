@@ -17,11 +17,13 @@ use Rattle.grammar.proofs.Halting.{halts-from}
 -- a list derives one string only
 pub use Rattle.grammar.proofs.Leftmost.{list-string}
 -- FIRST, FOLLOW and lookahead: what is sound and closed is exact, and each single addition is sound
-pub use Rattle.grammar.proofs.Sets.{first-exact, follow-exact, lookahead-exact, first-addition, follow-addition}
--- productive, reachable, useful: the same; and a start that derives nothing makes every nonterminal useless
-pub use Rattle.grammar.proofs.Useful.{productive-addition, productive-complete, useful-addition, useful-complete, useful-start, useful-productive, useful-reachable}
--- exact cells leave no conflict
-pub use Rattle.grammar.proofs.Machine.{exact-no-conflict}
+pub use Rattle.grammar.proofs.Sets.{first-exact, follow-exact, lookahead-exact, claims-exact, first-addition, follow-addition}
+-- FIRST never holds the end mark, FOLLOW and a lookahead never the empty string
+pub use Rattle.grammar.proofs.Sets.{first-not-end, follow-not-empty, lookahead-not-empty}
+-- productive and useful: the same; a start that derives nothing makes every nonterminal useless, and so is one without productions
+pub use Rattle.grammar.proofs.Useful.{productive-exact, productive-addition, useful-exact, useful-addition, useful-start, start-useful, useful-productive, useful-reachable, without-productions}
+-- cells are exact without conflict, and exact cells leave no conflict
+pub use Rattle.grammar.proofs.Machine.{cells-exact, exact-no-conflict}
 -- the place of a syntax stop is determined
 pub use Rattle.grammar.proofs.Place.{place-determined}
 

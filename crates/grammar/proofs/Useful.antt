@@ -1,5 +1,6 @@
 -- Useful symbols: productive, then reachable through productive productions only; what is sound and closed under these is exact.
 use mathlib.Core.Path.{_≡_, refl}
+use mathlib.Core.Logic.{_↔_}
 use mathlib.Core.List.{List, [], _∷_, _++_, append-assoc}
 use Prim.Native.Nat.{ℕ, _<_}
 use Rattle.grammar.specs.declared.Symbol.{Symbol}
@@ -164,3 +165,18 @@ module _ {g : Grammar} where
     -- where every nonterminal is useful, whatever is reachable is productive
     pub useful-all : ((A : ℕ) → A < g .nonterminals → Useful g A) → (A : ℕ) → Reachable g A → Productive g A
     useful-all u A h = useful-productive (u A (reachable-known h))
+
+  -- productive: sound and closed is exact
+  pub productive-exact : {M : ℕ → Type 0} → ((A : ℕ) → M A → Productive g A) → ProductiveClosed g M → (A : ℕ) → M A ↔ Productive g A
+  productive-exact sound M-closed A = (sound A, productive-complete M-closed A)
+
+  -- useful: sound and closed is exact
+  pub useful-exact : {U : ℕ → Type 0} → ((A : ℕ) → U A → Useful g A) → UsefulClosed g U → (A : ℕ) → U A ↔ Useful g A
+  useful-exact sound U-closed A = (sound A, useful-complete U-closed A)
+
+  no-production : {A : ℕ} {ps w : List ℕ} → ((p : ℕ) (β : Form) → ¬ Rule g p A β) → ¬ Leftmost g (Nonterminal A ∷ []) ps w
+  no-production none (expand {p = p} {β = β} r d) = none p β r
+
+  -- a nonterminal without productions is useless
+  pub without-productions : {A : ℕ} → ((p : ℕ) (β : Form) → ¬ Rule g p A β) → ¬ Useful g A
+  without-productions none u = let h = useful-productive u in no-production none (derives-leftmost (h .string) (h .derives) .1)

@@ -112,9 +112,9 @@ module _ (g : Grammar) where
   unfolding productives
   productives-sound n = every-repeated (productivePass (g .productions)) (productive-pass-sound (g .productions) (ruled g)) n [] nothing
 
-  pub productive-exact : {M : List ℕ} → Every (Productive g) M → T (productiveTest M) → (A : ℕ) → T (has M A) ↔ Productive g A
+  pub productives-exact : {M : List ℕ} → Every (Productive g) M → T (productiveTest M) → (A : ℕ) → T (has M A) ↔ Productive g A
   unfolding productiveTest
-  productive-exact {M} h t A = (has-every (Productive g) h A, productive-complete (record { closed = λ {p} {A = B} {β} r k. closed p B β r k }) A)
+  productives-exact {M} h t A = (has-every (Productive g) h A, productive-complete (record { closed = λ {p} {A = B} {β} r k. closed p B β r k }) A)
     where
       closed : (p B : ℕ) (β : Form) → Rule g p B β → Names (λ A. T (has M A)) β → T (has M B)
       closed p B β r k =
@@ -138,14 +138,14 @@ module _ (g : Grammar) where
   unfolding usefuls
   usefuls-sound {M} m s n = every-repeated (usefulPass M (g .productions)) (useful-pass-sound m (g .productions) (ruled g)) n _ (each (start-useful (has-every (Productive g) m (g .start) s)) nothing)
 
-  pub useful-exact : {M U : List ℕ} → Every (Productive g) M → T (productiveTest M) → Every (Useful g) U → T (usefulTest M U) → (A : ℕ) → T (has U A) ↔ Useful g A
+  pub usefuls-exact : {M U : List ℕ} → Every (Productive g) M → T (productiveTest M) → Every (Useful g) U → T (usefulTest M U) → (A : ℕ) → T (has U A) ↔ Useful g A
   unfolding usefulTest
-  useful-exact {M} {U} m mt u t A =
+  usefuls-exact {M} {U} m mt u t A =
       (has-every (Useful g) u A, useful-complete (record { at-start = and-left (has U (g .start)) _ t; closed = λ {p} {A = B} {B = C} {β} {v} b r k i. closed p B C β v b r k i }) A)
     where
       within : (s : Symbol) → Named (Productive g) s → Named (λ A. T (has M A)) s
       within (Token t) n = a-token
-      within (Nonterminal B) (named p) = named (productive-exact m mt B .1 p)
+      within (Nonterminal B) (named p) = named (productives-exact m mt B .1 p)
 
       test : Production → Bool
       test r = not (has U (r .left) && namesIn M (r .right)) || all (has U) (namesOf (r .right))

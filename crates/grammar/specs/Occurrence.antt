@@ -1,4 +1,5 @@
--- Where a nonterminal stands in a form. Document 01, "Sets and table": FOLLOW looks at what comes right after it.
+-- Where a nonterminal stands in a right side, and what comes after it: what working out FOLLOW goes through.
+-- Document 01, "Sets and table".
 use mathlib.Core.List.{_∷_}
 use Prim.Native.Nat.{ℕ}
 use Rattle.grammar.specs.declared.Symbol.{Symbol}

@@ -13,6 +13,10 @@ use Rattle.sets.specs.Sets.{member, Subset, width, emptyString}
 abbrev pub number : Set → ℕ
 number s = s .word
 
+-- the set with no member
+abbrev pub noSet : Set
+noSet = record { word = 0 }
+
 pub record None (r : Set) : Type 0 where
   pub fits : number r < 2 ^ width
   pub members : (k : ℕ) → member k (number r) ≡ false

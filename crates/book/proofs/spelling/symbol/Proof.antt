@@ -1,4 +1,4 @@
--- A next place is judged by its byte, and a refusal stays.
+-- A next place is checkedAt by its byte, and a refusal stays.
 use native.Mathlib.Nat.{add-zero}
 use borrow.Author.Needs.{needs}
 use Rattle.book.specs.Positional.{symbolFrom, andThen}
@@ -14,15 +14,15 @@ byte-at-requires c κs = search needs
 is-symbol-requires : tie.Need-is-symbol-requires
 is-symbol-requires c κs = search needs
 
-judge-requires : tie.Need-judge-requires
-judge-requires c κs = search needs
+checked-requires : tie.Need-checked-requires
+checked-requires c κs = search needs
 
 enum-known-v-2 : tie.Need-enum-known-v-2
 enum-known-v-2 c = search needs
 
 returns : tie.Need-returns
 unfolding symbolFrom andThen
-returns c = simp (c .judge .ensures, c .before .is-symbol .ensures, c .before .before .byte-at .ensures, add-zero, c .before .before .before .before .v .given .1)
+returns c = simp (c .checked .ensures, c .before .is-symbol .ensures, c .before .before .byte-at .ensures, add-zero, c .before .before .before .before .v .given .1)
 
 returns-2 : tie.Need-returns-2
 unfolding symbolFrom andThen
@@ -35,7 +35,7 @@ symbol-spec =
     enum-known-v
     byte-at-requires
     is-symbol-requires
-    judge-requires
+    checked-requires
     enum-known-v-2
     returns
     returns-2)

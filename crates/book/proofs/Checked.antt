@@ -1,5 +1,4 @@
 -- What the positional reader makes of one byte, and that a refusal goes through every part untouched.
--- a refusal goes through untouched
 use mathlib.Core.Path.{_≡_, refl}
 use mathlib.Core.Bool.{Bool, true, false}
 use mathlib.Core.List.{List}
@@ -10,7 +9,7 @@ use borrow.Author.Tests.{lt-ltb, le-ltb}
 use Rattle.book.specs.declared.Verdict.{Verdict}
 use Rattle.book.specs.declared.Verdict.the-variants.{Next, Bad}
 use Rattle.book.specs.Refusals.{short}
-use Rattle.book.specs.Positional.{andThen, nextByte, judged, wantedFrom, symbolFrom}
+use Rattle.book.specs.Positional.{andThen, nextByte, checkedAt, wantedFrom, symbolFrom}
 use Rattle.book.specs.Positional.{symbolsFrom, markedFrom, rightFrom, recordFrom, eachRecordFrom}
 
 abbrev pub Passes : (Verdict → Verdict) → Type 0
@@ -21,17 +20,17 @@ by-cases true so not-so = so refl
 by-cases false so not-so = not-so refl
 
 module _ (b : List ℕ) (right : Bool) (refusal at : ℕ) where
-  pub judged-right : at < length b → right ≡ true → judged b right refusal at ≡ Next (suc at)
-  unfolding judged
-  judged-right h e = simp (judged, lt-ltb at (length b) h, e, add-one)
+  pub checked-right : at < length b → right ≡ true → checkedAt b right refusal at ≡ Next (suc at)
+  unfolding checkedAt
+  checked-right h e = simp (checkedAt, lt-ltb at (length b) h, e, add-one)
 
-  pub judged-wrong : at < length b → right ≡ false → judged b right refusal at ≡ Bad refusal at
-  unfolding judged
-  judged-wrong h e = simp (judged, lt-ltb at (length b) h, e)
+  pub checked-wrong : at < length b → right ≡ false → checkedAt b right refusal at ≡ Bad refusal at
+  unfolding checkedAt
+  checked-wrong h e = simp (checkedAt, lt-ltb at (length b) h, e)
 
-  pub judged-short : length b ≤ at → judged b right refusal at ≡ Bad short (length b)
-  unfolding judged
-  judged-short h = simp (judged, le-ltb at (length b) h)
+  pub checked-short : length b ≤ at → checkedAt b right refusal at ≡ Bad short (length b)
+  unfolding checkedAt
+  checked-short h = simp (checkedAt, le-ltb at (length b) h)
 
 module _ (b : List ℕ) (T N : ℕ) where
   pub symbols-pass : (l : ℕ) → Passes (symbolsFrom b T N l)

@@ -3,8 +3,8 @@ use mathlib.Core.Path.{sym}
 use native.Mathlib.Omega.{arith}
 use lib.ListN.{List·getD-eq-default}
 use borrow.Author.Needs.{needs}
-use Rattle.book.proofs.useful.place_at.Statement.{statement}
-use Rattle.book.proofs.useful.place_at.Tie as tie
+use Rattle.book.proofs.fields.place_at.Statement.{statement}
+use Rattle.book.proofs.fields.place_at.Tie as tie
 
 returns : tie.Need-returns
 returns c = sym (List·getD-eq-default (c .before .args .places .now) 0 (omega arith))
