@@ -1,0 +1,90 @@
+-- The lead's demands 2 and 3 as predicates on outcome functions, whoever wrote them.
+-- Document 01, "How much each promise says", and the demands themselves.
+use mathlib.Core.Path.{_≡_}
+use mathlib.Core.Logic.{_↔_, _⊎_}
+use mathlib.Core.List.{List}
+use Prim.Native.Nat.{ℕ, _+_, _<_, _≤_}
+use lib.ListN.{length, take, getD}
+use Rattle.grammar.specs.Grammar.{Grammar, Complete, Conflict}
+use Rattle.grammar.specs.Machine.{Longest}
+use Rattle.book.specs.declared.Answer.{Answer}
+use Rattle.book.specs.Judging.{Serves}
+use Rattle.book.specs.Refusals.{room, conflict, syntax}
+use Rattle.table.specs.Calls.{over}
+use Rattle.table.specs.Numbers.{FirstSets, FollowSets}
+use Rattle.table.specs.Table.{size, TableOf, BuiltWithoutConflict}
+use Rattle.run.specs.Room.{peak}
+use Rattle.run.specs.Running.{counted, Admits, ran, listedBy, matchedBy}
+
+-- what building leaves: the answer, both set buffers, the table
+pub record Built : Type 0 where
+  pub answer : Answer
+  pub first : List ℕ
+  pub follow : List ℕ
+  pub table : List ℕ
+
+-- what a run leaves: the answer, the stack, the list
+pub record Ran : Type 0 where
+  pub answer : Answer
+  pub stack : List ℕ
+  pub list : List ℕ
+
+-- what an expansion leaves: the answer, the stack, the output
+pub record Expanded : Type 0 where
+  pub answer : Answer
+  pub stack : List ℕ
+  pub output : List ℕ
+
+abbrev pub Builder : Type 0
+Builder = (book first follow table : List ℕ) → Built
+
+abbrev pub Runner : Type 0
+Runner = (book table tokens stack list : List ℕ) → Ran
+
+abbrev pub Expander : Type 0
+Expander = (book list stack output : List ℕ) → Expanded
+
+-- a table built without conflict, and a string of at most 4,096 of its tokens
+pub record Premises (book table tokens : List ℕ) : Type 0 where
+  pub built : BuiltWithoutConflict book table
+  pub short : length tokens ≤ 4096
+  pub known : (i : ℕ) → i < length tokens → getD tokens i 0 < built .grammar .tokens
+
+-- the set buffers and the table buffer have room
+pub record BuildRoom (g : Grammar) (first follow table : List ℕ) : Type 0 where
+  pub first-room : g .nonterminals ≤ length first
+  pub follow-room : g .nonterminals ≤ length follow
+  pub table-room : size g ≤ length table
+
+-- demand 2, sets and table: no member missing, none added; a conflict exactly if two productions claim one cell
+pub record Demand2Build (build : Builder) : Type 0 where
+  pub conflict-iff : (book first follow table : List ℕ) {g : Grammar} → Serves book g → BuildRoom g first follow table → (build book first follow table .answer .number ≡ conflict) ↔ Conflict g
+  pub done-iff : (book first follow table : List ℕ) {g : Grammar} → Serves book g → BuildRoom g first follow table → (build book first follow table .answer .number ≡ 0) ↔ (¬ Conflict g)
+  pub first-sets : (book first follow table : List ℕ) {g : Grammar} → Serves book g → build book first follow table .answer .number ≡ 0 → FirstSets g (take (g .nonterminals) (build book first follow table .first))
+  pub follow-sets : (book first follow table : List ℕ) {g : Grammar} → Serves book g → build book first follow table .answer .number ≡ 0 → FollowSets g (take (g .nonterminals) (build book first follow table .follow))
+  pub cells : (book first follow table : List ℕ) {g : Grammar} → Serves book g → build book first follow table .answer .number ≡ 0 → TableOf g (take (size g) (build book first follow table .table))
+
+-- demand 2, lists: given room and at most 65,535 productions, a complete list expands to the string it derives
+pub record Demand2Expand (expand : Expander) : Type 0 where
+  pub expands : (book stack output : List ℕ) {g : Grammar} {ps w : List ℕ} → Serves book g → (d : Complete g ps w) → length ps ≤ 65535 → peak d ≤ counted stack → length w ≤ counted output → (expand book ps stack output .answer .number ≡ 0) × (expand book ps stack output .output ≡ over w output)
+
+-- and under demand 3's premises and with room, that string runs back to the list
+pub record Demand2Back (run : Runner) : Type 0 where
+  pub back : (book table stack list : List ℕ) {ps w : List ℕ} (h : Premises book table w) (d : Complete (h .built .grammar) ps w) → length ps ≤ counted list → peak d ≤ counted stack → (run book table w stack list .answer .number ≡ 0) × (run book table w stack list .list ≡ over ps list)
+
+-- demand 3
+pub record Demand3 (run : Runner) : Type 0 where
+  -- the run accepts only a string that the start symbol derives; the list it gives is the leftmost derivation
+  pub accepts : (book table tokens stack list : List ℕ) (h : Premises book table tokens) → run book table tokens stack list .answer .number ≡ 0 → (ps : List ℕ) × Complete (h .built .grammar) ps tokens × (run book table tokens stack list .list ≡ over ps list)
+  -- and there is no second one
+  pub only-one : (book table tokens : List ℕ) (h : Premises book table tokens) {ps qs : List ℕ} → Complete (h .built .grammar) ps tokens → Complete (h .built .grammar) qs tokens → ps ≡ qs
+  -- a derivable string is refused only for room
+  pub served-or-room : (book table tokens stack list : List ℕ) (h : Premises book table tokens) {ps : List ℕ} → Complete (h .built .grammar) ps tokens → (run book table tokens stack list .answer .number ≡ 0) ⊎ (run book table tokens stack list .answer .number ≡ room)
+  -- exactly if its derivation has more productions than the list has cells, or the start or a step needs more stack than was lent
+  pub room-iff : (book table tokens stack list : List ℕ) (h : Premises book table tokens) {ps : List ℕ} (d : Complete (h .built .grammar) ps tokens) → (run book table tokens stack list .answer .number ≡ room) ↔ ((counted list < length ps) ⊎ (counted stack < peak d))
+  -- where syntax is the reason, the place is the length of the longest beginning that some derivable string shares
+  pub place : (book table tokens stack list : List ℕ) (h : Premises book table tokens) → run book table tokens stack list .answer .number ≡ syntax → Longest (h .built .grammar) tokens (run book table tokens stack list .answer .place)
+
+-- steps = productions listed + tokens matched, as the definition's machine counts them, on every table that passes 9
+pub record StepsSum (run : Runner) : Type 0 where
+  pub sum : (book table tokens stack list : List ℕ) {g : Grammar} → Serves book g → Admits g table tokens stack → run book table tokens stack list .answer .steps ≡ length (listedBy (ran g table tokens stack list)) + matchedBy (ran g table tokens stack list)

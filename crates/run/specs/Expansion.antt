@@ -1,0 +1,56 @@
+-- The machine that expands a list of productions, on lists, with the room that it is lent. One move is one step.
+-- Document 01, "Running and expanding".
+use mathlib.Core.Bool.{Bool, true, false}
+use mathlib.Core.List.{List, [], _∷_, _++_}
+use Prim.Native.Nat.{ℕ, suc, max}
+use lib.Dec.{leb, ltb}
+use lib.ListN.{length}
+use Rattle.grammar.specs.declared.Symbol.the-variants.{Token, Nonterminal}
+use Rattle.grammar.specs.Grammar.{Form}
+
+-- the tokens written and the productions used so far; the moves made; the greatest height of the stack so far
+pub record Progress : Type 0 where
+  pub written : List ℕ
+  pub used : ℕ
+  pub moves : ℕ
+  pub height : ℕ
+
+-- why the expansion ends: it is complete, the list does not fit, or stack or output is too short
+pub data Ending : Type 0 where
+  complete : Ending
+  unfit : Ending
+  full-stack : Ending
+  full-output : Ending
+
+pub record Expanded : Type 0 where
+  pub ending : Ending
+  pub progress : Progress
+
+unfoldable pub ended : Ending → Progress → Expanded
+ended e s = record { ending = e; progress = s }
+
+unfoldable pub wrote : ℕ → Progress → Progress
+wrote t s = record { written = s .written ++ (t ∷ []); used = s .used; moves = suc (s .moves); height = s .height }
+
+unfoldable pub applied : Form → Progress → Progress
+applied β s = record { written = s .written; used = suc (s .used); moves = suc (s .moves); height = max (s .height) (length β) }
+
+-- whether production p is one of A, its right side, and how many cells of stack and output count as room
+module _ (fits : ℕ → ℕ → Bool) (right : ℕ → Form) (room output : ℕ) where
+  -- tokens on top are written, until the stack is empty or a nonterminal stands on top
+  unfoldable pub writing : (Progress → Expanded) → (ℕ → Form → Progress → Expanded) → Form → Progress → Expanded
+  writing empty apply [] s = empty s
+  writing empty apply (Token t ∷ α) s = elim (ltb (length (s .written)) output) [ true ↦ writing empty apply α (wrote t s) | false ↦ ended full-output s ]
+  writing empty apply (Nonterminal A ∷ α) s = apply A α s
+
+  -- a number that is no production of A does not fit; then the stack must not be too long
+  unfoldable pub applying : (Form → Progress → Expanded) → ℕ → ℕ → Form → Progress → Expanded
+  applying next p A α s =
+      elim (fits A p) [
+        | true ↦ elim (leb (length (right p ++ α)) room) [ true ↦ next (right p ++ α) (applied (right p ++ α) s) | false ↦ ended full-stack s ]
+        | false ↦ ended unfit s
+      ]
+
+  unfoldable pub expandFrom : List ℕ → Form → Progress → Expanded
+  expandFrom [] α s = writing (ended complete) (λ A β s. ended unfit s) α s
+  expandFrom (p ∷ ps) α s = writing (ended unfit) (λ A β s. applying (expandFrom ps) p A β s) α s

@@ -1,0 +1,67 @@
+-- Programs that do no work, each as what it is to the caller: whatever outcome function has the property is one.
+-- Document 01, "How much each promise says", names the demand that each of them breaks.
+use mathlib.Core.Path.{_≡_}
+use mathlib.Core.Logic.{_⊎_, _≢_}
+use mathlib.Core.List.{List, _∷_}
+use Prim.Native.Nat.{ℕ, zero, suc}
+use lib.ListN.{length, getD}
+use Rattle.book.specs.declared.Answer.{Answer}
+use Rattle.book.specs.Answers.{done, stop, noSet}
+use Rattle.book.specs.Refusals.{syntax}
+use Rattle.run.specs.Demands.{Builder, Runner, Expander, Ran, Expanded}
+
+-- it refuses everything, with whatever number
+pub record RefusesEverything (run : Runner) : Type 0 where
+  pub refuses : (book table tokens stack list : List ℕ) → run book table tokens stack list .answer .number ≢ 0
+
+-- it leaves one output, whatever the list
+pub record FixedOutput (expand : Expander) : Type 0 where
+  pub output : List ℕ
+  pub fixed : (book list stack output′ : List ℕ) → expand book list stack output′ .output ≡ output
+
+-- it leaves one list, whatever the tokens
+pub record FixedList (run : Runner) : Type 0 where
+  pub list : List ℕ
+  pub fixed : (book table tokens stack list′ : List ℕ) → run book table tokens stack list′ .list ≡ list
+
+-- it answers what it likes, and leaves the list as it was
+pub record LeavesList (run : Runner) : Type 0 where
+  pub untouched : (book table tokens stack list : List ℕ) → run book table tokens stack list .list ≡ list
+
+-- it answers what it likes, and leaves the table as it was
+pub record LeavesTable (build : Builder) : Type 0 where
+  pub untouched : (book first follow table : List ℕ) → build book first follow table .table ≡ table
+
+-- it accepts or refuses for syntax by the first token, and only its place moves, with the length
+pub record JudgesAtFirst (run : Runner) : Type 0 where
+  pub judges : (book table tokens stack list : List ℕ) → (run book table tokens stack list .answer .number ≡ 0) ⊎ (run book table tokens stack list .answer .number ≡ syntax)
+  pub alike : (book table stack list : List ℕ) (t : ℕ) (u v : List ℕ) → length u ≡ length v → run book table (t ∷ u) stack list .answer ≡ run book table (t ∷ v) stack list .answer
+
+-- the plainest of each kind: one outcome, whatever the call
+unfoldable pub always : Ran → Runner
+always r book table tokens stack list = r
+
+unfoldable pub alwaysExpanded : Expanded → Expander
+alwaysExpanded r book list stack output = r
+
+-- one answer, and every buffer as it was
+unfoldable pub untouching : Answer → Runner
+untouching a book table tokens stack list = record { answer = a; stack = stack; list = list }
+
+unfoldable pub untouchingBuild : Answer → Builder
+untouchingBuild a book first follow table = record { answer = a; first = first; follow = follow; table = table }
+
+-- done if the first token is 0, else syntax, with the length as the place
+unfoldable pub judged : (token length : ℕ) → Answer
+judged zero n = done n
+judged (suc t) n = stop syntax n 0 n noSet
+
+unfoldable pub judgingFirst : Runner
+judgingFirst book table tokens stack list = record { answer = judged (getD tokens 0 1) (length tokens); stack = stack; list = list }
+
+-- it takes the outcome of another and changes the steps
+unfoldable pub changingSteps : (ℕ → ℕ) → Runner → Runner
+changingSteps change run book table tokens stack list =
+    let r = run book table tokens stack list in
+    let a = r .answer in
+    record { answer = record { number = a .number; place = a .place; detail = a .detail; steps = change (a .steps); expected = a .expected }; stack = r .stack; list = r .list }

@@ -1,0 +1,10 @@
+pub mod Demands
+pub mod Examples
+pub mod Expanding
+pub mod Expansion
+pub mod Idle
+pub mod Index
+pub mod Machine
+pub mod Promised
+pub mod Room
+pub mod Running

@@ -1,0 +1,1 @@
+// Running token strings and expanding lists of productions.

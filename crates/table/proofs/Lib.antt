@@ -1,0 +1,16 @@
+pub mod Known
+pub mod Trail
+pub mod Joins
+pub mod Members
+pub mod Additions
+pub mod Passes
+pub mod Closed
+pub mod Cells
+pub mod Unique
+pub mod Outcomes
+pub mod SetAnswers
+pub mod Building
+pub mod Worked
+pub mod Examples
+pub mod Theorems
+pub mod Promise

@@ -1,0 +1,5 @@
+pub mod Calls
+pub mod Numbers
+pub mod Table
+pub mod Trail
+pub mod Examples

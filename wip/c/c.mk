@@ -1,0 +1,65 @@
+# The C side, all built into target/c: tests at the boundary, the example program, benchmark and stack measurement.
+# LIB is the library and CC the compiler; C_LINK takes further flags for linking.
+
+LIB ?= target/libdesk.a
+BISON ?= $(shell command -v bison)
+C_OUT := target/c
+C_FLAGS := -std=c11 -O2 -Wall -Wextra -Wpedantic -Iinclude -Itests/c -Ibench
+C_PLAIN := tests/c/plain.c tests/c/plain.h
+C_LENT := tests/c/lent.c tests/c/lent.h
+C_COMPILE = $(CC) $(C_FLAGS) $(1) -o $@ $(filter %.c,$^) $(LIB) $(C_LINK)
+
+ifneq ($(BISON),)
+C_PARSERS := $(C_OUT)/house.tab.c $(C_OUT)/json.tab.c
+C_BENCH_FLAGS := -DWITH_BISON
+endif
+
+.PHONY: c-test restore bench stack
+
+c-test: $(C_OUT)/examples $(C_OUT)/differential $(C_OUT)/examples-checked $(C_OUT)/differential-checked
+	$(C_OUT)/examples
+	$(C_OUT)/differential
+	$(C_OUT)/examples-checked
+	$(C_OUT)/differential-checked 100000
+
+restore: $(C_OUT)/restore
+
+bench: $(C_OUT)/bench
+	$(C_OUT)/bench
+
+stack: $(C_OUT)/stack
+	$(C_OUT)/stack
+
+$(C_OUT):
+	mkdir -p $@
+
+# The sanitizers' flags, or nothing where the compiler has none or what it makes with them does not run.
+$(C_OUT)/sanitize: | $(C_OUT)
+	@echo 'int main(void) { return 0; }' > $@.c
+	@if $(CC) -fsanitize=address,undefined -o $@.try $@.c 2> /dev/null && $@.try; \
+	then echo '-g -fsanitize=address,undefined -fno-sanitize-recover=all' > $@; else : > $@; fi
+	@rm -f $@.c $@.try
+
+$(C_OUT)/examples: tests/c/examples.c $(C_LENT) include/desk.h $(LIB) | $(C_OUT)
+	$(call C_COMPILE,)
+
+$(C_OUT)/differential: tests/c/differential.c $(C_LENT) $(C_PLAIN) include/desk.h $(LIB) | $(C_OUT)
+	$(call C_COMPILE,)
+
+$(C_OUT)/examples-checked: tests/c/examples.c $(C_LENT) include/desk.h $(LIB) $(C_OUT)/sanitize
+	$(call C_COMPILE,$$(cat $(C_OUT)/sanitize))
+
+$(C_OUT)/differential-checked: tests/c/differential.c $(C_LENT) $(C_PLAIN) include/desk.h $(LIB) $(C_OUT)/sanitize
+	$(call C_COMPILE,$$(cat $(C_OUT)/sanitize))
+
+$(C_OUT)/restore: c/restore.c include/desk.h $(LIB) | $(C_OUT)
+	$(call C_COMPILE,)
+
+$(C_OUT)/stack: tests/c/stack.c include/desk.h $(LIB) | $(C_OUT)
+	$(call C_COMPILE,)
+
+$(C_OUT)/%.tab.c: bench/%.y bench/source.h | $(C_OUT)
+	$(BISON) -Wall -o $@ $<
+
+$(C_OUT)/bench: bench/bench.c bench/source.h $(C_PARSERS) $(C_PLAIN) include/desk.h $(LIB) | $(C_OUT)
+	$(call C_COMPILE,$(C_BENCH_FLAGS))

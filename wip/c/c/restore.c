@@ -1,0 +1,114 @@
+#include "desk.h"
+
+#include <inttypes.h>
+#include <stdio.h>
+#include <stdlib.h>
+#include <string.h>
+
+static const char *const refusals[] = {
+    "done", "a byte of the book is missing", "a mark of the book is wrong", "bytes follow the book",
+    "a limit is exceeded", "a symbol is not of the grammar", "a nonterminal is useless", "a buffer is too small",
+    "a cell has two claimants", "the table does not fit the book", "a token is not of the grammar", "syntax",
+    "a production does not fit",
+};
+
+/* A file's bytes; one byte more than the longest input allowed is kept, so that the desk itself refuses it. */
+struct file {
+    uint8_t bytes[DESK_MOST_CELLS + 1];
+    size_t length;
+};
+
+static struct file book, table, tokens;
+static uint8_t stack[DESK_MOST_CELLS], list[DESK_MOST_CELLS], expanded[DESK_MOST_TOKENS];
+
+static void load(const char *path, struct file *file)
+{
+    FILE *stream = fopen(path, "rb");
+    if (!stream) {
+        perror(path);
+        exit(2);
+    }
+    file->length = fread(file->bytes, 1, sizeof file->bytes, stream);
+    fclose(stream);
+}
+
+/* Reads one of the four little-endian words of an answer: 0 place, 1 detail, 2 steps, 3 expected set. */
+static uint64_t word(const uint8_t *answer, size_t index)
+{
+    uint64_t value = 0;
+    for (size_t i = 8; i > 0; i--)
+        value = value << 8 | answer[8 * index + i - 1];
+    return value;
+}
+
+static int refused(const char *what, uint32_t number, const uint8_t *answer)
+{
+    printf("%s refused with %" PRIu32 ", %s: place %" PRIu64 ", detail %" PRIu64 ", steps %" PRIu64 "\n", what, number,
+           refusals[number], word(answer, 0), word(answer, 1), word(answer, 2));
+    if (number == DESK_SYNTAX) {
+        printf("expected after %" PRIu64 " tokens:", word(answer, 0));
+        for (unsigned token = 0; token < 62; token++)
+            if (word(answer, 3) >> token & 1)
+                printf(" %u", token);
+        printf("%s\n", word(answer, 3) & DESK_END_MARK ? " end" : "");
+    }
+    return 1;
+}
+
+/* Builds the table of the book, which takes N x (T+1) cells. */
+static uint32_t build(uint8_t *answer)
+{
+    uint64_t first[DESK_MOST_NONTERMINALS], follow[DESK_MOST_NONTERMINALS];
+    uint32_t number = desk_build(book.bytes, book.length, first, DESK_MOST_NONTERMINALS, follow, DESK_MOST_NONTERMINALS,
+                                 table.bytes, DESK_MOST_TABLE_CELLS, answer, DESK_ANSWER_SIZE);
+    if (number == DESK_DONE)
+        table.length = (size_t)book.bytes[3] * (book.bytes[2] + 1u);
+    return number;
+}
+
+/* Expands the list back and says whether it gives the tokens it was listed for. */
+static int expand_back(size_t listed, uint8_t *answer)
+{
+    uint32_t number = desk_expand(book.bytes, book.length, list, listed, stack, sizeof stack,
+                                  expanded, sizeof expanded, answer, DESK_ANSWER_SIZE);
+    if (number != DESK_DONE)
+        return refused("expansion", number, answer);
+    size_t written = (size_t)word(answer, 2) - listed;
+    int same = written == tokens.length && memcmp(expanded, tokens.bytes, written) == 0;
+    printf("the list expands to %s tokens\n", same ? "the same" : "other");
+    return same ? 0 : 1;
+}
+
+static int run(uint8_t *answer)
+{
+    uint32_t number = desk_run(book.bytes, book.length, table.bytes, table.length, tokens.bytes, tokens.length,
+                               stack, sizeof stack, list, sizeof list, answer, DESK_ANSWER_SIZE);
+    if (number != DESK_DONE)
+        return refused("run", number, answer);
+    size_t listed = (size_t)word(answer, 2) - tokens.length;
+    printf("run done in %" PRIu64 " steps: %zu tokens derived by %zu productions:", word(answer, 2), tokens.length,
+           listed);
+    for (size_t i = 0; i < listed; i++)
+        printf(" %u", list[i]);
+    printf("\n");
+    return expand_back(listed, answer);
+}
+
+int main(int argc, char **argv)
+{
+    uint8_t answer[DESK_ANSWER_SIZE];
+    if (argc != 4) {
+        fprintf(stderr, "usage: restore BOOK TABLE TOKENS   (TABLE - builds it from the book)\n");
+        return 2;
+    }
+    load(argv[1], &book);
+    load(argv[3], &tokens);
+    if (strcmp(argv[2], "-") != 0)
+        load(argv[2], &table);
+    else {
+        uint32_t number = build(answer);
+        if (number != DESK_DONE)
+            return refused("building", number, answer);
+    }
+    return run(answer);
+}

@@ -1,0 +1,209 @@
+#ifndef DESK_H
+#define DESK_H
+
+#include <stddef.h>
+#include <stdint.h>
+
+#ifdef __cplusplus
+extern "C" {
+#endif
+
+/* The grammar desk reads a grammar book, works out its sets and its LL(1) table, runs token strings and expands
+   production lists. It keeps nothing between calls and allocates nothing: all memory is lent by the caller.
+
+   A book is a string of bytes. It opens with 'G' 'R' and four bytes: T tokens (1 to 62), N nonterminals (1 to 64),
+   the start (below N), P productions (1 to 128). Then come P records: 'P' 'R', the left side (below N), the length
+   L of the right side (0 to 16), and L symbols. A symbol is a token t below T, or 128 + n for a nonterminal n below
+   N. Nothing follows the last record. A production's number is its place among the records, from 0.
+
+   A set is a 64-bit number: bit t for token t, bit 62 for the end mark, bit 63 for the empty string.
+
+   A table is N x (T+1) bytes, row by row: cell A x (T+1) + t is row A, column t, and column T is the end mark. A
+   cell holds the number of a production of its row, or 255 for none.
+
+   Every pointer comes with a length in elements. A null pointer with length 0 is an empty slice; a null pointer
+   with any other length is not allowed. Bytes need no alignment, 64-bit numbers that of uint64_t. Lent buffers must
+   not overlap one another or anything the call reads. What is passed as const is only read.
+
+   Every call returns one of the numbers below and writes four words of 64 bits, lowest byte first whatever the
+   machine, into the lent answer buffer: place, detail, steps and expected set, from bytes 0, 8, 16 and 24. The
+   words that the comments below do not name are 0; after DESK_DONE only the steps of a run or an expansion can be
+   other than 0. The answer is written on every refusal too. Bytes of the answer buffer past 32 stay as they were.
+   An answer buffer of less than 32 bytes gives DESK_ROOM before all else: then nothing is written at all, to the
+   answer buffer or to any other. */
+
+#define DESK_ANSWER_SIZE 32
+#define DESK_MOST_BOOK_BYTES 2566
+#define DESK_MOST_TOKENS 4096
+#define DESK_MOST_CELLS 65535
+#define DESK_MOST_SYMBOLS 16
+#define DESK_MOST_NONTERMINALS 64
+#define DESK_MOST_TABLE_CELLS 4032
+
+#define DESK_NONTERMINAL 128
+#define DESK_NO_PRODUCTION 255
+
+#define DESK_END_MARK (UINT64_C(1) << 62)
+#define DESK_EMPTY_STRING (UINT64_C(1) << 63)
+
+/* The numbers that the calls return. */
+enum {
+    DESK_DONE = 0,
+    DESK_SHORT = 1,
+    DESK_MARK = 2,
+    DESK_EXTRA = 3,
+    DESK_LIMIT = 4,
+    DESK_SYMBOL = 5,
+    DESK_USELESS = 6,
+    DESK_ROOM = 7,
+    DESK_CONFLICT = 8,
+    DESK_TABLE = 9,
+    DESK_TOKEN = 10,
+    DESK_SYNTAX = 11,
+    DESK_PRODUCTION = 12
+};
+
+/* The details of DESK_ROOM: which buffer is too small. */
+enum {
+    DESK_ROOM_STACK = 1,
+    DESK_ROOM_LIST = 2,
+    DESK_ROOM_TOKENS = 3,
+    DESK_ROOM_FIRST = 4,
+    DESK_ROOM_FOLLOW = 5,
+    DESK_ROOM_TABLE = 6
+};
+
+/* Runs a token string over an LL(1) table of the book.
+
+   Refusals, in this order; up to and including the last of this list nothing but the answer changes:
+     the refusals of desk_judge;
+     DESK_TABLE   the table's length is not N x (T+1): place is the length given; or a cell is neither 255 nor a
+                  production of its row: place is the first such cell;
+     DESK_LIMIT   more than 4,096 tokens: place 4,096;
+     DESK_TOKEN   a token is T or above, wherever it stands: place is the index of the first one;
+     DESK_ROOM    the stack has no cell: detail DESK_ROOM_STACK, place 0.
+
+   Then the start symbol is put on the stack, and steps begin. While the stack is not empty, a token on top is
+   matched with the next token and popped, and a nonterminal A on top is replaced: the table's row A and the column
+   of the next token (T if none is left) give a production, which is listed, and whose right side takes A's place,
+   leftmost symbol on top. The run is done when the stack is empty and all tokens are matched. In steps, place is
+   the number of tokens matched:
+     DESK_SYNTAX  a token on top is not the next one: expected set is that token; or the cell is 255: expected set
+                  is the filled columns of row A, the end mark for column T; or the stack is empty with tokens left:
+                  expected set is the end mark;
+     DESK_ROOM    the list is full: detail DESK_ROOM_LIST; else the stack would be too long after the replacement:
+                  detail DESK_ROOM_STACK.
+
+   steps is always productions listed + tokens matched, so the list holds steps - tokens_len productions when done
+   and steps - place when stopped in steps; done, this is the leftmost derivation of the tokens. Once steps have
+   begun, every cell of the stack is 0 after the call, listed cells stay, and list cells beyond them are unchanged.
+
+   Room: at most 65,535 cells of the stack and of the list count, so 65,535 of each is as good as any; a derivation
+   that needs more is refused with DESK_ROOM. Stack cells past 65,535 are zeroed all the same, list cells past it
+   never touched.
+
+   Any table that passes DESK_TABLE is run, whoever made it; desk_build makes the one of the book. */
+uint32_t desk_run(const uint8_t *book, size_t book_len, const uint8_t *table, size_t table_len,
+                  const uint8_t *tokens, size_t tokens_len, uint8_t *stack, size_t stack_len,
+                  uint8_t *list, size_t list_len, uint8_t *answer, size_t answer_len);
+
+/* Expands a list of productions, taken as a leftmost derivation from the start symbol, into the tokens it derives.
+
+   Refusals, in this order; up to and including the last of this list nothing but the answer changes:
+     the refusals of desk_judge;
+     DESK_LIMIT   the list has more than 65,535 productions: place 65,535;
+     DESK_ROOM    the stack has no cell: detail DESK_ROOM_STACK, place 0.
+
+   Then the start symbol is put on the stack, and steps begin: a token on top is popped and written to `tokens`, a
+   nonterminal on top is replaced by the right side of the list's next production, leftmost symbol on top. The
+   expansion is done when the stack is empty and the list used up. In steps:
+     DESK_ROOM        a token is to be written and `tokens` is full: detail DESK_ROOM_TOKENS, place is the number of
+                      productions used;
+     DESK_PRODUCTION  a nonterminal is on top and the list is at its end (place is then list_len), or its next
+                      number is no production of that nonterminal; or the stack is empty with list left over: place
+                      is the list index, which is the number of productions used;
+     DESK_ROOM        the production fits, but the stack would be too long after the replacement: detail
+                      DESK_ROOM_STACK, place is the number of productions used.
+
+   steps is always productions used + tokens written, so steps - list_len tokens are written when done, and
+   steps - place when stopped in steps. Once steps have begun, every cell of the stack is 0 after the call, written
+   tokens stay, and cells beyond them are unchanged.
+
+   Room: at most 65,535 cells of the stack and of `tokens` count, so 65,535 of each is as good as any; 4,096 cells
+   of `tokens` are enough for the list of a run that was done. Stack cells past 65,535 are zeroed all the same,
+   token cells past it never touched. */
+uint32_t desk_expand(const uint8_t *book, size_t book_len, const uint8_t *list, size_t list_len,
+                     uint8_t *stack, size_t stack_len, uint8_t *tokens, size_t tokens_len,
+                     uint8_t *answer, size_t answer_len);
+
+/* Judges a book, and changes nothing but the answer.
+
+   The book's bytes are judged one by one from the front, and the first bad or missing byte decides; place is the
+   offset of that byte:
+     DESK_SHORT    a wanted byte is missing: place is book_len;
+     DESK_MARK     a byte of 'G' 'R' or 'P' 'R' is wrong;
+     DESK_LIMIT    T, N, the start, P or a length is out of range;
+     DESK_SYMBOL   a left side is not below N, or a symbol is not of the grammar;
+     DESK_EXTRA    bytes follow the last record: place is the first of them.
+   Then, of a book whose every byte is right:
+     DESK_USELESS  a nonterminal occurs in no derivation of a token string from the start: place is the lowest such
+                   nonterminal, which is 0 if the start derives no token string at all. */
+uint32_t desk_judge(const uint8_t *book, size_t book_len, uint8_t *answer, size_t answer_len);
+
+/* Works out FIRST and FOLLOW of every nonterminal.
+
+   Refusals, in this order:
+     the refusals of desk_judge;
+     DESK_ROOM     `first` has less than N cells: detail DESK_ROOM_FIRST, place N; else `follow` has less than N
+                   cells: detail DESK_ROOM_FOLLOW, place N.
+   Refused, both buffers are unchanged. Done, cell A of each holds the set of nonterminal A, and cells from N on are
+   unchanged. 64 cells of each are always enough.
+
+   FIRST of A has bit t if A derives something that starts with t, and bit 63 if A derives the empty string. FOLLOW
+   of A has bit t if some sentential form has t right after A, and bit 62 if one ends in A. */
+uint32_t desk_sets(const uint8_t *book, size_t book_len, uint64_t *first, size_t first_len,
+                   uint64_t *follow, size_t follow_len, uint8_t *answer, size_t answer_len);
+
+/* Works out FIRST and FOLLOW and builds the LL(1) table.
+
+   Refusals, in this order:
+     the refusals of desk_judge;
+     DESK_ROOM      `first` has less than N cells: detail DESK_ROOM_FIRST, place N; else `follow` has less than N
+                    cells: detail DESK_ROOM_FOLLOW, place N; else `table` has less than N x (T+1) cells: detail
+                    DESK_ROOM_TABLE, place N x (T+1);
+     DESK_CONFLICT  two productions claim a cell: place is the first such cell, detail is its lowest claimant x 256
+                    + the next lowest.
+   Refused, all three buffers are unchanged. Done, `first` and `follow` are as after desk_sets, the first N x (T+1)
+   cells of `table` hold the table, and cells beyond are unchanged. 64, 64 and 4,032 cells are always enough;
+   desk_run wants the table with exactly N x (T+1) cells.
+
+   A production of A claims row A in the columns of its lookahead. */
+uint32_t desk_build(const uint8_t *book, size_t book_len, uint64_t *first, size_t first_len,
+                    uint64_t *follow, size_t follow_len, uint8_t *table, size_t table_len,
+                    uint8_t *answer, size_t answer_len);
+
+/* Works out the lookahead of one production: FIRST of its right side without bit 63, with FOLLOW of its left side
+   added if the right side can vanish.
+
+   `set` without a cell gives DESK_ROOM before all else, with nothing written, as a short answer buffer does. Then:
+     the refusals of desk_judge;
+     DESK_PRODUCTION  the number is not below P: place is that number.
+   The first cell of `set` holds the lookahead, or 0 if refused; cells beyond it are unchanged. */
+uint32_t desk_lookahead(const uint8_t *book, size_t book_len, uint64_t production,
+                        uint64_t *set, size_t set_len, uint8_t *answer, size_t answer_len);
+
+/* Works out FIRST of a symbol string; of the empty one it is bit 63.
+
+   `set` without a cell gives DESK_ROOM before all else, with nothing written, as a short answer buffer does. Then:
+     the refusals of desk_judge;
+     DESK_LIMIT    more than 16 symbols: place 16;
+     DESK_SYMBOL   a symbol is not of the grammar: place is the index of the first one.
+   The first cell of `set` holds FIRST of the string, or 0 if refused; cells beyond it are unchanged. */
+uint32_t desk_first_of(const uint8_t *book, size_t book_len, const uint8_t *symbols, size_t symbols_len,
+                       uint64_t *set, size_t set_len, uint8_t *answer, size_t answer_len);
+
+#ifdef __cplusplus
+}
+#endif
+
+#endif

@@ -1,0 +1,232 @@
+#define _XOPEN_SOURCE 700
+#define _DEFAULT_SOURCE
+
+#include "desk.h"
+
+#include <stdio.h>
+#include <stdlib.h>
+#include <string.h>
+#include <sys/mman.h>
+#include <ucontext.h>
+#include <unistd.h>
+
+enum { STACK_SIZE = 1 << 24 };
+
+#define N(nonterminal) (DESK_NONTERMINAL + (nonterminal))
+
+static const uint64_t paint = UINT64_C(0xA5C3E1970F2D4B69);
+
+static uint64_t *painted;
+static ucontext_t outside, inside;
+static void (*measured)(void);
+static uint32_t number;
+
+/* What the calls are lent; each measured input sets the book, the table and the strings it needs. */
+static uint8_t book[DESK_MOST_BOOK_BYTES];
+static size_t book_length;
+static uint8_t table[DESK_MOST_TABLE_CELLS];
+static size_t table_length;
+static uint8_t tokens[DESK_MOST_CELLS], list[DESK_MOST_CELLS], stack[DESK_MOST_CELLS];
+static size_t tokens_length, list_length;
+static uint64_t first[DESK_MOST_NONTERMINALS], follow[DESK_MOST_NONTERMINALS], set[1];
+static uint8_t answer[DESK_ANSWER_SIZE];
+
+static const uint8_t house[] = {
+    'G', 'R', 4, 4, 0, 6,
+    'P', 'R', 0, 2, 0, N(1),
+    'P', 'R', 1, 3, 1, N(2), N(3),
+    'P', 'R', 2, 2, 2, 1,
+    'P', 'R', 2, 0,
+    'P', 'R', 3, 2, 3, N(1),
+    'P', 'R', 3, 0,
+};
+
+static const uint8_t growing[] = { 'G', 'R', 1, 1, 0, 2, 'P', 'R', 0, 2, N(0), 0, 'P', 'R', 0, 1, 0 };
+
+static void call_nothing(void)
+{
+    number = DESK_DONE;
+}
+
+static void call_judge(void)
+{
+    number = desk_judge(book, book_length, answer, sizeof answer);
+}
+
+static void call_sets(void)
+{
+    number = desk_sets(book, book_length, first, DESK_MOST_NONTERMINALS, follow, DESK_MOST_NONTERMINALS,
+                       answer, sizeof answer);
+}
+
+static void call_build(void)
+{
+    number = desk_build(book, book_length, first, DESK_MOST_NONTERMINALS, follow, DESK_MOST_NONTERMINALS,
+                        table, sizeof table, answer, sizeof answer);
+}
+
+static void call_lookahead(void)
+{
+    number = desk_lookahead(book, book_length, 0, set, 1, answer, sizeof answer);
+}
+
+static void call_first_of(void)
+{
+    static const uint8_t symbols[] = { N(0), 0, N(0) };
+    number = desk_first_of(book, book_length, symbols, sizeof symbols, set, 1, answer, sizeof answer);
+}
+
+static void call_run(void)
+{
+    number = desk_run(book, book_length, table, table_length, tokens, tokens_length, stack, sizeof stack,
+                      list, sizeof list, answer, sizeof answer);
+}
+
+static void call_expand(void)
+{
+    number = desk_expand(book, book_length, list, list_length, stack, sizeof stack, tokens, sizeof tokens,
+                         answer, sizeof answer);
+}
+
+static void enter(void)
+{
+    measured();
+}
+
+static void give_up(const char *what)
+{
+    perror(what);
+    exit(2);
+}
+
+/* Maps the stack to be painted, with a page below it that stops a call which goes too deep. */
+static void map_stack(void)
+{
+    size_t page = (size_t)sysconf(_SC_PAGESIZE);
+    uint8_t *memory = mmap(NULL, STACK_SIZE + page, PROT_READ | PROT_WRITE, MAP_PRIVATE | MAP_ANONYMOUS, -1, 0);
+    if (memory == MAP_FAILED || mprotect(memory, page, PROT_NONE) != 0)
+        give_up("mmap");
+    painted = (uint64_t *)(void *)(memory + page);
+}
+
+/* Paints the stack, makes the call on it and returns how far from its top the paint is gone; what a call sets aside
+   at the far end without writing to it is not seen. */
+static size_t depth_of(void (*call)(void))
+{
+    size_t words = STACK_SIZE / sizeof *painted, untouched = 0;
+    for (size_t i = 0; i < words; i++)
+        painted[i] = paint;
+    measured = call;
+    if (getcontext(&inside) != 0)
+        give_up("getcontext");
+    inside.uc_stack.ss_sp = painted;
+    inside.uc_stack.ss_size = STACK_SIZE;
+    inside.uc_link = &outside;
+    makecontext(&inside, enter, 0);
+    if (swapcontext(&outside, &inside) != 0)
+        give_up("swapcontext");
+    while (untouched < words && painted[untouched] == paint)
+        untouched++;
+    return (words - untouched) * sizeof *painted;
+}
+
+/* Measures a call after it was made once, so that the loader has done its part, and takes off what no call takes. */
+static void print_depth(const char *name, const char *input, void (*call)(void))
+{
+    call();
+    size_t depth = depth_of(call);
+    uint32_t answered = number;
+    printf("%-15s %-36s %8zu bytes, number %u\n", name, input, depth - depth_of(call_nothing), (unsigned)answered);
+}
+
+static void print_book_depths(const char *input)
+{
+    print_depth("desk_judge", input, call_judge);
+    print_depth("desk_sets", input, call_sets);
+    print_depth("desk_build", input, call_build);
+    print_depth("desk_lookahead", input, call_lookahead);
+    print_depth("desk_first_of", input, call_first_of);
+}
+
+static void set_book(const uint8_t *bytes, size_t length)
+{
+    memcpy(book, bytes, length);
+    book_length = length;
+    table_length = (size_t)book[3] * (book[2] + 1u);
+}
+
+/* The longest book, in which each nonterminal begins with the next one. */
+static void set_longest(void)
+{
+    const uint8_t header[] = { 'G', 'R', 62, 64, 0, 128 };
+    set_book(header, sizeof header);
+    book_length = sizeof book;
+    for (size_t p = 0; p < 128; p++) {
+        const uint8_t opening[] = { 'P', 'R', (uint8_t)(p / 2), DESK_MOST_SYMBOLS };
+        uint8_t *record = book + sizeof header + 20 * p;
+        memcpy(record, opening, sizeof opening);
+        memset(record + sizeof opening, 61, DESK_MOST_SYMBOLS);
+        if (p % 2 == 0 && p < 120)
+            record[4] = (uint8_t)N(p / 2 + 1);
+        else if (p < 120)
+            record[4] = (uint8_t)(p / 2);
+        else
+            record[4] = (uint8_t)(60 + p % 2);
+    }
+    for (size_t i = 1; i <= 3; i++)
+        book[sizeof header + 20 * 120 + 4 + i] = (uint8_t)N(60 + i);
+}
+
+/* The chain of 16 nonterminals, each twice the next one, that vanishes in 65,535 productions. */
+static void set_tree(void)
+{
+    const uint8_t header[] = { 'G', 'R', 1, 16, 0, 16 };
+    set_book(header, sizeof header);
+    for (size_t n = 0; n < 16; n++) {
+        const uint8_t record[] = { 'P', 'R', (uint8_t)n, n < 15 ? 2 : 0, (uint8_t)N(n + 1), (uint8_t)N(n + 1) };
+        size_t size = n < 15 ? sizeof record : 4;
+        memcpy(book + book_length, record, size);
+        book_length += size;
+    }
+}
+
+static void print_run_depths(void)
+{
+    static const uint8_t order[] = { 0, 1, 2, 1, 3, 1 };
+    static const uint8_t list_of_order[] = { 0, 1, 2, 4, 1, 3, 5 };
+    set_book(house, sizeof house);
+    call_build();
+    memcpy(tokens, order, sizeof order);
+    tokens_length = sizeof order;
+    print_depth("desk_run", "house, 6 tokens", call_run);
+    memcpy(list, list_of_order, sizeof list_of_order);
+    list_length = sizeof list_of_order;
+    print_depth("desk_expand", "house, 7 productions", call_expand);
+    for (size_t i = 0; i < DESK_MOST_TOKENS; i += 2) {
+        tokens[i] = i == 0 ? 0 : 3;
+        tokens[i + 1] = 1;
+    }
+    tokens_length = DESK_MOST_TOKENS;
+    print_depth("desk_run", "house, 4096 tokens", call_run);
+    set_tree();
+    call_build();
+    tokens_length = 0;
+    print_depth("desk_run", "tree, 65535 productions", call_run);
+    list_length = DESK_MOST_CELLS;
+    print_depth("desk_expand", "tree, 65535 productions", call_expand);
+    set_book(growing, sizeof growing);
+    memset(list, 0, sizeof list);
+    list[sizeof list - 1] = 1;
+    print_depth("desk_expand", "65535 productions, stack and tokens", call_expand);
+}
+
+int main(void)
+{
+    map_stack();
+    set_book(house, sizeof house);
+    print_book_depths("house");
+    set_longest();
+    print_book_depths("longest book");
+    print_run_depths();
+    return 0;
+}
