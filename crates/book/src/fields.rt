@@ -21,13 +21,13 @@ pub fn byte_at(book: &[u8], at: usize, more: usize) -> u8
 }
 
 // The place of record p; 0 past the end.
-pub fn place_at(places: &[u16], p: usize) -> usize
+pub fn place_at(places: &[u16], p: usize) -> u16
     ensures { λ r. ⌜ r ≡ getD (now (places .entry)) p 0 ⌝ }
 {
     if places.len() <= p {
         return 0;
     }
-    places[p] as usize
+    places[p]
 }
 
 // The left side of the record at `at`.

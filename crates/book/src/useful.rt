@@ -60,7 +60,7 @@ fn right_names(book: &[u8], places: &[u16], count: usize) -> [u64; 128]
     let mut cells = [0u64; 128];
     let mut p: usize = 0;
     while p < count {
-        store(&mut cells, p, names_at(book, place_at(places, p)));
+        store(&mut cells, p, names_at(book, place_at(places, p) as usize));
         p += 1;
     }
     cells
@@ -74,7 +74,11 @@ fn left_names(book: &[u8], places: &[u16], count: usize) -> [u64; 128]
     let mut cells = [0u64; 128];
     let mut p: usize = 0;
     while p < count {
-        store(&mut cells, p, single(left_at(book, place_at(places, p))));
+        store(
+            &mut cells,
+            p,
+            single(left_at(book, place_at(places, p) as usize)),
+        );
         p += 1;
     }
     cells

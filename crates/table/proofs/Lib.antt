@@ -10,6 +10,15 @@ pub mod Unique
 pub mod Outcomes
 pub mod SetAnswers
 pub mod Building
+pub mod Spelled
+pub mod Growth
+pub mod Rounds
+pub mod Found
+pub mod Seeking
+pub mod Claimed
+pub mod Answering
+pub mod SymbolStrings
+pub mod SetAnswering
 pub mod Worked
 pub mod Examples
 pub mod Theorems

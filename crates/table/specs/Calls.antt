@@ -13,6 +13,8 @@ use Rattle.book.specs.declared.Answer.{Answer}
 use Rattle.book.specs.Answers.{done, refusal, noSet}
 use Rattle.book.specs.Book.{symbolOf}
 use Rattle.book.specs.Judging.{Refuses, Serves}
+use Rattle.book.specs.Refusals.{limit, symbol, room, firstRoom, followRoom, tableRoom}
+use Rattle.book.specs.Refusals as refusals
 use Rattle.table.specs.declared.SetAnswer.{SetAnswer}
 use Rattle.table.specs.Numbers.{IsSet, FirstSets, FollowSets}
 use Rattle.table.specs.Table.{size, TableOf, FirstConflict}
@@ -23,8 +25,8 @@ over cells buffer = cells ++ drop (length cells) buffer
 
 -- both set buffers have room for N sets, or the first that has not is named
 pub data SetsRoom (g : Grammar) (first follow : List ℕ) : Answer → Type 0 where
-  no-first : length first < g .nonterminals → SetsRoom g first follow (refusal 7 (g .nonterminals) 4)
-  no-follow : g .nonterminals ≤ length first → length follow < g .nonterminals → SetsRoom g first follow (refusal 7 (g .nonterminals) 5)
+  no-first : length first < g .nonterminals → SetsRoom g first follow (refusal room (g .nonterminals) firstRoom)
+  no-follow : g .nonterminals ≤ length first → length follow < g .nonterminals → SetsRoom g first follow (refusal room (g .nonterminals) followRoom)
 
 pub record SetsFit (g : Grammar) (first follow : List ℕ) : Type 0 where
   pub first-fits : g .nonterminals ≤ length first
@@ -40,8 +42,8 @@ pub data SetsOutcome (book first follow : List ℕ) : Answer → List ℕ → Li
 pub data BuildOutcome (book first follow table : List ℕ) : Answer → List ℕ → List ℕ → List ℕ → Type 0 where
   refused : {a : Answer} → Refuses book a → BuildOutcome book first follow table a first follow table
   no-room : {g : Grammar} {a : Answer} → Serves book g → SetsRoom g first follow a → BuildOutcome book first follow table a first follow table
-  no-table : {g : Grammar} → Serves book g → SetsFit g first follow → length table < size g → BuildOutcome book first follow table (refusal 7 (size g) 6) first follow table
-  conflict : {g : Grammar} {i p q : ℕ} → Serves book g → SetsFit g first follow → size g ≤ length table → FirstConflict g i p q → BuildOutcome book first follow table (refusal 8 i (p * 256 + q)) first follow table
+  no-table : {g : Grammar} → Serves book g → SetsFit g first follow → length table < size g → BuildOutcome book first follow table (refusal room (size g) tableRoom) first follow table
+  conflict : {g : Grammar} {i p q : ℕ} → Serves book g → SetsFit g first follow → size g ≤ length table → FirstConflict g i p q → BuildOutcome book first follow table (refusal refusals.conflict i (p * 256 + q)) first follow table
   served : {g : Grammar} {xs ys cells : List ℕ} → Serves book g → SetsFit g first follow → size g ≤ length table → FirstSets g xs → FollowSets g ys → TableOf g cells → BuildOutcome book first follow table (done 0) (over xs first) (over ys follow) (over cells table)
 
 -- the set of an answer that is done; 0 with a refusal
@@ -56,7 +58,7 @@ pub record NoSet (a : Answer) (r : SetAnswer) : Type 0 where
 -- the lookahead of a production
 pub data LookaheadOutcome (book : List ℕ) (production : ℕ) (r : SetAnswer) : Type 0 where
   refused : {a : Answer} → Refuses book a → NoSet a r → LookaheadOutcome book production r
-  no-production : {g : Grammar} → Serves book g → length (g .productions) ≤ production → NoSet (refusal 12 production 0) r → LookaheadOutcome book production r
+  no-production : {g : Grammar} → Serves book g → length (g .productions) ≤ production → NoSet (refusal refusals.production production 0) r → LookaheadOutcome book production r
   served : {g : Grammar} {A : ℕ} {α : Form} → Serves book g → Rule g production A α → SetIs (Lookahead g A α) r → LookaheadOutcome book production r
 
 -- the bytes before index i are symbols of the grammar, that at i is not
@@ -68,6 +70,6 @@ pub record FirstStranger (g : Grammar) (symbols : List ℕ) (i : ℕ) : Type 0 w
 -- FIRST of a symbol string
 pub data FirstOutcome (book symbols : List ℕ) (r : SetAnswer) : Type 0 where
   refused : {a : Answer} → Refuses book a → NoSet a r → FirstOutcome book symbols r
-  too-long : {g : Grammar} → Serves book g → 16 < length symbols → NoSet (refusal 4 16 0) r → FirstOutcome book symbols r
-  strange : {g : Grammar} {i : ℕ} → Serves book g → length symbols ≤ 16 → FirstStranger g symbols i → NoSet (refusal 5 i 0) r → FirstOutcome book symbols r
+  too-long : {g : Grammar} → Serves book g → 16 < length symbols → NoSet (refusal limit 16 0) r → FirstOutcome book symbols r
+  strange : {g : Grammar} {i : ℕ} → Serves book g → length symbols ≤ 16 → FirstStranger g symbols i → NoSet (refusal symbol i 0) r → FirstOutcome book symbols r
   served : {g : Grammar} {α : Form} → Serves book g → length symbols ≤ 16 → map (symbolOf (g .tokens) (g .nonterminals)) symbols ≡ map some α → SetIs (First g α) r → FirstOutcome book symbols r

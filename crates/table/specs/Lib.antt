@@ -1,5 +1,9 @@
 pub mod Calls
+pub mod Checks
+pub mod Claims
+pub mod Examples
+pub mod Forms
 pub mod Numbers
+pub mod Steps
 pub mod Table
 pub mod Trail
-pub mod Examples

@@ -1,8 +1,158 @@
+ghost use Rattle.table.specs.Calls.{SetsOutcome, BuildOutcome, NoSet, LookaheadOutcome, FirstOutcome};
+ghost use Rattle.table.specs.Checks.{Fillable};
+use crate::ahead::lookahead_at;
+use crate::ahead::lookaheads;
+use crate::checks::numbered;
+use crate::checks::room;
+use crate::checks::spelled;
+use crate::claims::first_conflict;
+use crate::claims::write_table;
+use crate::families::copy;
+use crate::families::single;
+use crate::first::firsts;
+use crate::follow::follows;
+use crate::forms::trail_of;
 use book::Answer;
+use book::Reading;
+use book::fields::place_at;
+use book::judging::judge;
+use book::refusals::DONE;
+use book::refusals::FIRST_ROOM;
+use book::refusals::FOLLOW_ROOM;
+use book::refusals::TABLE_ROOM;
+use sets::EMPTY_STRING;
 use sets::Set;
+use sets::none;
+
+mod ahead;
+mod checks;
+mod claims;
+mod families;
+mod first;
+mod follow;
+mod forms;
 
 // An answer with its set: a lookahead, or FIRST of a symbol string.
 pub struct SetAnswer {
     pub answer: Answer,
     pub set: Set,
+}
+
+// FIRST and FOLLOW of each nonterminal into the lent buffers.
+pub fn sets(book: &[u8], first: &mut [u64], follow: &mut [u64]) -> Answer
+    ensures { λ r. ⌜ SetsOutcome (now (book .entry)) (now (first .entry)) (now (follow .entry)) r (now (first .exit)) (now (follow .exit)) ⌝ }
+{
+    let reading = judge(book);
+    let judged = reading.answer;
+    let places = reading.places;
+    let count = reading.productions as usize;
+    let n = reading.nonterminals as usize;
+    let answer = room(
+        room(judged, first.len(), n, FIRST_ROOM),
+        follow.len(),
+        n,
+        FOLLOW_ROOM,
+    );
+    if answer.number == DONE {
+        let begins = firsts(book, &places, count);
+        let ends = follows(book, &places, count, reading.start, &begins);
+        copy(&begins, n, first);
+        copy(&ends, n, follow);
+    }
+    answer
+}
+
+// The sets and the table of a book with room for them, unless two productions claim one cell: nothing is written before that is known.
+fn fill(
+    book: &[u8],
+    reading: Reading,
+    first: &mut [u64],
+    follow: &mut [u64],
+    table: &mut [u8],
+) -> Answer
+    requires { ⌜ Fillable (now book) reading (now first) (now follow) (now table) ⌝ }
+    ensures { λ r. ⌜ BuildOutcome (now (book .entry)) (now (first .entry)) (now (follow .entry)) (now (table .entry)) r (now (first .exit)) (now (follow .exit)) (now (table .exit)) ⌝ }
+{
+    let places = reading.places;
+    let count = reading.productions as usize;
+    let n = reading.nonterminals as usize;
+    let tokens = reading.tokens;
+    let cells = n * (tokens as usize + 1);
+    let begins = firsts(book, &places, count);
+    let ends = follows(book, &places, count, reading.start, &begins);
+    let ahead = lookaheads(book, &places, count, &begins, &ends);
+    let answer = first_conflict(book, &places, &ahead, count, tokens, cells);
+    if answer.number == DONE {
+        copy(&begins, n, first);
+        copy(&ends, n, follow);
+        write_table(book, &places, &ahead, count, tokens, cells, table);
+    }
+    answer
+}
+
+// The sets and the table into the lent buffers.
+pub fn build(book: &[u8], first: &mut [u64], follow: &mut [u64], table: &mut [u8]) -> Answer
+    ensures { λ r. ⌜ BuildOutcome (now (book .entry)) (now (first .entry)) (now (follow .entry)) (now (table .entry)) r (now (first .exit)) (now (follow .exit)) (now (table .exit)) ⌝ }
+{
+    let reading = judge(book);
+    let judged = reading.answer;
+    let n = reading.nonterminals as usize;
+    let cells = n * (reading.tokens as usize + 1);
+    let roomy = room(
+        room(judged, first.len(), n, FIRST_ROOM),
+        follow.len(),
+        n,
+        FOLLOW_ROOM,
+    );
+    let answer = room(roomy, table.len(), cells, TABLE_ROOM);
+    if answer.number == DONE {
+        fill(book, reading, first, follow, table)
+    } else {
+        answer
+    }
+}
+
+// With a refusal the set is 0.
+fn refused(answer: Answer) -> SetAnswer
+    ensures { λ r. ⌜ NoSet answer r ⌝ }
+{
+    SetAnswer {
+        answer,
+        set: none(),
+    }
+}
+
+// The lookahead of a production.
+pub fn lookahead(book: &[u8], production: u64) -> SetAnswer
+    ensures { λ r. ⌜ LookaheadOutcome (now (book .entry)) production r ⌝ }
+{
+    let reading = judge(book);
+    let judged = reading.answer;
+    let answer = numbered(judged, production, reading.productions);
+    if answer.number != DONE {
+        return refused(answer);
+    }
+    let places = reading.places;
+    let count = reading.productions as usize;
+    let begins = firsts(book, &places, count);
+    let ends = follows(book, &places, count, reading.start, &begins);
+    let set = lookahead_at(book, place_at(&places, production as usize), &begins, &ends);
+    SetAnswer { answer, set }
+}
+
+// FIRST of a symbol string.
+pub fn first_of(book: &[u8], symbols: &[u8]) -> SetAnswer
+    ensures { λ r. ⌜ FirstOutcome (now (book .entry)) (now (symbols .entry)) r ⌝ }
+{
+    let reading = judge(book);
+    let judged = reading.answer;
+    let answer = spelled(judged, symbols, reading.tokens, reading.nonterminals);
+    if answer.number != DONE {
+        return refused(answer);
+    }
+    let places = reading.places;
+    let begins = firsts(book, &places, reading.productions as usize);
+    let begun = trail_of(symbols, 0, symbols.len(), &begins, single(EMPTY_STRING));
+    let set = begun.set;
+    SetAnswer { answer, set }
 }

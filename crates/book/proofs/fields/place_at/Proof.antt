@@ -15,12 +15,9 @@ mul-result c = search needs
 shared-slice-read-result : tie.Need-shared-slice-read-result
 shared-slice-read-result c = search needs
 
-cast-result : tie.Need-cast-result
-cast-result c = omega (arith, c .shared-slice-known .given (c .before .before .args .p))
-
 returns-2 : tie.Need-returns-2
 returns-2 c = search needs
 
 pub place-at-spec : {M : Type 1} → statement M
 place-at-spec =
-    tie.close (tie.spec returns mul-result shared-slice-read-result cast-result returns-2)
+    tie.close (tie.spec returns mul-result shared-slice-read-result returns-2)

@@ -23,6 +23,9 @@ slice-aggregate-store c = sym (c .before .before .loop .inv .1 .size)
 place-at-requires : tie.Need-place-at-requires Inv-loop μ-loop
 place-at-requires c κs = search needs
 
+cast-left-at : tie.Need-cast-left-at Inv-loop μ-loop
+cast-left-at c = search needs
+
 left-at-requires : tie.Need-left-at-requires Inv-loop μ-loop
 left-at-requires c κs = search needs
 
@@ -53,6 +56,7 @@ left-names-spec =
     loop-holds
     slice-aggregate-store
     place-at-requires
+    cast-left-at
     left-at-requires
     single-requires
     store-requires

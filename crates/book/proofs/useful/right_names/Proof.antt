@@ -23,6 +23,9 @@ slice-aggregate-store c = sym (c .before .before .loop .inv .1 .size)
 place-at-requires : tie.Need-place-at-requires Inv-loop μ-loop
 place-at-requires c κs = search needs
 
+cast-names-at : tie.Need-cast-names-at Inv-loop μ-loop
+cast-names-at c = search needs
+
 names-at-requires : tie.Need-names-at-requires Inv-loop μ-loop
 names-at-requires c κs = search needs
 
@@ -50,6 +53,7 @@ right-names-spec =
     loop-holds
     slice-aggregate-store
     place-at-requires
+    cast-names-at
     names-at-requires
     store-requires
     add-p

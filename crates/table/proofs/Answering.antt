@@ -1,0 +1,194 @@
+-- From what the functions find to the outcomes that they promise: a judged book, the checks on it, and what is written.
+use mathlib.Core.Path.{_≡_, refl, ap}
+use mathlib.Core.Logic.{_≢_}
+use mathlib.Core.List.{List}
+use Prim.Native.Nat.{ℕ, _+_, _*_, _^_, _≤_, _<_}
+use native.Mathlib.Nat.{mul-le-mul-left}
+use native.Mathlib.Omega.{arith}
+use lib.ListN.{length, take}
+use Rattle.grammar.specs.Grammar.{Grammar}
+use Rattle.book.specs.declared.Answer.{Answer}
+use Rattle.book.specs.declared.Reading.{Reading}
+use Rattle.book.specs.Answers.{done, refusal}
+use Rattle.book.specs.Book.{Limits}
+use Rattle.book.specs.Judging.{indexOf, Refuses, Serves, Judged}
+use Rattle.book.specs.Refusals as refusals
+use Rattle.book.proofs.Promise.{judged-done, judged-refused, Served, served, serves-limits}
+use Rattle.table.specs.Numbers.{FirstSets, FollowSets}
+use Rattle.table.specs.Trail.{FirstAt, FollowAt}
+use Rattle.table.specs.Table.{size}
+use Rattle.table.specs.Forms.{Readable, Indexes}
+use Rattle.table.specs.Steps.{FirstFound, FollowFound, Ahead}
+use Rattle.table.specs.Claims.{claims, Contest, contested, uncontested, Written}
+use Rattle.table.specs.Checks.{passes, stops, goes, for, Roomed, Given, Fillable}
+use Rattle.table.specs.Calls.{over, SetsRoom, no-first, no-follow, SetsFit, SetsOutcome, BuildOutcome}
+use Rattle.table.specs.Calls as calls
+use Rattle.book.proofs.Promise.{refuses-number}
+use Rattle.table.proofs.Closed.{at-taken}
+use Rattle.table.proofs.Spelled.{indexes-readable}
+use Rattle.table.proofs.Claimed.{rivals-conflict, written-table, written-over}
+
+module _ {book : List ℕ} {reading : Reading} where
+  -- a judged book that is not refused gives its grammar
+  pub judged-given : Judged book reading → reading .answer .number ≡ 0 → Given book reading
+  judged-given judged e = let (g, serves, index) = judged-done judged e in record { grammar = g; serves = serves; index = index }
+
+  module _ (given : Given book reading) where
+    pub given-served : Served book (given .grammar) reading
+    given-served = served (given .serves) (given .index)
+
+    pub given-limits : Limits (given .grammar)
+    given-limits = serves-limits (given .serves)
+
+    pub given-done : reading .answer ≡ done 0
+    unfolding indexOf
+    given-done = ap (λ (r : Reading). r .answer) (given .index)
+
+    pub given-indexes : Indexes book (reading .places) (reading .productions) (given .grammar)
+    unfolding indexOf
+    given-indexes = record { serves = given .serves; placed = ap (λ (r : Reading). r .places) (given .index); counted = given-served .productions }
+
+    pub given-readable : Readable book (reading .places) (reading .productions)
+    given-readable = indexes-readable given-indexes
+
+    -- the first N of 64 sets are there, and have room
+    pub given-copies : {have room : ℕ} → have ≡ 64 → given .grammar .nonterminals ≤ room → (reading .nonterminals ≤ have) × (reading .nonterminals ≤ room)
+    given-copies sized room = rw (given-served .nonterminals) (omega (arith, given-limits .nonterminals-fit), room)
+
+    pub given-count : reading .productions ≤ 128
+    given-count = rw (given-served .productions) (given-limits .productions-fit)
+
+    -- the number of cells
+    pub given-size : reading .nonterminals * (reading .tokens + 1) ≡ size (given .grammar)
+    given-size = rw (given-served .nonterminals, given-served .tokens)
+
+-- the number of cells fits, whatever the two bytes are
+pub cells-fit : (n t : ℕ) → n < 256 → t < 256 → n * (t + 1) < 2 ^ 64
+cells-fit n t hn ht =
+    let rows : n * (t + 1) ≤ n * 256 = mul-le-mul-left n (omega arith) in
+    omega arith
+
+-- the grammar of a book that is done so far, with room for its sets
+pub record SetsReady (book : List ℕ) (reading : Reading) (first follow : List ℕ) (a : Answer) : Type 0 where
+  pub given : Given book reading
+  pub fit : SetsFit (given .grammar) first follow
+  pub is : a ≡ done 0
+
+-- what the checks on the set buffers come to
+pub data SetsChecked (book : List ℕ) (reading : Reading) (first follow : List ℕ) : Answer → Type 0 where
+  refuses : {a : Answer} → Refuses book a → SetsChecked book reading first follow a
+  lacks : {g : Grammar} {a : Answer} → Serves book g → SetsRoom g first follow a → SetsChecked book reading first follow a
+  ready : {a : Answer} → SetsReady book reading first follow a → SetsChecked book reading first follow a
+
+module _ {book : List ℕ} {reading : Reading} {first follow : List ℕ} where
+  pub sets-checked : {middle a : Answer} → Judged book reading
+      → Roomed (reading .answer) (length first) (reading .nonterminals) refusals.firstRoom middle
+      → Roomed middle (length follow) (reading .nonterminals) refusals.followRoom a
+      → SetsChecked book reading first follow a
+  unfolding refusal
+  sets-checked judged (passes d) (passes e) = refuses (judged-refused judged d .0)
+  sets-checked judged (passes d) (stops e b) = absurd (d e)
+  sets-checked judged (passes d) (goes e g) = absurd (d e)
+  sets-checked judged (stops e (for l)) (passes d) = first-lacks (judged-given judged e) l
+    where
+      first-lacks : (given : Given book reading) → length first < reading .nonterminals → SetsChecked book reading first follow (refusal refusals.room (reading .nonterminals) refusals.firstRoom)
+      first-lacks given l = rw (given-served given .nonterminals) (lacks (given .serves) (no-first (rw (given-served given .nonterminals) at l)))
+  sets-checked judged (stops e (for l)) (stops d b) = absurd (omega arith)
+  sets-checked judged (stops e (for l)) (goes d g) = absurd (omega arith)
+  sets-checked judged (goes e h) (passes d) = absurd (d e)
+  sets-checked judged (goes e h) (stops d (for l)) = follow-lacks (judged-given judged e) h l
+    where
+      follow-lacks : (given : Given book reading) → reading .nonterminals ≤ length first → length follow < reading .nonterminals → SetsChecked book reading first follow (refusal refusals.room (reading .nonterminals) refusals.followRoom)
+      follow-lacks given h l = rw (given-served given .nonterminals) (lacks (given .serves) (no-follow (rw (given-served given .nonterminals) at h) (rw (given-served given .nonterminals) at l)))
+  sets-checked judged (goes e h) (goes d l) = both-fit (judged-given judged e) h l
+    where
+      both-fit : (given : Given book reading) → reading .nonterminals ≤ length first → reading .nonterminals ≤ length follow → SetsChecked book reading first follow (reading .answer)
+      both-fit given h l =
+          ready
+          (record {
+            given = given;
+            fit = record { first-fits = rw (given-served given .nonterminals) at h; follow-fits = rw (given-served given .nonterminals) at l };
+            is = given-done given;
+          })
+
+room-number : {g : Grammar} {first follow : List ℕ} {a : Answer} → SetsRoom g first follow a → a .number ≡ 7
+unfolding refusal
+room-number (no-first l) = refl
+room-number (no-follow h l) = refl
+
+module _ {book : List ℕ} {reading : Reading} {first follow : List ℕ} where
+  -- where no check stops, all is ready
+  pub checked-ready : {a : Answer} → SetsChecked book reading first follow a → a .number ≡ 0 → SetsReady book reading first follow a
+  checked-ready (refuses r) e = absurd (omega (arith, refuses-number r))
+  checked-ready (lacks s r) e = absurd (omega (arith, room-number r))
+  checked-ready (ready x) e = x
+
+  pub sets-refused : {a : Answer} → SetsChecked book reading first follow a → a .number ≢ 0 → SetsOutcome book first follow a first follow
+  unfolding done
+  sets-refused (refuses r) d = calls.refused r
+  sets-refused (lacks s r) d = calls.no-room s r
+  sets-refused (ready x) d = absurd (d (ap (λ (b : Answer). b .number) (x .is)))
+
+module _ {book : List ℕ} {reading : Reading} (given : Given book reading) {firsts follows : List ℕ}
+    (first-found : FirstFound book (reading .places) (reading .productions) firsts) (follow-found : FollowFound book (reading .places) (reading .productions) (reading .start) firsts follows) where
+  pub given-first : FirstAt (given .grammar) firsts
+  given-first = first-found .found (given .grammar) (given-indexes given)
+
+  pub given-follow : FollowAt (given .grammar) follows
+  given-follow = follow-found .found (given .grammar) (given-indexes given) (given-served given .start) given-first
+
+  pub given-first-sets : FirstSets (given .grammar) (take (reading .nonterminals) firsts)
+  given-first-sets = rw (given-served given .nonterminals) (at-taken (omega (arith, given-limits given .nonterminals-fit, first-found .sized)) given-first)
+
+  pub given-follow-sets : FollowSets (given .grammar) (take (reading .nonterminals) follows)
+  given-follow-sets = rw (given-served given .nonterminals) (at-taken (omega (arith, given-limits given .nonterminals-fit, follow-found .sized)) given-follow)
+
+  pub sets-served : {first follow first′ follow′ : List ℕ} {a : Answer} → SetsFit (given .grammar) first follow → a ≡ done 0
+      → first′ ≡ over (take (reading .nonterminals) firsts) first → follow′ ≡ over (take (reading .nonterminals) follows) follow → SetsOutcome book first follow a first′ follow′
+  sets-served fit is p q = rw (is, p, q) (calls.served (given .serves) fit given-first-sets given-follow-sets)
+
+module _ {book : List ℕ} {reading : Reading} {first follow table : List ℕ} where
+  pub build-refused : {middle a : Answer} → SetsChecked book reading first follow middle → Roomed middle (length table) (reading .nonterminals * (reading .tokens + 1)) refusals.tableRoom a
+      → a .number ≢ 0 → BuildOutcome book first follow table a first follow table
+  unfolding done
+  build-refused (refuses r) (passes d) n = calls.refused r
+  build-refused (lacks s r) (passes d) n = calls.no-room s r
+  build-refused (ready x) (passes d) n = absurd (d (ap (λ (b : Answer). b .number) (x .is)))
+  build-refused checked (stops e (for l)) n = table-lacks (checked-ready checked e)
+    where
+      table-lacks : {m : Answer} → SetsReady book reading first follow m → BuildOutcome book first follow table (refusal refusals.room (reading .nonterminals * (reading .tokens + 1)) refusals.tableRoom) first follow table
+      table-lacks x = rw (given-size (x .given)) (calls.no-table (x .given .serves) (x .fit) (rw (given-size (x .given)) at l))
+  build-refused checked (goes e h) n = absurd (n e)
+
+  pub build-fillable : {middle a : Answer} → SetsChecked book reading first follow middle → Roomed middle (length table) (reading .nonterminals * (reading .tokens + 1)) refusals.tableRoom a
+      → a .number ≡ 0 → Fillable book reading first follow table
+  unfolding refusal
+  build-fillable checked (passes d) e = absurd (d e)
+  build-fillable checked (stops d (for l)) e = absurd (omega arith)
+  build-fillable checked (goes d h) e = let x = checked-ready checked d in record { given = x .given; fit = x .fit; room = rw (given-size (x .given)) at h }
+
+  module _ (f : Fillable book reading first follow table) {firsts follows ahead : List ℕ}
+      (first-found : FirstFound book (reading .places) (reading .productions) firsts) (follow-found : FollowFound book (reading .places) (reading .productions) (reading .start) firsts follows)
+      (looked : Ahead book (reading .places) firsts follows (reading .productions) ahead) where
+    -- a contest is the first conflict
+    pub fill-refused : {a : Answer} → Contest (claims book (reading .places) ahead (reading .tokens)) (reading .productions) (reading .nonterminals * (reading .tokens + 1)) a → a .number ≢ 0 → BuildOutcome book first follow table a first follow table
+    unfolding done
+    fill-refused (contested inside rivals earlier) d =
+        calls.conflict (f .given .serves) (f .fit) (f .room)
+        (rivals-conflict (given-indexes (f .given)) (given-served (f .given) .tokens) (given-first (f .given) first-found follow-found) (given-follow (f .given) first-found follow-found) looked
+        (rw (given-size (f .given)) at inside) rivals earlier)
+    fill-refused (uncontested one) d = absurd (d refl)
+
+    -- without one, what is written is the sets and the table
+    pub fill-served : {a : Answer} {first′ follow′ table′ : List ℕ} → Contest (claims book (reading .places) ahead (reading .tokens)) (reading .productions) (reading .nonterminals * (reading .tokens + 1)) a → a .number ≡ 0
+        → first′ ≡ over (take (reading .nonterminals) firsts) first → follow′ ≡ over (take (reading .nonterminals) follows) follow
+        → Written (claims book (reading .places) ahead (reading .tokens)) (reading .productions) (reading .nonterminals * (reading .tokens + 1)) table table′
+        → BuildOutcome book first follow table a first′ follow′ table′
+    unfolding refusal
+    fill-served (contested inside rivals earlier) e p q w = absurd (omega arith)
+    fill-served {table′ = table′} (uncontested one) e p q w =
+        let given = f .given in
+        let written = rw (given-size given) at w in
+        let table-of = written-table (given-indexes given) (given-served given .tokens) (given-first given first-found follow-found) (given-follow given first-found follow-found) looked (f .room) (rw (given-size given) at one) written in
+        rw (p, q, written-over (f .room) written)
+        (calls.served (given .serves) (f .fit) (f .room) (given-first-sets given first-found follow-found) (given-follow-sets given first-found follow-found) table-of)

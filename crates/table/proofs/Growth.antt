@@ -1,0 +1,103 @@
+-- Families of sets that grow: two that lie in each other are the same, steps that only add, passes of such steps and where one
+-- changes nothing, and that a pass which changes something makes the sum of the sets larger.
+use mathlib.Core.Path.{_≡_, refl, sym, ap, _∙_, subst}
+use mathlib.Core.Logic.{_≢_, _⊎_, inl, inr}
+use mathlib.Core.List.{List, [], _∷_, _++_}
+use Prim.Native.Nat.{ℕ, zero, suc, _+_, _*_, _≤_, _<_}
+use native.Mathlib.Decide.{ℕ-discrete}
+use native.Mathlib.Nat.{suc-mul}
+use native.Mathlib.Omega.{arith}
+use lib.ListN.{length, getD, set, take, drop, length-set}
+use lib.Seq.{ext-getD, getD-set-same}
+use Rattle.sets.specs.Sets.{Subset, united}
+use Rattle.sets.specs.Calls.{setAt}
+use Rattle.sets.proofs.Promise.{subset-le, or-right}
+use Rattle.table.specs.Trail.{Grown}
+use Rattle.table.specs.Steps.{unitedAt, passed}
+use Rattle.table.proofs.Passes.{grown-same, grown-further, grown-united}
+
+-- the next of the sets that are copied
+pub copied-next : (cells buffer : List ℕ) (n : ℕ) → n < length cells → n < length buffer → set (take n cells ++ drop n buffer) n (getD cells n 0) ≡ take (suc n) cells ++ drop (suc n) buffer
+copied-next [] buffer n h k = absurd (omega arith)
+copied-next (x ∷ cells) [] n h k = absurd (omega arith)
+copied-next (x ∷ cells) (y ∷ buffer) zero h k = refl
+copied-next (x ∷ cells) (y ∷ buffer) (suc n) h k = ap (λ (rest : List ℕ). x ∷ rest) (copied-next cells buffer n (omega arith) (omega arith))
+
+-- families that lie in each other are the same
+pub grown-both : (xs ys : List ℕ) → length xs ≡ length ys → Grown xs ys → Grown ys xs → xs ≡ ys
+grown-both xs ys e h k = ext-getD 0 xs ys e (λ A inside. omega (arith, subset-le (getD xs A 0) (getD ys A 0) (h .keeps A), subset-le (getD ys A 0) (getD xs A 0) (k .keeps A)))
+
+-- where uniting changes nothing, the addition was there already
+pub united-nothing : (cells : List ℕ) (n x : ℕ) → n < length cells → unitedAt cells n x ≡ cells → Subset x (getD cells n 0)
+united-nothing cells n x inside e k m =
+    let there : united (setAt cells n) x ≡ getD cells n 0 = sym (getD-set-same cells n (united (setAt cells n) x) 0 inside) ∙ ap (λ (xs : List ℕ). getD xs n 0) e in
+    rw there at (or-right k (setAt cells n) x m)
+
+-- a step that only adds
+pub record Expands (f : List ℕ → List ℕ) : Type 0 where
+  pub grows : (cells : List ℕ) → Grown cells (f cells)
+  pub keeps : (cells : List ℕ) → length (f cells) ≡ length cells
+
+pub expands-united : (n : ℕ) (x : List ℕ → ℕ) → Expands (λ cells. unitedAt cells n (x cells))
+expands-united n x = record { grows = λ cells. grown-united cells n (x cells); keeps = λ cells. length-set cells n (united (setAt cells n) (x cells)) }
+
+pub expands-then : {f h : List ℕ → List ℕ} → Expands f → Expands h → Expands (λ cells. h (f cells))
+expands-then {f} {h} e d = record { grows = λ cells. grown-further (e .grows cells) (d .grows (f cells)); keeps = λ cells. d .keeps (f cells) ∙ e .keeps cells }
+
+-- where one step after another changes nothing, neither does
+pub nothing-then : {f h : List ℕ → List ℕ} → Expands f → Expands h → (cells : List ℕ) → h (f cells) ≡ cells → (f cells ≡ cells) × (h cells ≡ cells)
+nothing-then {f} {h} e d cells same =
+    let back : Grown (f cells) cells = subst (λ (xs : List ℕ). Grown (f cells) xs) same (d .grows (f cells)) in
+    let first : f cells ≡ cells = grown-both (f cells) cells (e .keeps cells) back (e .grows cells) in
+    (first, ap h (sym first) ∙ same)
+
+module _ {step : ℕ → List ℕ → List ℕ} where
+  -- what every step keeps, a pass keeps
+  pub passed-keeps : (S : List ℕ → Type 0) (n : ℕ) → ((p : ℕ) → p < n → (cells : List ℕ) → S cells → S (step p cells)) → (cells : List ℕ) → S cells → S (passed step n cells)
+  unfolding passed
+  passed-keeps S zero h cells s = s
+  passed-keeps S (suc n) h cells s = h n (omega arith) (passed step n cells) (passed-keeps S n (λ p below. h p (omega arith)) cells s)
+
+  module _ (expands : (p : ℕ) → Expands (step p)) where
+    pub passed-expands : (n : ℕ) → Expands (passed step n)
+    unfolding passed
+    passed-expands zero = record { grows = λ cells. grown-same; keeps = λ cells. refl }
+    passed-expands (suc n) = expands-then (passed-expands n) (expands n)
+
+    -- a pass that changes nothing is one of which no step changes anything
+    pub passed-nothing : (n : ℕ) (cells : List ℕ) → passed step n cells ≡ cells → (p : ℕ) → p < n → step p cells ≡ cells
+    unfolding passed
+    passed-nothing zero cells same p h = absurd (omega arith)
+    passed-nothing (suc n) cells same p h =
+        let (before, last) = nothing-then (passed-expands n) (expands n) cells same in
+        elim (ℕ-discrete p n) [ yes e ↦ rw e last | no d ↦ passed-nothing n cells before p (omega arith) ]
+
+-- the sum of the sets
+pub total : List ℕ → ℕ
+total [] = 0
+total (x ∷ cells) = x + total cells
+
+pub total-bound : (M : ℕ) (cells : List ℕ) → ((A : ℕ) → getD cells A 0 < M) → total cells ≤ length cells * M
+unfolding total
+total-bound M [] h = omega arith
+total-bound M (x ∷ cells) h = rw suc-mul (omega (arith, h 0, total-bound M cells (λ A. h (suc A))))
+
+sum-grows : (xs ys : List ℕ) → length xs ≡ length ys → ((A : ℕ) → getD xs A 0 ≤ getD ys A 0) → (xs ≡ ys) ⊎ (total xs < total ys)
+unfolding total
+sum-grows [] [] e h = inl refl
+sum-grows [] (y ∷ ys) e h = absurd (omega arith)
+sum-grows (x ∷ xs) [] e h = absurd (omega arith)
+sum-grows (x ∷ xs) (y ∷ ys) e h = go (sum-grows xs ys (omega arith) (λ A. h (suc A))) (ℕ-discrete x y)
+  where
+    go : (xs ≡ ys) ⊎ (total xs < total ys) → Dec (x ≡ y) → (x ∷ xs ≡ y ∷ ys) ⊎ (total (x ∷ xs) < total (y ∷ ys))
+    go (inl rest) (yes head) = inl (cc)
+    go (inl rest) (no d) = inr (omega (arith, h 0, ap total rest))
+    go (inr rest) head = inr (omega (arith, h 0))
+
+-- a family that grew and is another has a larger sum
+pub total-grows : (xs ys : List ℕ) → length xs ≡ length ys → Grown xs ys → xs ≢ ys → total xs < total ys
+total-grows xs ys e grown d = go (sum-grows xs ys e (λ A. subset-le (getD xs A 0) (getD ys A 0) (grown .keeps A)))
+  where
+    go : (xs ≡ ys) ⊎ (total xs < total ys) → total xs < total ys
+    go (inl same) = absurd (d same)
+    go (inr less) = less

@@ -1,0 +1,93 @@
+-- Forms as bytes spell them: from the right symbol by symbol, by position, and as the right sides of an index's productions.
+use mathlib.Core.Path.{_≡_, refl}
+use mathlib.Core.List.{List, [], _∷_}
+use mathlib.Core.Option.{some}
+use Prim.Native.Nat.{ℕ, zero, suc, _+_, _-_, _≤_, _<_}
+use native.Mathlib.Nat.{add-zero, sub-self, sub-zero}
+use native.Mathlib.Omega.{arith}
+use borrow.Author.Tests.{lt-ltb, le-ltb}
+use lib.ListN.{length, getD, getElem?}
+use Rattle.grammar.specs.declared.Symbol.{Symbol}
+use Rattle.grammar.specs.declared.Symbol.the-variants.{Token, Nonterminal}
+use Rattle.grammar.specs.Grammar.{Form, Grammar, Every, nothing, each, Rule, Known, known-token, known-nonterminal}
+use Rattle.sets.specs.Sets.{width}
+use Rattle.book.specs.Fields.{symbolOfByte, symbolAt}
+use Rattle.book.specs.Book.{Limits}
+use Rattle.book.specs.Judging.{indexOf}
+use Rattle.book.proofs.Promise.{Entry, serves-limits, served, rule-below}
+use Rattle.table.specs.Forms.{formIn, leftAt, rightAt, Narrow, narrow-token, narrow-nonterminal, Readable, Indexes}
+
+module _ (bytes : List ℕ) where
+  -- one symbol more, from the right
+  pub form-turn : (from count j : ℕ) → 0 < j → j ≤ count → formIn bytes (from + (j - 1)) (count - (j - 1)) ≡ symbolOfByte (getD bytes (from + (j - 1)) 0) ∷ formIn bytes (from + j) (count - j)
+  unfolding formIn
+  form-turn from count j positive inside =
+      let left : count - (j - 1) ≡ suc (count - j) = omega arith in
+      let next : suc (from + (j - 1)) ≡ from + j = omega arith in
+      rw (left, ← next)
+
+  -- none yet
+  pub form-none : (from count : ℕ) → formIn bytes (from + count) (count - count) ≡ []
+  unfolding formIn
+  form-none from count = rw sub-self
+
+  -- all of it
+  pub form-all : (from count j : ℕ) → j ≤ 0 → formIn bytes (from + j) (count - j) ≡ formIn bytes from count
+  form-all from count j h = let none : j ≡ 0 = omega arith in rw (none, add-zero, sub-zero)
+
+  pub every-in : {P : Symbol → Type 0} (from count : ℕ) → Every P (formIn bytes from count) → (j : ℕ) → j < count → P (symbolOfByte (getD bytes (from + j) 0))
+  unfolding formIn
+  every-in from zero e j h = absurd (omega arith)
+  every-in from (suc count) (each p e) zero h = rw add-zero p
+  every-in from (suc count) (each p e) (suc j) h = let next : from + suc j ≡ suc from + j = omega arith in rw next (every-in (suc from) count e j (omega arith))
+
+  -- bytes that stand for the symbols of a form, one by one, spell it
+  pub form-spelled : (from : ℕ) (β : Form) → ((i : ℕ) (s : Symbol) → getElem? β i ≡ some s → symbolOfByte (getD bytes (from + i) 0) ≡ s) → formIn bytes from (length β) ≡ β
+  unfolding formIn
+  form-spelled from [] h = refl
+  form-spelled from (s ∷ β) h =
+      let head : symbolOfByte (getD bytes from 0) ≡ s = rw add-zero at (h 0 s refl) in
+      let rest : formIn bytes (suc from) (length β) ≡ β = form-spelled (suc from) β (λ i t e. let next : suc from + i ≡ from + suc i = omega arith in rw next (h (suc i) t e)) in
+      cc
+
+module _ (byte : ℕ) where
+  pub symbol-token : byte < 128 → symbolOfByte byte ≡ Token byte
+  unfolding symbolOfByte
+  symbol-token h = rw (lt-ltb byte 128 h, symbolOfByte)
+
+  pub symbol-nonterminal : 128 ≤ byte → symbolOfByte byte ≡ Nonterminal (byte - 128)
+  unfolding symbolOfByte
+  symbol-nonterminal h = rw (le-ltb byte 128 h, symbolOfByte)
+
+pub narrow-below : {t : ℕ} → Narrow (Token t) → t < width
+narrow-below (narrow-token h) = h
+
+-- the symbols of a grammar within the limits have sets
+pub known-narrow : {g : Grammar} → Limits g → {α : Form} → Every (Known g) α → Every Narrow α
+known-narrow limits nothing = nothing
+known-narrow limits (each (known-token {t = t} h) rest) = each (narrow-token {t = t} (omega (arith, limits .tokens-fit))) (known-narrow limits rest)
+known-narrow limits (each (known-nonterminal h) rest) = each narrow-nonterminal (known-narrow limits rest)
+
+module _ {book places : List ℕ} {count : ℕ} {g : Grammar} (index : Indexes book places count g) where
+  pub indexes-limits : Limits g
+  indexes-limits = serves-limits (index .serves)
+
+  module _ {p A : ℕ} {β : Form} (rule : Rule g p A β) where
+    entry : Entry book (getD places p 0) A β
+    unfolding indexOf
+    entry = rw (index .placed) (served (index .serves) {r = indexOf g} refl .entry rule)
+
+    -- the record of a production spells its two sides
+    pub left-is : leftAt book (getD places p 0) ≡ A
+    left-is = entry .left
+
+    pub right-is : rightAt book (getD places p 0) ≡ β
+    unfolding symbolAt
+    right-is = rw (entry .size) (form-spelled book (getD places p 0 + 4) β (λ i s e. entry .symbols i e))
+
+  -- each record below the count is a production
+  pub rule-at : (p : ℕ) → p < count → (A : ℕ) × (β : Form) × Rule g p A β
+  rule-at p h = rule-below g p (omega (arith, index .counted))
+
+  pub indexes-readable : Readable book places count
+  indexes-readable = record { right = λ p h. let (A, β, rule) = rule-at p h in rw (right-is rule) (known-narrow indexes-limits (indexes-limits .well-formed .right-known rule)) }

@@ -1,0 +1,23 @@
+-- The set that is stored is the union of what was loaded with x.
+use borrow.Author.Needs.{needs}
+use Rattle.sets.proofs.Promise.{union-is}
+use Rattle.table.proofs.families.unite.Statement.{statement}
+use Rattle.table.proofs.families.unite.Tie as tie
+
+load-requires : tie.Need-load-requires
+load-requires c κs = search needs
+
+union-requires : tie.Need-union-requires
+union-requires c κs = search needs
+
+store-requires : tie.Need-store-requires
+store-requires c κs = search needs
+
+same-length : tie.Need-same-length
+same-length c = search needs
+
+returns : tie.Need-returns
+returns c = rw (c .before .before .store .ensures, union-is (c .before .before .before .before .union .ensures), c .before .before .before .before .before .load .ensures .loaded)
+
+pub unite-spec : {M : Type 1} → statement M
+unite-spec = tie.close (tie.spec load-requires union-requires store-requires same-length returns)

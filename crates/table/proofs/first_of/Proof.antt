@@ -1,0 +1,60 @@
+-- The symbols decide between a refusal and the trail of the form that they spell.
+use mathlib.Core.Path.{sym}
+use borrow.Author.Needs.{needs}
+use Rattle.table.specs.Checks.{Spelled}
+use Rattle.table.proofs.Answering.{given-served, given-readable}
+use Rattle.table.proofs.SetAnswering.{Ready, spelled-ready, ready-narrow, first-refused, first-served}
+use Rattle.table.proofs.first_of.Statement.{statement}
+use Rattle.table.proofs.first_of.Tie as tie
+
+ready : (d : tie.Else1) → Ready (d .before .before .before .before .before .before .before .args .book .now) (d .before .before .before .before .judge .result) (Spelled (d .before .before .before .before .judge .result .tokens) (d .before .before .before .before .judge .result .nonterminals) (d .before .before .before .before .before .before .before .args .symbols .now)) (d .before .before .spelled .result)
+ready d = spelled-ready (d .before .before .before .before .judge .ensures) (d .before .before .spelled .ensures) (d .if1 .left)
+
+judge-requires : tie.Need-judge-requires
+judge-requires c κs = search needs
+
+spelled-requires : tie.Need-spelled-requires
+spelled-requires c κs = search needs
+
+refused-requires : tie.Need-refused-requires
+refused-requires c κs = search needs
+
+returns : tie.Need-returns
+returns c = first-refused (c .before .before .before .before .before .judge .ensures) (c .before .before .before .spelled .ensures) (c .before .if1 .taken) (c .refused .ensures)
+
+slice-aggregate-firsts : tie.Need-slice-aggregate-firsts
+slice-aggregate-firsts c = sym (given-served ((ready (c .before .before)) .given) .cells)
+
+cast-firsts : tie.Need-cast-firsts
+cast-firsts c = search needs
+
+firsts-requires : tie.Need-firsts-requires
+firsts-requires c κs = given-readable ((ready (c .before .before .before)) .given)
+
+slice-aggregate-trail-of : tie.Need-slice-aggregate-trail-of
+slice-aggregate-trail-of c = search needs
+
+single-requires : tie.Need-single-requires
+single-requires c κs = search needs
+
+trail-of-requires : tie.Need-trail-of-requires
+trail-of-requires c κs = ready-narrow (ready (c .before .before .before .before .before .before))
+
+returns-2 : tie.Need-returns-2
+returns-2 c = first-served (ready (c .before .before .before .before .before .before .before .before)) (c .before .before .before .before .firsts .ensures) (rw (c .before .before .single .ensures) at (c .before .trail-of .ensures))
+
+pub first-of-spec : {M : Type 1} → statement M
+first-of-spec =
+    tie.close
+    (tie.spec
+    judge-requires
+    spelled-requires
+    refused-requires
+    returns
+    slice-aggregate-firsts
+    cast-firsts
+    firsts-requires
+    slice-aggregate-trail-of
+    single-requires
+    trail-of-requires
+    returns-2)

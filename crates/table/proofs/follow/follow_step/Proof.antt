@@ -1,0 +1,98 @@
+-- The invariant: the trailer is the trail of the symbols gone through, and these have added to FOLLOW.
+use mathlib.Core.Path.{_≡_, refl}
+use Prim.Native.Nat.{_+_, _-_, _≤_}
+use native.Mathlib.Omega.{arith}
+use lib.ListN.{length, getD}
+use borrow.Author.Needs.{needs}
+use Rattle.sets.specs.Calls.{number}
+use Rattle.sets.proofs.Promise.{join-is}
+use Rattle.table.specs.Forms.{formIn}
+use Rattle.table.specs.Trail.{trail}
+use Rattle.table.specs.Steps.{walked, followStep}
+use Rattle.table.proofs.Spelled.{form-turn, form-none, form-all, every-in}
+use Rattle.table.proofs.follow.follow_step.Statement.{statement}
+use Rattle.table.proofs.follow.follow_step.Tie as tie
+
+abbrev Inv-loop : tie.InvT-loop
+Inv-loop book place first follow₀ at trailer₀ j₀ follow trailer j =
+    (j ≤ getD book (place + 3) 0)
+    × (length follow ≡ length follow₀)
+    × (number trailer ≡ trail first (number trailer₀) (formIn book (place + 4 + j) (getD book (place + 3) 0 - j)))
+    × (follow ≡ walked first (number trailer₀) (formIn book (place + 4 + j) (getD book (place + 3) 0 - j)) follow₀)
+
+abbrev μ-loop : tie.MeasureT-loop
+μ-loop book place first follow₀ at trailer₀ j₀ follow trailer j = j
+
+left-at-requires : tie.Need-left-at-requires Inv-loop μ-loop
+left-at-requires c κs = search needs
+
+cast-load : tie.Need-cast-load Inv-loop μ-loop
+cast-load c = search needs
+
+load-requires : tie.Need-load-requires Inv-loop μ-loop
+load-requires c κs = search needs
+
+length-at-requires : tie.Need-length-at-requires Inv-loop μ-loop
+length-at-requires c κs = search needs
+
+cast-j : tie.Need-cast-j Inv-loop μ-loop
+cast-j c = search needs
+
+loop-holds : tie.Need-loop-holds Inv-loop μ-loop
+unfolding trail walked
+loop-holds c = (omega (arith, c .length-at .ensures), refl, rw (c .length-at .ensures, form-none), rw (c .length-at .ensures, form-none))
+
+sub-j : tie.Need-sub-j Inv-loop μ-loop
+sub-j c = search needs
+
+add-byte-at : tie.Need-add-byte-at Inv-loop μ-loop
+add-byte-at c = search needs
+
+byte-at-requires : tie.Need-byte-at-requires Inv-loop μ-loop
+byte-at-requires c κs = search needs
+
+spread-to-requires : tie.Need-spread-to-requires Inv-loop μ-loop
+spread-to-requires c κs = search needs
+
+symbol-set-requires : tie.Need-symbol-set-requires Inv-loop μ-loop
+symbol-set-requires c κs = rw (c .before .before .before .before .byte-at .ensures) (every-in _ _ _ (c .before .before .before .before .before .before .before .before .before .before .before .before .before .before .pre) _ (omega (arith, c .before .before .before .before .before .before .loop .inv .0, c .before .before .before .before .before .loop-test .taken)))
+
+join-requires : tie.Need-join-requires Inv-loop μ-loop
+join-requires c κs = search needs
+
+loop-less : tie.Need-loop-less Inv-loop μ-loop
+loop-less c = search needs
+
+loop-again : tie.Need-loop-again Inv-loop μ-loop
+unfolding trail walked
+loop-again c = (search needs, omega (arith, c .before .before .before .before .spread-to .kept .1 .1 .0, c .before .before .before .before .before .before .before .before .loop .inv .1), rw (form-turn _ _ _ _ (c .before .before .before .before .before .before .before .loop-test .taken) (c .before .before .before .before .before .before .before .before .loop .inv .0), join-is (c .join .ensures), c .before .symbol-set .ensures, c .before .before .before .before .before .before .byte-at .ensures, c .before .before .before .before .before .before .before .before .loop .inv .2), rw (form-turn _ _ _ _ (c .before .before .before .before .before .before .before .loop-test .taken) (c .before .before .before .before .before .before .before .before .loop .inv .0), c .before .before .before .before .spread-to .ensures, c .before .before .before .before .before .before .byte-at .ensures, c .before .before .before .before .before .before .before .before .loop .inv .2, c .before .before .before .before .before .before .before .before .loop .inv .3))
+
+same-length : tie.Need-same-length Inv-loop μ-loop
+same-length c = search needs
+
+returns : tie.Need-returns Inv-loop μ-loop
+unfolding followStep
+returns c = rw (form-all _ _ _ _ (c .loop-test .left), c .before .before .before .load .ensures .loaded, c .before .before .before .before .left-at .ensures) at (c .before .loop .inv .3)
+
+pub follow-step-spec : {M : Type 1} → statement M
+follow-step-spec =
+    tie.close
+    (tie.spec
+    Inv-loop
+    μ-loop
+    left-at-requires
+    cast-load
+    load-requires
+    length-at-requires
+    cast-j
+    loop-holds
+    sub-j
+    add-byte-at
+    byte-at-requires
+    spread-to-requires
+    symbol-set-requires
+    join-requires
+    loop-less
+    loop-again
+    same-length
+    returns)

@@ -1,0 +1,89 @@
+-- The checks decide between a refusal and the sets; what is copied is the first N of each family.
+use mathlib.Core.Path.{sym}
+use borrow.Author.Needs.{needs}
+use Rattle.table.proofs.Answering.{SetsChecked, sets-checked, SetsReady, checked-ready, sets-refused, sets-served, given-served, given-copies, given-readable}
+use Rattle.table.proofs.sets.Statement.{statement}
+use Rattle.table.proofs.sets.Tie as tie
+
+checked : (d : tie.After-room2) → SetsChecked (d .before .before .before .before .before .before .before .before .before .before .args .book .now) (d .before .before .before .before .before .before .judge .result) (d .before .before .before .before .before .before .before .before .before .before .args .first .now) (d .before .before .before .before .before .before .before .before .before .before .args .follow .now) (d .room2 .result)
+checked d = sets-checked (d .before .before .before .before .before .before .judge .ensures) (d .before .room .ensures) (d .room2 .ensures)
+
+ready : (d : tie.Then1) → SetsReady (d .before .before .before .before .before .before .before .before .before .before .before .before .args .book .now) (d .before .before .before .before .before .before .before .before .judge .result) (d .before .before .before .before .before .before .before .before .before .before .before .before .args .first .now) (d .before .before .before .before .before .before .before .before .before .before .before .before .args .follow .now) (d .before .before .room2 .result)
+ready d = checked-ready (checked (d .before .before)) (d .if1 .taken)
+
+judge-requires : tie.Need-judge-requires
+judge-requires c κs = search needs
+
+cast-count : tie.Need-cast-count
+cast-count c = search needs
+
+cast-n : tie.Need-cast-n
+cast-n c = search needs
+
+room-requires : tie.Need-room-requires
+room-requires c κs = search needs
+
+room-requires-2 : tie.Need-room-requires-2
+room-requires-2 c κs = search needs
+
+slice-aggregate-firsts : tie.Need-slice-aggregate-firsts
+slice-aggregate-firsts c = sym (given-served (ready (c .before) .given) .cells)
+
+firsts-requires : tie.Need-firsts-requires
+firsts-requires c κs = given-readable (ready (c .before) .given)
+
+slice-aggregate-follows : tie.Need-slice-aggregate-follows
+slice-aggregate-follows c = sym (given-served (ready (c .before .before .before) .given) .cells)
+
+slice-aggregate-follows-2 : tie.Need-slice-aggregate-follows-2
+slice-aggregate-follows-2 c = search needs
+
+follows-requires : tie.Need-follows-requires
+follows-requires c κs = given-readable (ready (c .before .before .before .before) .given)
+
+slice-aggregate-copy : tie.Need-slice-aggregate-copy
+slice-aggregate-copy c = search needs
+
+copy-requires : tie.Need-copy-requires
+copy-requires c κs = let x = ready (c .before .before .before .before .before .before .before) in given-copies (x .given) (c .before .before .before .before .before .firsts .ensures .sized) (x .fit .first-fits)
+
+slice-aggregate-copy-2 : tie.Need-slice-aggregate-copy-2
+slice-aggregate-copy-2 c = search needs
+
+copy-requires-2 : tie.Need-copy-requires-2
+copy-requires-2 c κs = let x = ready (c .before .before .before .before .before .before .before .before .before .before .before .before) in given-copies (x .given) (c .before .before .before .before .before .before .before .follows .ensures .sized) (x .fit .follow-fits)
+
+same-length : tie.Need-same-length
+same-length c = search needs
+
+same-length-2 : tie.Need-same-length-2
+same-length-2 c = search needs
+
+returns : tie.Need-returns
+returns c = let x = ready (c .before .before .before .before .before .before .before .before .before .before .before .before .before .before .before) in sets-served (x .given) (c .before .before .before .before .before .before .before .before .before .before .before .before .before .firsts .ensures) (c .before .before .before .before .before .before .before .before .before .before .follows .ensures) (x .fit) (x .is) (c .before .before .before .before .before .before .before .copy .ensures) (c .before .before .copy2 .ensures)
+
+returns-2 : tie.Need-returns-2
+returns-2 c = sets-refused (checked (c .before .before)) (c .if1 .left)
+
+pub sets-spec : {M : Type 1} → statement M
+sets-spec =
+    tie.close
+    (tie.spec
+    judge-requires
+    cast-count
+    cast-n
+    room-requires
+    room-requires-2
+    slice-aggregate-firsts
+    firsts-requires
+    slice-aggregate-follows
+    slice-aggregate-follows-2
+    follows-requires
+    slice-aggregate-copy
+    copy-requires
+    slice-aggregate-copy-2
+    copy-requires-2
+    same-length
+    same-length-2
+    returns
+    returns-2)

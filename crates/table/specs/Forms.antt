@@ -1,0 +1,39 @@
+-- What bytes spell by place: the form of so many of them, and the two sides of a record; and the productions that an index lists.
+-- Document 01, "The book": a symbol is a token, or 128 + n for nonterminal n; a record is its mark, left side, length, symbols.
+use mathlib.Core.Path.{_≡_}
+use mathlib.Core.List.{List, [], _∷_}
+use Prim.Native.Nat.{ℕ, zero, suc, _+_, _<_}
+use lib.ListN.{length, getD}
+use Rattle.grammar.specs.declared.Symbol.{Symbol}
+use Rattle.grammar.specs.declared.Symbol.the-variants.{Token, Nonterminal}
+use Rattle.grammar.specs.Grammar.{Form, Grammar, Every}
+use Rattle.sets.specs.Sets.{width}
+use Rattle.book.specs.Fields.{symbolOfByte}
+use Rattle.book.specs.Judging.{placesIn, Serves}
+
+-- so many bytes from a place on, as symbols
+unfoldable pub formIn : List ℕ → (from count : ℕ) → Form
+formIn bytes from zero = []
+formIn bytes from (suc count) = symbolOfByte (getD bytes from 0) ∷ formIn bytes (suc from) count
+
+-- the left side and the right side of the record at a place
+abbrev pub leftAt : List ℕ → ℕ → ℕ
+leftAt book place = getD book (place + 2) 0
+
+abbrev pub rightAt : List ℕ → ℕ → Form
+rightAt book place = formIn book (place + 4) (getD book (place + 3) 0)
+
+-- a symbol whose number has a place in a set
+pub data Narrow : Symbol → Type 0 where
+  narrow-token : {t : ℕ} → t < width → Narrow (Token t)
+  narrow-nonterminal : {A : ℕ} → Narrow (Nonterminal A)
+
+-- the right sides of so many records have sets
+pub record Readable (book places : List ℕ) (count : ℕ) : Type 0 where
+  pub right : (p : ℕ) → p < count → Every Narrow (rightAt book (getD places p 0))
+
+-- the book serves the grammar, and these are the places of its records and their number
+pub record Indexes (book places : List ℕ) (count : ℕ) (g : Grammar) : Type 0 where
+  pub serves : Serves book g
+  pub placed : places ≡ placesIn (g .productions)
+  pub counted : count ≡ length (g .productions)

@@ -1,0 +1,66 @@
+-- What working out FIRST and FOLLOW does to a family of sets: one production, then each once in order; and what it comes to.
+-- Document 01, "Sets and table". Only contracts inside the crate cite what stands here.
+use mathlib.Core.Path.{_≡_}
+use mathlib.Core.List.{List, [], _∷_}
+use Prim.Native.Nat.{ℕ, zero, suc, _<_}
+use lib.ListN.{length, getD}
+use Rattle.grammar.specs.declared.Symbol.{Symbol}
+use Rattle.grammar.specs.declared.Symbol.the-variants.{Token, Nonterminal}
+use Rattle.grammar.specs.Grammar.{Form, Grammar}
+use Rattle.sets.specs.Sets.{emptyString, only, united}
+use Rattle.sets.specs.Calls.{setAt, stored}
+use Rattle.table.specs.Trail.{trail, FirstAt, FollowAt}
+use Rattle.table.specs.Forms.{leftAt, rightAt, Indexes}
+
+-- set number n united with x
+abbrev pub unitedAt : List ℕ → ℕ → ℕ → List ℕ
+unitedAt cells n x = stored cells n (united (setAt cells n) x)
+
+-- FIRST: the right side of the record at a place adds to its left side
+unfoldable pub firstStep : List ℕ → ℕ → List ℕ → List ℕ
+firstStep book place fs = unitedAt fs (leftAt book place) (trail fs (only emptyString) (rightAt book place))
+
+-- what comes behind a symbol adds to FOLLOW of it, if it is a nonterminal
+unfoldable pub spread : Symbol → ℕ → List ℕ → List ℕ
+spread (Token t) x ys = ys
+spread (Nonterminal A) x ys = unitedAt ys A x
+
+-- each symbol of a form, from the right, with the trail of what lies behind it
+unfoldable pub walked : List ℕ → ℕ → Form → List ℕ → List ℕ
+walked fs k [] ys = ys
+walked fs k (s ∷ α) ys = spread s (trail fs k α) (walked fs k α ys)
+
+-- FOLLOW: the record at a place, going on with FOLLOW of its left side
+unfoldable pub followStep : List ℕ → List ℕ → ℕ → List ℕ → List ℕ
+followStep book fs place ys = walked fs (setAt ys (leftAt book place)) (rightAt book place) ys
+
+-- the steps below n, one after the other
+unfoldable pub passed : (ℕ → List ℕ → List ℕ) → ℕ → List ℕ → List ℕ
+passed step zero cells = cells
+passed step (suc n) cells = step n (passed step n cells)
+
+module _ (book places : List ℕ) where
+  abbrev pub firstSteps : ℕ → List ℕ → List ℕ
+  firstSteps p = firstStep book (getD places p 0)
+
+  abbrev pub followSteps : List ℕ → ℕ → List ℕ → List ℕ
+  followSteps fs p = followStep book fs (getD places p 0)
+
+  -- the FIRST sets of the grammar that the index lists
+  pub record FirstFound (count : ℕ) (cells : List ℕ) : Type 0 where
+    pub sized : length cells ≡ 64
+    pub found : (g : Grammar) → Indexes book places count g → FirstAt g cells
+
+  -- and its FOLLOW sets
+  pub record FollowFound (count start : ℕ) (fs cells : List ℕ) : Type 0 where
+    pub sized : length cells ≡ 64
+    pub found : (g : Grammar) → Indexes book places count g → start ≡ g .start → FirstAt g fs → FollowAt g cells
+
+  -- the lookahead of record p, with FIRST and FOLLOW
+  abbrev pub lookaheadAt : List ℕ → List ℕ → ℕ → ℕ
+  lookaheadAt fs ys p = trail fs (setAt ys (leftAt book (getD places p 0))) (rightAt book (getD places p 0))
+
+  -- the lookaheads of so many records
+  pub record Ahead (fs ys : List ℕ) (count : ℕ) (cells : List ℕ) : Type 0 where
+    pub sized : length cells ≡ 128
+    pub each : (p : ℕ) → p < count → getD cells p 0 ≡ lookaheadAt fs ys p

@@ -1,0 +1,83 @@
+ghost use Rattle.sets.specs.Calls.{Decides};
+ghost use Rattle.table.specs.Checks.{Checked, Roomed, Numbered, IsSymbol, Stranger, Unspelled, Spelled};
+use book::Answer;
+use book::answers::refusal;
+use book::refusals::DONE;
+use book::refusals::LIMIT;
+use book::refusals::PRODUCTION;
+use book::refusals::ROOM;
+use book::refusals::SYMBOL;
+
+// The longest symbol string.
+const SYMBOLS: usize = 16;
+
+// A buffer has room for so many cells.
+pub(crate) fn room(before: Answer, have: usize, want: usize, detail: u64) -> Answer
+    ensures { λ r. ⌜ Roomed before have want detail r ⌝ }
+{
+    if before.number != DONE {
+        return before;
+    }
+    if have < want {
+        refusal(ROOM, want as u64, detail)
+    } else {
+        before
+    }
+}
+
+// A production's number is below P.
+pub(crate) fn numbered(before: Answer, production: u64, productions: u8) -> Answer
+    ensures { λ r. ⌜ Numbered before production productions r ⌝ }
+{
+    if before.number != DONE {
+        return before;
+    }
+    if production < productions as u64 {
+        before
+    } else {
+        refusal(PRODUCTION, production, 0)
+    }
+}
+
+// A token below `t`, or 128 and a nonterminal below `n`.
+fn is_symbol(byte: u8, t: u8, n: u8) -> bool
+    ensures { λ r. ⌜ Decides r (IsSymbol t n byte) ⌝ }
+{
+    if byte < t {
+        true
+    } else {
+        if 128 <= byte { byte - 128 < n } else { false }
+    }
+}
+
+// The first byte that is no symbol of the grammar, or the length.
+fn stranger(symbols: &[u8], t: u8, n: u8) -> usize
+    ensures { λ r. ⌜ Stranger t n (now (symbols .entry)) r ⌝ }
+{
+    let mut i: usize = 0;
+    while i < symbols.len() {
+        if !is_symbol(symbols[i], t, n) {
+            return i;
+        }
+        i += 1;
+    }
+    i
+}
+
+// A symbol string is short enough, and each byte is a symbol of the grammar.
+pub(crate) fn spelled(before: Answer, symbols: &[u8], t: u8, n: u8) -> Answer
+    ensures { λ r. ⌜ Checked before (Unspelled t n (now (symbols .entry))) (Spelled t n (now (symbols .entry))) r ⌝ }
+{
+    if before.number != DONE {
+        return before;
+    }
+    if SYMBOLS < symbols.len() {
+        return refusal(LIMIT, SYMBOLS as u64, 0);
+    }
+    let i = stranger(symbols, t, n);
+    if i < symbols.len() {
+        refusal(SYMBOL, i as u64, 0)
+    } else {
+        before
+    }
+}

@@ -1,0 +1,42 @@
+ghost use mathlib.Core.Path.{_≡_};
+ghost use Rattle.grammar.specs.Grammar.{Every};
+ghost use Rattle.sets.specs.Calls.{number};
+ghost use Rattle.book.specs.Fields.{symbolOfByte};
+ghost use Rattle.table.specs.Forms.{formIn, Narrow};
+ghost use Rattle.table.specs.Trail.{symbolSet, trail};
+use crate::families::single;
+use book::fields::byte_at;
+use sets::Set;
+use sets::join;
+use sets::load;
+
+// What a form can begin with, going on with another set where all of it vanishes.
+pub(crate) struct Trail {
+    pub(crate) set: Set,
+}
+
+// FIRST of the symbol that a byte stands for.
+pub(crate) fn symbol_set(byte: u8, first: &[u64]) -> Set
+    requires { ⌜ Narrow (symbolOfByte byte) ⌝ }
+    ensures { λ r. ⌜ number r ≡ symbolSet (now (first .entry)) (symbolOfByte byte) ⌝ }
+{
+    if byte < 128 {
+        single(byte)
+    } else {
+        load(first, (byte - 128) as usize)
+    }
+}
+
+// What so many bytes from a place on can begin with, and then the set behind them: one trailer, from the right.
+pub(crate) fn trail_of(bytes: &[u8], from: usize, count: usize, first: &[u64], behind: Set) -> Trail
+    requires { ⌜ Every Narrow (formIn (now bytes) from count) ⌝ }
+    ensures { λ r. ⌜ number (r .set) ≡ trail (now (first .entry)) (number behind) (formIn (now (bytes .entry)) from count) ⌝ }
+{
+    let mut set = behind;
+    let mut j = count;
+    while 0 < j {
+        j -= 1;
+        set = join(symbol_set(byte_at(bytes, from, j), first), set);
+    }
+    Trail { set }
+}
