@@ -1,0 +1,12 @@
+// Works out every book on standard input, each behind its length, low byte first: the answer to building it, its sets, the lookahead
+// of each production, and its table.
+use libc::STDIN_FILENO;
+
+mod books;
+mod showing;
+
+fn main() {
+    let mut input = io::large_buffer();
+    let size = io::read_full(STDIN_FILENO, &mut input);
+    books::each(&input, size);
+}

@@ -1,0 +1,101 @@
+use book::Answer;
+use book::fields::byte_at;
+use libc::STDOUT_FILENO;
+use sets::load;
+
+fn show_answer(word: &[u8], answer: Answer) {
+    io::write_all(STDOUT_FILENO, word);
+    io::write_all(STDOUT_FILENO, b" ");
+    io::print_decimal(STDOUT_FILENO, answer.number as u64);
+    io::write_all(STDOUT_FILENO, b" ");
+    io::print_decimal(STDOUT_FILENO, answer.place);
+    io::write_all(STDOUT_FILENO, b" ");
+    io::print_decimal(STDOUT_FILENO, answer.detail);
+    io::write_all(STDOUT_FILENO, b"\n");
+}
+
+fn show_set(word: &[u8], n: usize, set: u64) {
+    io::write_all(STDOUT_FILENO, word);
+    io::write_all(STDOUT_FILENO, b" ");
+    io::print_decimal(STDOUT_FILENO, n as u64);
+    io::write_all(STDOUT_FILENO, b" ");
+    io::print_hex(STDOUT_FILENO, set, 16);
+    io::write_all(STDOUT_FILENO, b"\n");
+}
+
+fn show_sets(word: &[u8], family: &[u64], count: usize) {
+    let mut n: usize = 0;
+    while n < count {
+        let set = load(family, n);
+        show_set(word, n, set.word);
+        n += 1;
+    }
+}
+
+fn show_lookaheads(book: &[u8], count: usize) {
+    let mut p: usize = 0;
+    while p < count {
+        let found = table::lookahead(book, p as u64);
+        let set = found.set;
+        show_set(b"ahead", p, set.word);
+        p += 1;
+    }
+}
+
+fn show_cell(cell: u8) {
+    io::write_all(STDOUT_FILENO, b" ");
+    if cell == 255 {
+        io::write_all(STDOUT_FILENO, b"-");
+    } else {
+        io::print_decimal(STDOUT_FILENO, cell as u64);
+    }
+}
+
+fn show_cells(cells: &[u8], columns: usize) {
+    let mut i: usize = 0;
+    while i < columns {
+        show_cell(byte_at(cells, i, 0));
+        i += 1;
+    }
+    io::write_all(STDOUT_FILENO, b"\n");
+}
+
+fn show_row(cells: &[u8], row: usize, columns: usize) {
+    io::write_all(STDOUT_FILENO, b"row ");
+    io::print_decimal(STDOUT_FILENO, row as u64);
+    if row < 64 {
+        if columns <= 64 {
+            let from = row * columns;
+            if from <= cells.len() {
+                show_cells(&cells[from..], columns);
+            }
+        }
+    }
+}
+
+fn show_rows(cells: &[u8], rows: usize, columns: usize) {
+    let mut row: usize = 0;
+    while row < rows {
+        show_row(cells, row, columns);
+        row += 1;
+    }
+}
+
+pub fn show(book: &[u8]) {
+    let mut first = [0u64; 64];
+    let mut follow = [0u64; 64];
+    let mut cells = [0u8; 4032];
+    let columns = byte_at(book, 0, 2) as usize + 1;
+    let rows = byte_at(book, 0, 3) as usize;
+    let built = table::build(book, &mut first, &mut follow, &mut cells);
+    let worked = table::sets(book, &mut first, &mut follow);
+    show_answer(b"build", built);
+    if worked.number == 0 {
+        show_sets(b"first", &first, rows);
+        show_sets(b"follow", &follow, rows);
+        show_lookaheads(book, byte_at(book, 0, 5) as usize);
+    }
+    if built.number == 0 {
+        show_rows(&cells, rows, columns);
+    }
+}
