@@ -22,7 +22,7 @@ pub mod OutcomeUnique
 pub mod Answered
 pub mod Kept
 pub mod AnyTable
-pub mod Beside
+pub mod Shown
 pub mod RunDemands
 pub mod RoomNeeded
 pub mod RunRoom
@@ -32,3 +32,17 @@ pub mod Demands
 pub mod House
 pub mod Examples
 pub mod Idle
+pub mod Stacked
+pub mod Deciding
+pub mod Records
+pub mod Choosing
+pub mod Holding
+pub mod Turning
+pub mod Expected
+pub mod Checks
+pub mod Resumed
+pub mod Steps
+pub mod RunAnswers
+pub mod TurnChoice
+pub mod Unrolling
+pub mod ExpandAnswers

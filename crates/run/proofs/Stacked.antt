@@ -1,0 +1,185 @@
+-- The stack in its buffer: what its bytes spell, and what reading, popping and pushing do to it.
+use mathlib.Core.Path.{_≡_, refl, sym, _∙_, ap}
+use mathlib.Core.List.{List, [], _∷_, _++_, append-assoc}
+use Prim.Native.Nat.{ℕ, zero, suc, _+_, _-_, _≤_, _<_, max}
+use native.Mathlib.Decide.{decLt}
+use native.Mathlib.Nat.{add-zero, add-suc, zero-add, suc-add}
+use native.Mathlib.Numerals.{add-one}
+use native.Mathlib.Omega.{arith}
+use lib.ListN.{length, getD, take, drop, set, replicate, take-append-drop, length-append, length-drop, length-replicate}
+use lib.Seq.{sets, set-at, getD-at, drop-cons, take-suc, drop-at}
+use borrow.Author.Tests.{lt-ltb, le-ltb}
+use Rattle.grammar.specs.Grammar.{Form, Every, nothing, each}
+use Rattle.grammar.specs.declared.Symbol.the-variants.{Token, Nonterminal}
+use Rattle.grammar.specs.declared.Symbol.{Symbol}
+use Rattle.book.specs.Fields.{symbolOfByte, symbolAt}
+use Rattle.run.specs.Index.{symbolsFrom}
+use Rattle.run.specs.Offering.{Spelled}
+use Rattle.run.specs.Stack.{byteOf, bytesOf, spelledBy, stacked}
+
+-- a byte is the byte of the symbol that it spells
+pub byte-of-symbol : (b : ℕ) → byteOf (symbolOfByte b) ≡ b
+unfolding byteOf symbolOfByte
+byte-of-symbol b = go (decLt b 128)
+  where
+    go : Dec (b < 128) → byteOf (symbolOfByte b) ≡ b
+    go (yes h) = rw (lt-ltb b 128 h, symbolOfByte, byteOf)
+    go (no n) = let h : 128 ≤ b = omega arith in rw (le-ltb b 128 h, symbolOfByte, byteOf) (omega arith)
+
+pub token-byte : {x y : Symbol} {t : ℕ} → x ≡ y → x ≡ Token t → t ≡ byteOf y
+unfolding byteOf
+token-byte e f = rw (sym e ∙ f)
+
+pub nonterminal-byte : {x y : Symbol} {A : ℕ} → x ≡ y → x ≡ Nonterminal A → 128 + A ≡ byteOf y
+unfolding byteOf
+nonterminal-byte e f = rw (sym e ∙ f)
+
+-- a nonterminal that a byte spells has a byte
+pub nonterminal-fits : {x : Symbol} {A : ℕ} (b : ℕ) → b < 256 → x ≡ symbolOfByte b → x ≡ Nonterminal A → 128 + A < 256
+nonterminal-fits b h e f = omega (arith, nonterminal-byte e f, byte-of-symbol b)
+
+-- the symbol of a byte is spelled by it
+pub byte-spelled : (b : ℕ) → Spelled (symbolOfByte b)
+byte-spelled b = record { same = ap symbolOfByte (byte-of-symbol b) }
+
+pub symbols-spelled : (book : List ℕ) (at n i : ℕ) → Every Spelled (symbolsFrom book at n i)
+unfolding symbolsFrom symbolAt
+symbols-spelled book at zero i = nothing
+symbols-spelled book at (suc n) i = each (byte-spelled _) (symbols-spelled book at n (suc i))
+
+pub cells-spelled : (cells : List ℕ) (height : ℕ) → Every Spelled (spelledBy cells height)
+unfolding spelledBy
+cells-spelled cells zero = nothing
+cells-spelled cells (suc h) = each (byte-spelled _) (cells-spelled cells h)
+
+pub every-append : {P : Symbol → Type 0} {α β : Form} → Every P α → Every P β → Every P (α ++ β)
+every-append nothing b = b
+every-append (each h a) b = each h (every-append a b)
+
+pub every-rest : {P : Symbol → Type 0} {x : Symbol} {α : Form} → Every P (x ∷ α) → Every P α
+every-rest (each h a) = a
+
+every-first : {P : Symbol → Type 0} {x : Symbol} {α : Form} → Every P (x ∷ α) → P x
+every-first (each h a) = h
+
+pub length-bytes : (α : Form) → length (bytesOf α) ≡ length α
+unfolding bytesOf
+length-bytes [] = refl
+length-bytes (x ∷ α) = length-append (bytesOf α) (byteOf x ∷ []) ∙ (omega (arith, length-bytes α))
+
+pub length-symbols : (book : List ℕ) (at n i : ℕ) → length (symbolsFrom book at n i) ≡ n
+unfolding symbolsFrom
+length-symbols book at zero i = refl
+length-symbols book at (suc n) i = ap suc (length-symbols book at n (suc i))
+
+pub length-spelled : (cells : List ℕ) (height : ℕ) → length (spelledBy cells height) ≡ height
+unfolding spelledBy
+length-spelled cells zero = refl
+length-spelled cells (suc h) = ap suc (length-spelled cells h)
+
+-- the last of so many symbols lies lowest
+pub bytes-turn : (book : List ℕ) (at n i : ℕ) → bytesOf (symbolsFrom book at (suc n) i) ≡ byteOf (symbolAt book at (i + n)) ∷ bytesOf (symbolsFrom book at n i)
+unfolding bytesOf symbolsFrom
+bytes-turn book at zero i = rw (add-zero i)
+bytes-turn book at (suc n) i = ap (λ (bs : List ℕ). bs ++ (byteOf (symbolAt book at i) ∷ [])) (bytes-turn book at n (suc i)) ∙ rw (add-suc i n, suc-add i n)
+
+-- a loop that counts the symbols down puts them on the stack
+pub push-turn : (book : List ℕ) (at left : ℕ) (stack : List ℕ) (top v : ℕ) → 0 < left → v ≡ byteOf (symbolAt book at (left - 1)) → sets (set stack top v) (top + 1) (bytesOf (symbolsFrom book at (left - 1) 0)) ≡ sets stack top (bytesOf (symbolsFrom book at left 0))
+push-turn book at zero stack top v h e = absurd (omega arith)
+push-turn book at (suc n) stack top v h e =
+    let one : suc n - 1 ≡ n = omega arith in
+    rw (bytes-turn book at n 0, zero-add n) (rw (e, one, add-one))
+
+pub push-over : (book : List ℕ) (at left : ℕ) (stack : List ℕ) (top : ℕ) → left ≤ 0 → sets stack top (bytesOf (symbolsFrom book at left 0)) ≡ stack
+unfolding symbolsFrom bytesOf
+push-over book at left stack top h = let none : left ≡ 0 = omega arith in rw none
+
+sets-append : (us vs l : List ℕ) (i : ℕ) → sets l i (us ++ vs) ≡ sets (sets l i us) (i + length us) vs
+sets-append [] vs l i = rw (add-zero i)
+sets-append (u ∷ us) vs l i = sets-append us vs (set l i u) (suc i) ∙ rw (add-suc i (length us), suc-add i (length us))
+
+zeros : (m n : ℕ) → n < m → replicate {A = ℕ} (m - n) 0 ≡ 0 ∷ replicate (m - suc n) 0
+zeros m n h = let one : m - n ≡ suc (m - suc n) = omega arith in ap (λ (k : ℕ). replicate {A = ℕ} k 0) one
+
+-- a stack on top of one symbol more
+stacked-cons : (x : Symbol) (α : Form) (m : ℕ) (b : List ℕ) → stacked (x ∷ α) m b ≡ bytesOf α ++ (byteOf x ∷ (replicate (m - suc (length α)) 0 ++ drop m b))
+unfolding stacked bytesOf
+stacked-cons x α m b = append-assoc (bytesOf α) (byteOf x ∷ []) (replicate (m - suc (length α)) 0 ++ drop m b)
+
+-- the cell above a stack, in use before or not yet
+stacked-next : (α : Form) (m : ℕ) (b : List ℕ) → length α ≤ m → length α < length b → (y : ℕ) × (stacked α m b ≡ bytesOf α ++ (y ∷ (replicate (max m (suc (length α)) - suc (length α)) 0 ++ drop (max m (suc (length α))) b)))
+unfolding stacked
+stacked-next α m b h k = go (decLt (length α) m)
+  where
+    go : Dec (length α < m) → (y : ℕ) × (stacked α m b ≡ bytesOf α ++ (y ∷ (replicate (max m (suc (length α)) - suc (length α)) 0 ++ drop (max m (suc (length α))) b)))
+    go (yes l) = (0, let e : max m (suc (length α)) ≡ m = omega arith in rw (e, zeros m (length α) l))
+    go (no n) =
+        let e : max m (suc (length α)) ≡ suc m = omega arith in
+        let f : m - length α ≡ 0 = omega arith in
+        let g : suc m - suc (length α) ≡ 0 = omega arith in
+        (getD b m 0, rw (e, f, g, drop-cons b m 0 (omega arith)))
+
+pub stacked-push : (x : Symbol) (α : Form) (m : ℕ) (b : List ℕ) → length α ≤ m → length α < length b → set (stacked α m b) (length α) (byteOf x) ≡ stacked (x ∷ α) (max m (suc (length α))) b
+stacked-push x α m b h k =
+    let (y, e) = stacked-next α m b h k in
+    ap (λ (l : List ℕ). set l (length α) (byteOf x)) e ∙ set-at (bytesOf α) y _ (byteOf x) (length α) (length-bytes α) ∙ sym (stacked-cons x α (max m (suc (length α))) b)
+
+pub stacked-pop : (x : Symbol) (α : Form) (m : ℕ) (b : List ℕ) → suc (length α) ≤ m → set (stacked (x ∷ α) m b) (length α) 0 ≡ stacked α m b
+unfolding stacked
+stacked-pop x α m b h = ap (λ (l : List ℕ). set l (length α) 0) (stacked-cons x α m b) ∙ set-at (bytesOf α) (byteOf x) _ 0 (length α) (length-bytes α) ∙ rw (zeros m (length α) h)
+
+-- the symbol on top
+pub stacked-top : (x : Symbol) (α : Form) (m : ℕ) (b : List ℕ) → Every Spelled (x ∷ α) → symbolOfByte (getD (stacked (x ∷ α) m b) (length α) 0) ≡ x
+stacked-top x α m b e = ap (λ (l : List ℕ). symbolOfByte (getD l (length α) 0)) (stacked-cons x α m b) ∙ ap symbolOfByte (getD-at (bytesOf α) (byteOf x) _ 0 (length α) (length-bytes α)) ∙ every-first e .same
+
+-- symbols put on the stack one after the other
+pub stacked-pushes : (β α : Form) (m : ℕ) (b : List ℕ) → length α ≤ m → length β + length α ≤ length b → sets (stacked α m b) (length α) (bytesOf β) ≡ stacked (β ++ α) (max m (length (β ++ α))) b
+unfolding bytesOf
+stacked-pushes [] α m b h k = let e : max m (length α) ≡ m = omega arith in rw e
+stacked-pushes (x ∷ β) α m b h k =
+    let n = length-append β α in
+    sets-append (bytesOf β) (byteOf x ∷ []) (stacked α m b) (length α)
+    ∙ ap (λ (l : List ℕ). set l (length α + length (bytesOf β)) (byteOf x)) (stacked-pushes β α m b h (omega arith))
+    ∙ ap (λ (i : ℕ). set (stacked (β ++ α) (max m (length (β ++ α))) b) i (byteOf x)) {y = length (β ++ α)} (omega (arith, length-bytes β))
+    ∙ stacked-push x (β ++ α) (max m (length (β ++ α))) b (omega arith) (omega arith)
+    ∙ ap (λ (i : ℕ). stacked (x ∷ (β ++ α)) i b) (omega arith)
+
+-- the symbol on top gives way to others
+pub stacked-replace : (x : Symbol) (β α : Form) (m : ℕ) (b : List ℕ) → suc (length α) ≤ m → length β + length α ≤ length b → sets (set (stacked (x ∷ α) m b) (length α) 0) (length α) (bytesOf β) ≡ stacked (β ++ α) (max m (length (β ++ α))) b
+stacked-replace x β α m b h k = rw (stacked-pop x α m b h) (stacked-pushes β α m b (omega arith) k)
+
+bytes-spelled : (cells : List ℕ) (height : ℕ) → height ≤ length cells → bytesOf (spelledBy cells height) ≡ take height cells
+unfolding bytesOf spelledBy
+bytes-spelled cells zero k = refl
+bytes-spelled cells (suc h) k = rw (bytes-spelled cells h (omega arith), byte-of-symbol (getD cells h 0)) (sym (take-suc cells h 0 k))
+
+-- what the first cells spell stands in them
+pub stacked-spelled : (cells : List ℕ) (height : ℕ) → height ≤ length cells → cells ≡ stacked (spelledBy cells height) height cells
+unfolding stacked
+stacked-spelled cells h k =
+    let none : h - length (spelledBy cells h) ≡ 0 = omega (arith, length-spelled cells h) in
+    rw (none, bytes-spelled cells h k) (sym (take-append-drop h cells))
+
+pub length-stacked : (α : Form) (m : ℕ) (b : List ℕ) → length α ≤ m → m ≤ length b → length (stacked α m b) ≡ length b
+unfolding stacked
+length-stacked α m b h k = simp (length-append, length-bytes, length-replicate, length-drop) (omega arith)
+
+pub drop-stacked : (α : Form) (m : ℕ) (b : List ℕ) → length α ≤ m → drop m (stacked α m b) ≡ drop m b
+unfolding stacked
+drop-stacked α m b h = sym (ap (drop m) (append-assoc (bytesOf α) (replicate (m - length α) 0) (drop m b))) ∙ drop-at (bytesOf α ++ replicate (m - length α) 0) (drop m b) m (simp (length-append, length-bytes, length-replicate) (omega arith))
+
+spells-bytes : {α : Form} → Every Spelled α → (rest : List ℕ) → spelledBy (bytesOf α ++ rest) (length α) ≡ α
+unfolding bytesOf spelledBy
+spells-bytes nothing rest = refl
+spells-bytes (each {x = x} {xs = α} h e) rest =
+    let below : (bytesOf α ++ (byteOf x ∷ [])) ++ rest ≡ bytesOf α ++ (byteOf x ∷ rest) = append-assoc (bytesOf α) (byteOf x ∷ []) rest in
+    rw (below, getD-at (bytesOf α) (byteOf x) rest 0 (length α) (length-bytes α), h .same, spells-bytes e (byteOf x ∷ rest))
+
+-- the buffer spells the stack
+pub spelled-stacked : {α : Form} → Every Spelled α → (m : ℕ) (b : List ℕ) → spelledBy (stacked α m b) (length α) ≡ α
+unfolding stacked
+spelled-stacked e m b = spells-bytes e _
+
+pub stacked-again : (α : Form) (m : ℕ) (b : List ℕ) → length α ≤ m → stacked α m (stacked α m b) ≡ stacked α m b
+unfolding stacked
+stacked-again α m b h = ap (λ (rest : List ℕ). bytesOf α ++ (replicate (m - length α) 0 ++ rest)) (drop-stacked α m b h)

@@ -1,0 +1,260 @@
+-- The invariant of a run: the buffers hold a state from which the machine comes to the run's outcome on the tokens that are left.
+use mathlib.Core.Path.{_≡_, refl, sym, _∙_, ap, subst, subst₂}
+use mathlib.Core.List.{List, [], _∷_, _++_, append-nil}
+use mathlib.Core.Option.{Option}
+use Prim.Native.Nat.{ℕ, suc, _+_, _-_, _%_, _^_, _≤_, _<_, min}
+use native.Mathlib.Numerals.{add-one}
+use native.Mathlib.Omega.{arith}
+use lib.ListN.{length, getD, drop, set, replicate, length-append, length-drop, length-set, drop-of-length-le}
+use lib.Seq.{drop-cons, drop-drop, drop-at}
+use borrow.Author.Tests.{le-ltb}
+use Rattle.grammar.specs.Grammar.{Form, Grammar, Column, nothing, each}
+use Rattle.grammar.specs.Machine.{front}
+use Rattle.grammar.specs.declared.Symbol.the-variants.{Nonterminal}
+use Rattle.book.specs.Fields.{symbolOfByte}
+use Rattle.table.specs.Calls.{over}
+use Rattle.table.specs.Table.{cellOf}
+use Rattle.run.specs.Judged.{Stepped}
+use Rattle.run.specs.Machine.{State, Reason, Offered, taken, stopped, begun, offer, runFrom}
+use Rattle.run.specs.Moves.{columnIn, outlined}
+use Rattle.run.specs.Offering.{Spelled, Holds, Ready, Offering, progressOf, reported, leaves}
+use Rattle.run.specs.Room.{rightOf}
+use Rattle.run.specs.Running.{counted, listedBy, ran, cleared}
+use Rattle.run.specs.Stack.{byteOf, bytesOf, stacked}
+use Rattle.run.specs.declared.Ahead.the-variants.{Next, End}
+use Rattle.run.specs.declared.Cause.{Cause}
+use Rattle.run.specs.declared.Outline.{Outline}
+use Rattle.run.specs.declared.Progress.{Progress}
+use Rattle.run.specs.declared.Reply.the-variants.{Taken, Stopped}
+use Rattle.run.specs.declared.Reply.{Reply}
+use Rattle.run.proofs.Count.{Grown, gained, offer-grown}
+use Rattle.run.proofs.Offer.{run-taken, run-stopped}
+use Rattle.run.proofs.Stacked.{length-stacked, stacked-again}
+use Rattle.run.proofs.Walk.{final}
+
+pub final-leaves : (o : Offered) → final o ≡ leaves o
+unfolding final leaves
+final-leaves (taken s) = refl
+final-leaves (stopped r s) = refl
+
+listed-leaves : (o : Offered) → leaves o .listed ≡ listedBy o
+unfolding leaves listedBy
+listed-leaves (taken s) = refl
+listed-leaves (stopped r s) = refl
+
+pub length-over : (ps list : List ℕ) → length ps ≤ length list → length (over ps list) ≡ length list
+length-over ps list h = simp (length-append, length-drop) (omega arith)
+
+-- what is written later stands over what was written before
+pub over-over : (ps qs list : List ℕ) → length ps ≤ length qs → over qs (over ps list) ≡ over qs list
+over-over ps qs list h =
+    let more : length qs ≡ length ps + (length qs - length ps) = omega arith in
+    ap (λ (l : List ℕ). qs ++ l) (rw more (sym (drop-drop (length qs - length ps) (length ps) (over ps list)) ∙ rw (drop-at ps (drop (length ps) list) (length ps) refl) (drop-drop (length qs - length ps) (length ps) list)))
+
+module _ {s : State} {at : Progress} {stack₀ list₀ stack list : List ℕ} (h : Holds s at stack₀ list₀ stack list) where
+  pub holds-stack-length : length stack ≡ length stack₀
+  holds-stack-length = ap length (h .stack-cells) ∙ length-stacked (s .stack) (s .height) stack₀ (h .highest) (omega (arith, h .stack-room))
+
+  pub holds-list-length : length list ≡ length list₀
+  holds-list-length = ap length (h .list-cells) ∙ length-over (s .listed) list₀ (omega (arith, h .list-room))
+
+  -- the buffers hold the state as they are
+  pub holds-again : Holds s at stack list stack list
+  holds-again =
+      record {
+        height = h .height;
+        listed = h .listed;
+        matched = h .matched;
+        moves = h .moves;
+        highest = h .highest;
+        stack-room = omega (arith, h .stack-room, holds-stack-length);
+        list-room = omega (arith, h .list-room, holds-list-length);
+        spelled = h .spelled;
+        stack-cells = h .stack-cells ∙ sym (ap (stacked (s .stack) (s .height)) (h .stack-cells) ∙ stacked-again (s .stack) (s .height) stack₀ (h .highest));
+        list-cells = h .list-cells ∙ sym (ap (over (s .listed)) (h .list-cells) ∙ over-over (s .listed) (s .listed) list₀ (omega arith));
+      }
+
+pub nonterminal-spelled : (A : ℕ) → Spelled (Nonterminal A)
+unfolding byteOf symbolOfByte
+nonterminal-spelled A = let h : 128 ≤ 128 + A = omega arith in let same : 128 + A - 128 ≡ A = omega arith in record { same = rw (le-ltb (128 + A) 128 h, symbolOfByte, same) }
+
+pub begun-cells : (A : ℕ) (stack : List ℕ) → 1 ≤ length stack → set stack 0 (128 + A) ≡ stacked (Nonterminal A ∷ []) 1 (set stack 0 (128 + A))
+unfolding stacked bytesOf byteOf
+begun-cells A [] h = absurd (omega arith)
+begun-cells A (x ∷ stack) h = refl
+
+-- the start symbol stands on the stack
+begun-held : (A : ℕ) (stack list : List ℕ) → 1 ≤ length stack → Holds (begun A) (record { height = 1; listed = 0; matched = 0 }) (set stack 0 (128 + A)) list (set stack 0 (128 + A)) list
+unfolding begun
+begun-held A stack list h =
+    record {
+      height = refl;
+      listed = refl;
+      matched = refl;
+      moves = refl;
+      highest = omega arith;
+      stack-room = omega (arith, length-set stack 0 (128 + A));
+      list-room = omega arith;
+      spelled = each (nonterminal-spelled A) nothing;
+      stack-cells = begun-cells A stack h;
+      list-cells = refl;
+    }
+
+module _ (right : ℕ → Form) (cell : ℕ → Column → Option ℕ) (room cells : ℕ) (s : State) where
+  -- a stop ends the run, and so does the end mark
+  stop-ends : (w : List ℕ) {q : Reason} {e : State} → offer right cell room cells (cells - length (s .listed)) (front w) s ≡ stopped q e → runFrom right cell room cells w s ≡ stopped q e
+  unfolding runFrom
+  stop-ends [] f = f
+  stop-ends (t ∷ w) f = run-stopped right cell room cells t w s f
+
+  end-ends : (w : List ℕ) → w ≡ [] → offer right cell room cells (cells - length (s .listed)) (front w) s ≡ runFrom right cell room cells w s
+  unfolding runFrom
+  end-ends w e = rw e
+
+  -- a token that is taken is matched
+  taken-on : (w v : List ℕ) {t : ℕ} {e : State} → w ≡ t ∷ v → offer right cell room cells (cells - length (s .listed)) (front w) s ≡ taken e → (runFrom right cell room cells w s ≡ runFrom right cell room cells v e) × (gained (front w) (offer right cell room cells (cells - length (s .listed)) (front w) s) ≡ 1)
+  unfolding gained
+  taken-on w v {t} same f = rw same (run-taken right cell room cells t v s (rw same at f), rw (rw same at f))
+
+module _ (book places : List ℕ) (o : Outline) (table tokens stack₀ list₀ : List ℕ) where
+  abbrev right : ℕ → Form
+  right = rightOf (outlined book places o)
+
+  abbrev cell : ℕ → Column → Option ℕ
+  cell = cellOf (outlined book places o) table
+
+  abbrev pub whole : Offered
+  whole = ran (outlined book places o) table tokens stack₀ list₀
+
+  pub record Running (at : Progress) (stack list : List ℕ) : Type 0 where
+    pub state : State
+    pub same : runFrom right cell (counted stack₀) (counted list₀) (drop (at .matched) tokens) state ≡ whole
+    pub holds : Holds state at stack list stack list
+    pub inside : at .matched ≤ length tokens
+    pub lists : list ≡ over (state .listed) list₀
+    pub stack-length : length stack ≡ length stack₀
+    pub list-length : length list ≡ length list₀
+
+  -- what the run leaves before the stack is cleared
+  abbrev Ends : Reply → List ℕ → List ℕ → Type 0
+  Ends = Stepped (outlined book places o) table tokens stack₀ list₀
+
+  pub running-start : (stack : List ℕ) → 1 ≤ length stack → stack₀ ≡ set stack 0 (128 + o .start % 128) → Running (record { height = 1; listed = 0; matched = 0 }) stack₀ list₀
+  unfolding ran begun outlined
+  running-start stack h e =
+      record {
+        state = begun (o .start % 128);
+        same = refl;
+        holds = rw e (begun-held (o .start % 128) stack list₀ h);
+        inside = omega arith;
+        lists = refl;
+        stack-length = refl;
+        list-length = refl;
+      }
+
+  module _ {at : Progress} {stack list : List ℕ} (w : Running at stack list) where
+    pub running-ready : length tokens < 2 ^ 63 → Ready at stack list
+    running-ready h =
+        record {
+          height = omega (arith, w .holds .height, w .holds .highest, w .holds .stack-room);
+          listed = omega (arith, w .holds .listed, w .holds .list-room);
+          matched = omega (arith, w .inside);
+        }
+
+    -- the offer of what comes next
+    abbrev rest : List ℕ
+    rest = drop (at .matched) tokens
+
+    abbrev left : ℕ
+    left = counted list₀ - length (w .state .listed)
+
+    abbrev next : Offered
+    next = offer right cell (counted stack₀) (counted list₀) left (front rest) (w .state)
+
+    module _ {c : Column} {r : Reply} {stack′ list′ : List ℕ} (ahead : c ≡ front rest)
+        (offers : (s : State) → Holds s at stack list stack list → Offering (offer right cell (counted stack) (counted list) (counted list - at .listed) c s) stack list r stack′ list′) where
+      offering : Offering next stack list r stack′ list′
+      offering =
+          let room : counted stack ≡ counted stack₀ = ap (λ (n : ℕ). min n 65535) (w .stack-length) in
+          let cells : counted list ≡ counted list₀ = ap (λ (n : ℕ). min n 65535) (w .list-length) in
+          let same : offer right cell (counted stack) (counted list) (counted list - at .listed) c (w .state) ≡ next = rw (room, cells, ahead, w .holds .listed) in
+          subst (λ (x : Offered). Offering x stack list r stack′ list′) same (offers (w .state) (w .holds))
+
+      grown : Grown (w .state) (leaves next) (gained (front rest) next)
+      grown = subst (λ (e : State). Grown (w .state) e (gained (front rest) next)) (final-leaves next) (offer-grown right cell (counted stack₀) (counted list₀) left (front rest) (w .state) (omega (arith, w .holds .list-room, w .list-length)))
+
+      lists-on : list′ ≡ over (leaves next .listed) list₀
+      lists-on =
+          let longer : length (w .state .listed) ≤ length (leaves next .listed) = omega (arith, ap length (grown .lists), length-append (w .state .listed) (grown .new)) in
+          offering .holds .list-cells ∙ ap (over (leaves next .listed)) (w .lists) ∙ over-over (w .state .listed) (leaves next .listed) list₀ longer
+
+      -- the outcome of the last offer is the run's
+      ends : next ≡ whole → Ends r stack′ list′
+      ends same =
+          record {
+            answer = offering .answer ∙ ap reported same;
+            lists = lists-on ∙ ap (λ (x : Offered). over (leaves x .listed) list₀) same ∙ ap (λ (ps : List ℕ). over ps list₀) (listed-leaves whole);
+            stack-length = holds-stack-length (offering .holds) ∙ w .stack-length;
+            list-length = holds-list-length (offering .holds) ∙ w .list-length;
+          }
+
+      pub running-stopped : {cause : Cause} {x : Progress} → r ≡ Stopped cause x → Ends r stack′ list′
+      unfolding reported
+      running-stopped {cause} {x} e = go next refl
+        where
+          go : (y : Offered) → next ≡ y → Ends r stack′ list′
+          go (taken s) f = let answer : r ≡ reported (taken s) = offering .answer ∙ ap reported f in let bad : _≡_ {A = ℕ} 0 1 = cc in absurd (omega arith)
+          go (stopped q s) f = ends (f ∙ sym (stop-ends right cell (counted stack₀) (counted list₀) (w .state) rest f) ∙ w .same)
+
+      pub running-over : {x : Progress} → r ≡ Taken x → length tokens ≤ at .matched → Ends (Taken x) stack′ list′
+      running-over e h = subst (λ (y : Reply). Ends y stack′ list′) e (ends (end-ends right cell (counted stack₀) (counted list₀) (w .state) rest (drop-of-length-le tokens h) ∙ w .same))
+
+      pub running-next : {x : Progress} → r ≡ Taken x → at .matched < length tokens → Running x stack′ list′ × (x .matched ≡ at .matched + 1)
+      unfolding reported progressOf leaves
+      running-next {x} e h = go next refl
+        where
+          go : (y : Offered) → next ≡ y → Running x stack′ list′ × (x .matched ≡ at .matched + 1)
+          go (stopped q s) f = let answer : r ≡ reported (stopped q s) = offering .answer ∙ ap reported f in let bad : _≡_ {A = ℕ} 0 1 = cc in absurd (omega arith)
+          go (taken s) f =
+              let here : x ≡ progressOf s = let answer : r ≡ reported (taken s) = offering .answer ∙ ap reported f in cc in
+              let (on, one) = taken-on right cell (counted stack₀) (counted list₀) (w .state) rest (drop (suc (at .matched)) tokens) (drop-cons tokens (at .matched) 0 h) f in
+              let left-in : leaves next ≡ s = ap leaves f in
+              let matched : x .matched ≡ at .matched + 1 = omega (arith, ap (λ (z : Progress). z .matched) here, ap (λ (z : State). z .matched) left-in, grown .matches, one, w .holds .matched) in (
+                record {
+                  state = s;
+                  same = rw (matched, add-one (at .matched)) (sym on ∙ w .same);
+                  holds = holds-again (subst₂ (λ (z : State) (p : Progress). Holds z p stack list stack′ list′) left-in (ap progressOf left-in ∙ sym here) (offering .holds));
+                  inside = omega arith;
+                  lists = lists-on ∙ ap (λ (z : State). over (z .listed) list₀) left-in;
+                  stack-length = holds-stack-length (offering .holds) ∙ w .stack-length;
+                  list-length = holds-list-length (offering .holds) ∙ w .list-length;
+                },
+                matched,
+              )
+
+ran-room : (g : Grammar) (table tokens list : List ℕ) (a b : List ℕ) → length a ≡ length b → ran g table tokens a list ≡ ran g table tokens b list
+unfolding ran
+ran-room g table tokens list a b e = rw e
+
+-- that the start symbol is put on the stack changes no room
+pub stepped-from : {g : Grammar} {table tokens : List ℕ} (stack : List ℕ) {list : List ℕ} (b : ℕ) {r : Reply} {stack′ list′ : List ℕ} → Stepped g table tokens (set stack 0 b) list r stack′ list′ → Stepped g table tokens stack list r stack′ list′
+stepped-from {g} {table} {tokens} stack {list} b h =
+    let same : ran g table tokens (set stack 0 b) list ≡ ran g table tokens stack list = ran-room g table tokens list (set stack 0 b) stack (length-set stack 0 b) in
+    record {
+      answer = h .answer ∙ ap reported same;
+      lists = h .lists ∙ ap (λ (x : Offered). over (listedBy x) list) same;
+      stack-length = h .stack-length ∙ length-set stack 0 b;
+      list-length = h .list-length;
+    }
+
+pub ahead-next : (tokens : List ℕ) {i : ℕ} → i < length tokens → columnIn (Next (getD tokens i 0)) ≡ front (drop i tokens)
+unfolding columnIn
+ahead-next tokens {i} h = rw (drop-cons tokens i 0 h)
+
+pub ahead-end : (tokens : List ℕ) {i : ℕ} → length tokens ≤ i → columnIn End ≡ front (drop i tokens)
+unfolding columnIn
+ahead-end tokens {i} h = rw (drop-of-length-le tokens h)
+
+-- a buffer of which every cell is filled
+pub fill-all : (i : ℕ) (buffer : List ℕ) → i ≤ length buffer → length buffer ≤ i → replicate i 0 ++ drop i buffer ≡ cleared buffer
+fill-all i buffer h k = let all : i ≡ length buffer = omega arith in rw (drop-of-length-le buffer k, append-nil, all)

@@ -1,0 +1,215 @@
+-- The invariant of an expansion: the buffers hold a stack and a progress from which the machine comes to the expansion's end.
+use mathlib.Core.Path.{_≡_, refl, sym, _∙_, ap, subst, subst₂, subst₃}
+use mathlib.Core.Bool.{Bool}
+use mathlib.Core.List.{List, [], _∷_, _++_}
+use Prim.Native.Nat.{ℕ, zero, suc, _+_, _-_, _%_, _≤_, _<_, min}
+use native.Mathlib.Omega.{arith}
+use lib.ListN.{length, getD, drop, set, length-append, length-set}
+use lib.Seq.{sets, drop-nil}
+use Rattle.grammar.specs.Grammar.{Form, Grammar, Every, nothing, each}
+use Rattle.grammar.specs.declared.Symbol.the-variants.{Token, Nonterminal}
+use Rattle.table.specs.Calls.{over}
+use Rattle.run.specs.Expanding.{opened, expansion}
+use Rattle.run.specs.Expansion.{Progress, Ending, complete, unfit, full-stack, full-output, Expanded, ended, wrote, applied, expandFrom}
+use Rattle.run.specs.Index.{symbolsFrom}
+use Rattle.run.specs.Moves.{outlined, RightSide}
+use Rattle.run.specs.Offering.{Spelled}
+use Rattle.run.specs.Room.{rightOf, isOf}
+use Rattle.run.specs.Running.{counted}
+use Rattle.run.specs.Stack.{bytesOf, spelledBy, stacked}
+use Rattle.run.specs.Turns.{Turns, finaleOf, unfolded, Unfolds}
+use Rattle.run.specs.declared.Finale.{Finale}
+use Rattle.run.specs.declared.Outline.{Outline}
+use Rattle.run.specs.declared.Turn.the-variants.{Write, Apply, Close}
+use Rattle.run.specs.declared.Turn.{Turn}
+use Rattle.run.specs.declared.Unfolding.{Unfolding}
+use Rattle.run.proofs.ExpandMoves.{finished-is, left-over-is, too-short-is, misfit-is, no-stack-is, apply-is, no-output-is, write-is}
+use Rattle.run.proofs.Holding.{over-more}
+use Rattle.run.proofs.Stacked.{symbols-spelled, every-append, every-rest, length-symbols, spelled-stacked, stacked-pop, stacked-replace, length-stacked}
+use Rattle.run.proofs.Steps.{begun-cells, nonterminal-spelled, length-over}
+
+-- the list after its first production
+drop-next : (list : List ℕ) (used : ℕ) {p : ℕ} {qs : List ℕ} → drop used list ≡ p ∷ qs → (qs ≡ drop (used + 1) list) × (used < length list)
+drop-next [] used {p} {qs} e = let none : _≡_ {A = List ℕ} [] (p ∷ qs) = rw (drop-nil used) at e in let bad : _≡_ {A = ℕ} 0 1 = cc in absurd (omega arith)
+drop-next (x ∷ list) zero e = ((cc), omega arith)
+drop-next (x ∷ list) (suc used) e = let (rest, inside) = drop-next list used e in let one : suc used + 1 ≡ suc (used + 1) = omega arith in (rw one rest, omega arith)
+
+module _ (book places : List ℕ) (o : Outline) (list stack₀ output₀ : List ℕ) where
+  abbrev fits : ℕ → ℕ → Bool
+  fits = isOf (outlined book places o)
+
+  abbrev right : ℕ → Form
+  right = rightOf (outlined book places o)
+
+  abbrev runs : List ℕ → Form → Progress → Expanded
+  runs = expandFrom fits right (counted stack₀) (counted output₀)
+
+  abbrev whole : Expanded
+  whole = expansion (outlined book places o) (counted stack₀) (counted output₀) list
+
+  pub record Unrolled (stack output : List ℕ) (height used written : ℕ) : Type 0 where
+    pub form : Form
+    pub progress : Progress
+    pub same : runs (drop used list) form progress ≡ whole
+    pub height-is : height ≡ length form
+    pub used-is : used ≡ progress .used
+    pub written-is : written ≡ length (progress .written)
+    pub inside : used ≤ length list
+    pub highest : length form ≤ progress .height
+    pub stack-room : progress .height ≤ counted stack₀
+    pub output-room : written ≤ counted output₀
+    pub spelled : Every Spelled form
+    pub stack-cells : stack ≡ stacked form (progress .height) stack₀
+    pub output-cells : output ≡ over (progress .written) output₀
+
+  pub unrolled-start : (stack : List ℕ) → 1 ≤ length stack → stack₀ ≡ set stack 0 (128 + o .start % 128) → Unrolled stack₀ output₀ 1 0 0
+  unfolding opened outlined
+  unrolled-start stack h e =
+      record {
+        form = Nonterminal (o .start % 128) ∷ [];
+        progress = opened;
+        same = refl;
+        height-is = refl;
+        used-is = refl;
+        written-is = refl;
+        inside = omega arith;
+        highest = omega arith;
+        stack-room = omega (arith, ap length e, length-set stack 0 (128 + o .start % 128));
+        output-room = omega arith;
+        spelled = each (nonterminal-spelled (o .start % 128)) nothing;
+        stack-cells = rw e (begun-cells (o .start % 128) stack h);
+        output-cells = refl;
+      }
+
+  module _ {stack output : List ℕ} {height used written : ℕ} (u : Unrolled stack output height used written) where
+    pub unrolled-stack : length stack ≡ length stack₀
+    unrolled-stack = ap length (u .stack-cells) ∙ length-stacked (u .form) (u .progress .height) stack₀ (u .highest) (omega (arith, u .stack-room))
+
+    pub unrolled-output : length output ≡ length output₀
+    unrolled-output = ap length (u .output-cells) ∙ length-over (u .progress .written) output₀ (omega (arith, u .output-room, u .written-is))
+
+    pub unrolled-height : height ≤ counted stack₀
+    unrolled-height = omega (arith, u .height-is, u .highest, u .stack-room)
+
+    unrolled-spells : spelledBy stack height ≡ u .form
+    unrolled-spells = rw (u .height-is, u .stack-cells) (spelled-stacked (u .spelled) (u .progress .height) stack₀)
+
+    module _ {cells : ℕ} (all-cells : cells ≡ counted output₀) where
+      -- the turn is chosen by what the buffers hold and the room as it was lent
+      by-form : {m n : Turn} → Turns fits right (counted stack) cells (drop used list) (spelledBy stack height) written m → m ≡ n → Turns fits right (counted stack₀) (counted output₀) (drop used list) (u .form) (length (u .progress .written)) n
+      by-form {m} k same =
+          subst₃ (λ (α : Form) (w : ℕ) (n : Turn). Turns fits right (counted stack₀) (counted output₀) (drop used list) α w n) unrolled-spells (u .written-is) same
+          (subst₂ (λ (room cells : ℕ). Turns fits right room cells (drop used list) (spelledBy stack height) written m) (ap (λ (n : ℕ). min n 65535) unrolled-stack) all-cells k)
+
+      pub record WriteFits : Type 0 where
+        pub some-symbol : 1 ≤ height
+        pub output-left : written < counted output₀
+
+      pub write-fits : {m : Turn} {t : ℕ} → Turns fits right (counted stack) cells (drop used list) (spelledBy stack height) written m → m ≡ Write t → WriteFits
+      write-fits {t = t} k same = go (by-form k same)
+        where
+          go : Turns fits right (counted stack₀) (counted output₀) (drop used list) (u .form) (length (u .progress .written)) (Write t) → WriteFits
+          go (Turns.writes e h) = record { some-symbol = omega (arith, u .height-is, ap length e); output-left = omega (arith, u .written-is) }
+
+      pub unrolled-write : {m : Turn} {t : ℕ} → Turns fits right (counted stack) cells (drop used list) (spelledBy stack height) written m → m ≡ Write t → Unrolled (set stack (height - 1) 0) (set output written t) (height - 1) used (written + 1)
+      unfolding wrote
+      unrolled-write {t = t} k same = go (by-form k same)
+        where
+          go : Turns fits right (counted stack₀) (counted output₀) (drop used list) (u .form) (length (u .progress .written)) (Write t) → Unrolled (set stack (height - 1) 0) (set output written t) (height - 1) used (written + 1)
+          go (Turns.writes {β = β} e h) =
+              let n : height ≡ suc (length β) = u .height-is ∙ ap length e in
+              let below : height - 1 ≡ length β = omega arith in
+              record {
+                form = β;
+                progress = wrote t (u .progress);
+                same = sym (write-is fits right (counted stack₀) (counted output₀) t (drop used list) β (u .progress) h) ∙ ap (λ (α : Form). runs (drop used list) α (u .progress)) (sym e) ∙ u .same;
+                height-is = below;
+                used-is = u .used-is;
+                written-is = omega (arith, u .written-is, length-append (u .progress .written) (t ∷ []));
+                inside = u .inside;
+                highest = omega (arith, u .highest, u .height-is);
+                stack-room = u .stack-room;
+                output-room = omega (arith, u .written-is);
+                spelled = every-rest (subst (λ (α : Form). Every Spelled α) e (u .spelled));
+                stack-cells = rw (below, u .stack-cells, e) (stacked-pop (Token t) β (u .progress .height) stack₀ (omega (arith, u .highest, u .height-is)));
+                output-cells = rw (u .written-is, u .output-cells) (over-more (u .progress .written) t output₀ (omega arith));
+              }
+
+      pub record ApplyFits (count : ℕ) : Type 0 where
+        pub some-symbol : 1 ≤ height
+        pub list-left : used < length list
+        pub stack-left : height - 1 + count ≤ counted stack₀
+
+      pub apply-fits : {m : Turn} {p count : ℕ} → RightSide book places o p count → Turns fits right (counted stack) cells (drop used list) (spelledBy stack height) written m → m ≡ Apply p → ApplyFits count
+      apply-fits {p = p} {count = count} side k same = go (by-form k same)
+        where
+          go : Turns fits right (counted stack₀) (counted output₀) (drop used list) (u .form) (length (u .progress .written)) (Apply p) → ApplyFits count
+          go (Turns.applies {β = β} e f g h) =
+              let many : length (right p) ≡ count = ap length (side .symbols) ∙ length-symbols book (getD places p 0) count 0 in
+              record { some-symbol = omega (arith, u .height-is, ap length e); list-left = drop-next list used f .1; stack-left = omega (arith, u .height-is, ap length e, length-append (right p) β) }
+
+      pub unrolled-apply : {m : Turn} {p count place : ℕ} {after : List ℕ} → RightSide book places o p count → Turns fits right (counted stack) cells (drop used list) (spelledBy stack height) written m → m ≡ Apply p
+          → place ≡ getD places p 0 → after ≡ sets (set stack (height - 1) 0) (height - 1) (bytesOf (symbolsFrom book place count 0)) → Unrolled after output (height - 1 + count) (used + 1) written
+      unfolding applied
+      unrolled-apply {p = p} {count = count} {after = after} side k same at cells-are = go (by-form k same)
+        where
+          go : Turns fits right (counted stack₀) (counted output₀) (drop used list) (u .form) (length (u .progress .written)) (Apply p) → Unrolled after output (height - 1 + count) (used + 1) written
+          go (Turns.applies {A = A} {β = β} {qs = qs} e f g h) =
+              let n : height ≡ suc (length β) = u .height-is ∙ ap length e in
+              let below : height - 1 ≡ length β = omega arith in
+              let many : length (right p) ≡ count = ap length (side .symbols) ∙ length-symbols book (getD places p 0) count 0 in
+              let long = length-append (right p) β in
+              let (rest, inside) = drop-next list used f in
+              record {
+                form = right p ++ β;
+                progress = applied (right p ++ β) (u .progress);
+                same = ap (λ (ps : List ℕ). runs ps (right p ++ β) (applied (right p ++ β) (u .progress))) (sym rest) ∙ sym (apply-is fits right (counted stack₀) (counted output₀) p A qs β (u .progress) g h) ∙ ap (λ (α : Form). runs (p ∷ qs) α (u .progress)) (sym e) ∙ ap (λ (ps : List ℕ). runs ps (u .form) (u .progress)) (sym f) ∙ u .same;
+                height-is = omega arith;
+                used-is = omega (arith, u .used-is);
+                written-is = u .written-is;
+                inside = omega arith;
+                highest = omega arith;
+                stack-room = omega (arith, u .stack-room);
+                output-room = u .output-room;
+                spelled = every-append (subst (λ (γ : Form). Every Spelled γ) (sym (side .symbols)) (symbols-spelled book (getD places p 0) count 0)) (every-rest (subst (λ (γ : Form). Every Spelled γ) e (u .spelled)));
+                stack-cells = cells-are ∙ rw (at, below, u .stack-cells, e, ← side .symbols) (stacked-replace (Nonterminal A) (right p) β (u .progress .height) stack₀ (omega (arith, u .highest, u .height-is)) (omega arith));
+                output-cells = u .output-cells;
+              }
+
+      -- where no move is made
+      closes : (e : Ending) {f : Finale} → f ≡ finaleOf e → runs (drop used list) (u .form) (u .progress) ≡ ended e (u .progress) → Unfolds (outlined book places o) list stack₀ output₀ (record { finale = f; used = used; written = written }) stack output
+      unfolding unfolded ended
+      closes e f k =
+          let last : whole ≡ ended e (u .progress) = sym (u .same) ∙ k in
+          record {
+            answer = (λ i. record { finale = f i; used = u .used-is i; written = u .written-is i }) ∙ ap unfolded (sym last);
+            written = u .output-cells ∙ ap (λ (x : Expanded). over (x .progress .written) output₀) (sym last);
+            stack-length = unrolled-stack;
+            output-length = unrolled-output;
+          }
+
+      pub unrolled-close : {m : Turn} {f : Finale} → Turns fits right (counted stack) cells (drop used list) (spelledBy stack height) written m → m ≡ Close f → Unfolds (outlined book places o) list stack₀ output₀ (record { finale = f; used = used; written = written }) stack output
+      unfolding finaleOf
+      unrolled-close k same = go (by-form k same)
+        where
+          from : (ps : List ℕ) (α : Form) → drop used list ≡ ps → u .form ≡ α → {x : Expanded} → runs ps α (u .progress) ≡ x → runs (drop used list) (u .form) (u .progress) ≡ x
+          from ps α f g h = rw (f, g) h
+
+          go : {f : Finale} → Turns fits right (counted stack₀) (counted output₀) (drop used list) (u .form) (length (u .progress .written)) (Close f) → Unfolds (outlined book places o) list stack₀ output₀ (record { finale = f; used = used; written = written }) stack output
+          go (Turns.finished e f) = closes complete refl (from _ _ f e (finished-is fits right (counted stack₀) (counted output₀) (u .progress)))
+          go (Turns.left-over {p = p} {qs = qs} e f) = closes unfit refl (from _ _ f e (left-over-is fits right (counted stack₀) (counted output₀) p qs (u .progress)))
+          go (Turns.too-short {A = A} {β = β} e f) = closes unfit refl (from _ _ f e (too-short-is fits right (counted stack₀) (counted output₀) A β (u .progress)))
+          go (Turns.misfit {A = A} {p = p} {β = β} {qs = qs} e f g) = closes unfit refl (from _ _ f e (misfit-is fits right (counted stack₀) (counted output₀) p A qs β (u .progress) g))
+          go (Turns.no-stack {A = A} {p = p} {β = β} {qs = qs} e f g h) = closes full-stack refl (from _ _ f e (no-stack-is fits right (counted stack₀) (counted output₀) p A qs β (u .progress) g h))
+          go (Turns.no-output {t = t} {β = β} e h) = closes full-output refl (from _ _ refl e (no-output-is fits right (counted stack₀) (counted output₀) t (drop used list) β (u .progress) h))
+
+-- that the start symbol is put on the stack changes no room
+pub unfolds-from : {g : Grammar} {list : List ℕ} (stack : List ℕ) {output : List ℕ} (b : ℕ) {r : Unfolding} {stack′ output′ : List ℕ} → Unfolds g list (set stack 0 b) output r stack′ output′ → Unfolds g list stack output r stack′ output′
+unfolds-from {g} {list} stack {output} b h =
+    let same : expansion g (counted (set stack 0 b)) (counted output) list ≡ expansion g (counted stack) (counted output) list = ap (λ (n : ℕ). expansion g (min n 65535) (counted output) list) (length-set stack 0 b) in
+    record {
+      answer = h .answer ∙ ap unfolded same;
+      written = h .written ∙ ap (λ (x : Expanded). over (x .progress .written) output) same;
+      stack-length = h .stack-length ∙ length-set stack 0 b;
+      output-length = h .output-length;
+    }

@@ -1,0 +1,63 @@
+-- The invariant: the columns passed are collected.
+use mathlib.Core.Path.{_≡_}
+use Prim.Native.Nat.{_+_, _-_, _≤_}
+use borrow.Author.Needs.{needs}
+use Rattle.grammar.specs.Grammar.{Grammar}
+use Rattle.sets.proofs.Promise.{none-is}
+use Rattle.sets.specs.Calls.{number}
+use Rattle.run.specs.Moves.{Outlines}
+use Rattle.run.specs.Running.{filledBelow}
+use Rattle.run.proofs.Expected.{rows-over}
+use Rattle.run.proofs.answering.row_columns.Statement.{statement}
+use Rattle.run.proofs.answering.row_columns.Tie as tie
+
+abbrev Inv-loop : tie.InvT-loop
+Inv-loop table outline n last columns₀ j₀ columns j =
+    (j ≤ last + 1) × ((g : Grammar) → Outlines outline g → number columns ≡ filledBelow g table n j)
+
+abbrev μ-loop : tie.MeasureT-loop
+μ-loop table outline n last columns₀ j₀ columns j = last + 1 - j
+
+cast-last : tie.Need-cast-last Inv-loop μ-loop
+cast-last c = search needs
+
+none-requires : tie.Need-none-requires Inv-loop μ-loop
+none-requires c κs = search needs
+
+loop-holds : tie.Need-loop-holds Inv-loop μ-loop
+unfolding filledBelow
+loop-holds c = (search needs, λ g sized. none-is (c .none .ensures))
+
+cast-with-column : tie.Need-cast-with-column Inv-loop μ-loop
+cast-with-column c = search needs
+
+with-column-requires : tie.Need-with-column-requires Inv-loop μ-loop
+with-column-requires c κs = search needs
+
+add-j : tie.Need-add-j Inv-loop μ-loop
+add-j c = search needs
+
+loop-less : tie.Need-loop-less Inv-loop μ-loop
+loop-less c = search needs
+
+loop-again : tie.Need-loop-again Inv-loop μ-loop
+loop-again c = (search needs, λ g sized. c .with-column .ensures .filled g sized (c .before .before .loop .inv .1 g sized))
+
+returns : tie.Need-returns Inv-loop μ-loop
+returns c = record { filled = λ g sized. rows-over sized _ _ (c .loop-test .left) (c .before .loop .inv .0) (c .before .loop .inv .1 g sized) }
+
+pub row-columns-spec : {M : Type 1} → statement M
+row-columns-spec =
+    tie.close
+    (tie.spec
+    Inv-loop
+    μ-loop
+    cast-last
+    none-requires
+    loop-holds
+    cast-with-column
+    with-column-requires
+    add-j
+    loop-less
+    loop-again
+    returns)

@@ -1,0 +1,46 @@
+-- A cell that is filled fits if its production is of the cell's row.
+use mathlib.Core.Path.{refl}
+use native.Mathlib.Omega.{arith}
+use borrow.Author.Needs.{needs}
+use Rattle.run.specs.Moves.{outlined}
+use Rattle.run.proofs.Checks.{vacant-fits, filled-fits, row-below}
+use Rattle.run.proofs.checking.cell_fits.Statement.{statement}
+use Rattle.run.proofs.checking.cell_fits.Tie as tie
+
+cell-at-requires : tie.Need-cell-at-requires
+cell-at-requires c κs = search needs
+
+returns : tie.Need-returns
+returns c = vacant-fits _ _ _ (c .before .cell-at .ensures) (c .if1 .taken)
+
+cast-row : tie.Need-cast-row
+cast-row c = search needs
+
+add-row : tie.Need-add-row
+add-row c = search needs
+
+div-row : tie.Need-div-row
+div-row c = search needs
+
+cast-is-of : tie.Need-cast-is-of
+cast-is-of c = omega (arith, row-below (c .before .before .before .before .before .before .args .i) (c .before .before .before .before .before .before .args .outline .nonterminals) (c .before .before .before .before .before .before .args .outline .tokens) (c .before .before .before .before .before .before .pre))
+
+is-of-requires : tie.Need-is-of-requires
+is-of-requires c κs = search needs
+
+returns-2 : tie.Need-returns-2
+unfolding outlined
+returns-2 c = filled-fits _ _ _ (c .before .before .before .cell-at .ensures) _ (c .before .before .if1 .left) (c .is-of .ensures) refl
+
+pub cell-fits-spec : {M : Type 1} → statement M
+cell-fits-spec =
+    tie.close
+    (tie.spec
+    cell-at-requires
+    returns
+    cast-row
+    add-row
+    div-row
+    cast-is-of
+    is-of-requires
+    returns-2)

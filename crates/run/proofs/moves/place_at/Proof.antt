@@ -1,0 +1,26 @@
+-- Past the end the place is the default of `getD`.
+use mathlib.Core.Path.{sym}
+use native.Mathlib.Omega.{arith}
+use lib.ListN.{List·getD-eq-default}
+use borrow.Author.Needs.{needs}
+use Rattle.run.proofs.moves.place_at.Statement.{statement}
+use Rattle.run.proofs.moves.place_at.Tie as tie
+
+mul-result : tie.Need-mul-result
+mul-result c = search needs
+
+shared-slice-read-result : tie.Need-shared-slice-read-result
+shared-slice-read-result c = search needs
+
+cast-result : tie.Need-cast-result
+cast-result c = omega (arith, c .shared-slice-known .given (c .before .before .args .p))
+
+returns : tie.Need-returns
+returns c = search needs
+
+returns-2 : tie.Need-returns-2
+returns-2 c = sym (List·getD-eq-default (c .before .args .places .now) 0 (omega arith))
+
+pub place-at-spec : {M : Type 1} → statement M
+place-at-spec =
+    tie.close (tie.spec mul-result shared-slice-read-result cast-result returns returns-2)

@@ -1,0 +1,45 @@
+-- Barred, or steps made and counted.
+use mathlib.Core.Path.{refl}
+use native.Mathlib.Omega.{arith}
+use borrow.Author.Needs.{needs}
+use Rattle.run.proofs.Records.{outlined-sized}
+use Rattle.run.proofs.RunAnswers.{checked-admits, account-barred, account-stepped, reply-countable}
+use Rattle.run.proofs.running.account_on.Statement.{statement}
+use Rattle.run.proofs.running.account_on.Tie as tie
+
+check-requires : tie.Need-check-requires
+check-requires c κs = search needs
+
+returns : tie.Need-returns
+returns c = account-barred (c .before .before .check .ensures (c .before .before .before .before .before .before .before .before .before .args .stack .now) refl) (c .if1 .taken)
+
+run-on-requires : tie.Need-run-on-requires
+run-on-requires c κs = checked-admits (c .before .before .before .before .check .ensures (c .before .before .before .before .before .before .before .before .before .before .before .args .stack .now) refl) (c .before .before .if1 .left) .stacked
+
+progress-of-requires : tie.Need-progress-of-requires
+progress-of-requires c κs = search needs
+
+answer-of-requires : tie.Need-answer-of-requires
+answer-of-requires c κs = reply-countable _ _ _ _ _ (c .before .before .before .before .before .run-on .ensures .answer) (omega (arith, checked-admits (c .before .before .before .before .before .before .before .before .before .before .check .ensures (c .before .before .before .before .before .before .before .before .before .before .before .before .before .before .before .before .before .args .stack .now) refl) (c .before .before .before .before .before .before .before .before .if1 .left) .short))
+
+same-length : tie.Need-same-length
+same-length c = search needs
+
+same-length-2 : tie.Need-same-length-2
+same-length-2 c = search needs
+
+returns-2 : tie.Need-returns-2
+returns-2 c = account-stepped (checked-admits (c .before .before .before .before .before .before .before .before .before .before .before .check .ensures (c .before .before .before .before .before .before .before .before .before .before .before .before .before .before .before .before .before .before .args .stack .now) refl) (c .before .before .before .before .before .before .before .before .before .if1 .left)) (outlined-sized _ _ _) (c .before .before .before .before .before .before .run-on .ensures) (c .before .progress-of .ensures) (c .answer-of .ensures)
+
+pub account-on-spec : {M : Type 1} → statement M
+account-on-spec =
+    tie.close
+    (tie.spec
+    check-requires
+    returns
+    run-on-requires
+    progress-of-requires
+    answer-of-requires
+    same-length
+    same-length-2
+    returns-2)

@@ -1,0 +1,62 @@
+-- The invariant: with what is left put on top, the stack is the whole answer.
+use mathlib.Core.Path.{_≡_, sym, _∙_}
+use Prim.Native.Nat.{_+_, _≤_}
+use native.Mathlib.Omega.{arith}
+use lib.ListN.{length, length-set}
+use lib.Seq.{sets}
+use borrow.Author.Needs.{needs}
+use Rattle.run.specs.Index.{symbolsFrom}
+use Rattle.run.specs.Stack.{bytesOf}
+use Rattle.run.proofs.Stacked.{push-turn, push-over}
+use Rattle.run.proofs.stack.push.Statement.{statement}
+use Rattle.run.proofs.stack.push.Tie as tie
+
+abbrev Inv-loop : tie.InvT-loop
+Inv-loop book at count stack₀ height top₀ left₀ stack top left =
+    (top + left ≤ length stack) × (length stack ≡ length stack₀) × (sets stack top (bytesOf (symbolsFrom book at left 0)) ≡ sets stack₀ height (bytesOf (symbolsFrom book at count 0)))
+
+abbrev μ-loop : tie.MeasureT-loop
+μ-loop book at count stack₀ height top₀ left₀ stack top left = left
+
+loop-holds : tie.Need-loop-holds Inv-loop μ-loop
+loop-holds c = search needs
+
+sub-left : tie.Need-sub-left Inv-loop μ-loop
+sub-left c = search needs
+
+symbol-byte-requires : tie.Need-symbol-byte-requires Inv-loop μ-loop
+symbol-byte-requires c κs = search needs
+
+slice-write-stack : tie.Need-slice-write-stack Inv-loop μ-loop
+slice-write-stack c = search needs
+
+add-top : tie.Need-add-top Inv-loop μ-loop
+add-top c = search needs
+
+loop-less : tie.Need-loop-less Inv-loop μ-loop
+loop-less c = search needs
+
+loop-again : tie.Need-loop-again Inv-loop μ-loop
+loop-again c = (simp length-set (omega arith), search needs, push-turn _ _ _ _ _ _ (c .before .loop-test .taken) (c .symbol-byte .ensures) ∙ c .before .before .loop .inv .2)
+
+same-length : tie.Need-same-length Inv-loop μ-loop
+same-length c = search needs
+
+returns : tie.Need-returns Inv-loop μ-loop
+returns c = sym (push-over _ _ _ _ _ (c .loop-test .left)) ∙ c .before .loop .inv .2
+
+pub push-spec : {M : Type 1} → statement M
+push-spec =
+    tie.close
+    (tie.spec
+    Inv-loop
+    μ-loop
+    loop-holds
+    sub-left
+    symbol-byte-requires
+    slice-write-stack
+    add-top
+    loop-less
+    loop-again
+    same-length
+    returns)

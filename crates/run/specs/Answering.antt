@@ -1,0 +1,55 @@
+-- The paper's number, detail and expected set for each cause of a stop, as the code has them.
+-- Document 01, "Refusals and their numbers" and "Running and expanding".
+use mathlib.Core.Path.{_≡_}
+use mathlib.Core.List.{List}
+use Prim.Native.Nat.{ℕ, _+_}
+use lib.ListN.{length}
+use Rattle.grammar.specs.Grammar.{Grammar}
+use Rattle.sets.specs.Calls.{number}
+use Rattle.sets.specs.declared.Set.{Set}
+use Rattle.book.specs.Refusals.{room, syntax, stackRoom, listRoom}
+use Rattle.book.specs.declared.Answer.{Answer}
+use Rattle.run.specs.Machine.{Reason, Offered}
+use Rattle.run.specs.Moves.{Outlines}
+use Rattle.run.specs.Offering.{causeOf, reported, leaves}
+use Rattle.run.specs.Running.{filledBelow, expected, answered}
+use Rattle.run.specs.declared.Cause.the-variants.{FullList, FullStack, WantsEnd, WantsToken, WantsRow}
+use Rattle.run.specs.declared.Cause.{Cause}
+use Rattle.run.specs.declared.Outline.{Outline}
+use Rattle.run.specs.declared.Progress.{Progress}
+use Rattle.run.specs.declared.Reply.the-variants.{Taken, Stopped}
+use Rattle.run.specs.declared.Reply.{Reply}
+
+abbrev pub numberOf : Cause → ℕ
+numberOf FullList = room
+numberOf FullStack = room
+numberOf WantsEnd = syntax
+numberOf (WantsToken t) = syntax
+numberOf (WantsRow A) = syntax
+
+abbrev pub detailOf : Cause → ℕ
+detailOf FullList = listRoom
+detailOf FullStack = stackRoom
+detailOf WantsEnd = 0
+detailOf (WantsToken t) = 0
+detailOf (WantsRow A) = 0
+
+-- the filled columns of row A below the last are marked, and then that one too
+pub record WithColumn (o : Outline) (table : List ℕ) (A column : ℕ) (before after : Set) : Type 0 where
+  pub filled : (g : Grammar) → Outlines o g → number before ≡ filledBelow g table A column → number after ≡ filledBelow g table A (column + 1)
+
+pub record RowColumns (o : Outline) (table : List ℕ) (A : ℕ) (r : Set) : Type 0 where
+  pub filled : (g : Grammar) → Outlines o g → number r ≡ filledBelow g table A (g .tokens + 1)
+
+-- r is the expected set of the reason that the code has as this cause
+pub record Expects (o : Outline) (table : List ℕ) (cause : Cause) (r : Set) : Type 0 where
+  pub set : (g : Grammar) → Outlines o g → (reason : Reason) → cause ≡ causeOf reason → r ≡ expected g table reason
+
+-- the counts of a reply
+abbrev pub progressIn : Reply → Progress
+progressIn (Taken at) = at
+progressIn (Stopped cause at) = at
+
+-- r is the answer to the outcome that the code has as this reply
+pub record Answers (o : Outline) (table : List ℕ) (reply : Reply) (r : Answer) : Type 0 where
+  pub answer : (g : Grammar) → Outlines o g → (outcome : Offered) → reply ≡ reported outcome → leaves outcome .moves ≡ length (leaves outcome .listed) + leaves outcome .matched → r ≡ answered (expected g table) outcome

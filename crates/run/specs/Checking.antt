@@ -1,0 +1,26 @@
+-- What is checked before steps: the table, the number of tokens, the tokens, a stack cell.
+-- Document 01, "Refusals and their numbers".
+use mathlib.Core.List.{List}
+use Prim.Native.Nat.{ℕ, _≤_, _<_}
+use lib.ListN.{length, getD}
+use Rattle.grammar.specs.Grammar.{Grammar}
+use Rattle.book.specs.Answers.{done}
+use Rattle.book.specs.declared.Answer.{Answer}
+use Rattle.run.specs.Running.{Fits, Barred, Admits}
+
+-- the first cell that does not fit, or the length
+pub record FirstMisfit (g : Grammar) (table : List ℕ) (r : ℕ) : Type 0 where
+  pub inside : r ≤ length table
+  pub earlier : (j : ℕ) → j < r → Fits g table j
+  pub misfit : r < length table → ¬ Fits g table r
+
+-- the first token that is not below T, or the length
+pub record FirstAbove (T : ℕ) (tokens : List ℕ) (r : ℕ) : Type 0 where
+  pub inside : r ≤ length tokens
+  pub earlier : (j : ℕ) → j < r → getD tokens j 0 < T
+  pub above : r < length tokens → T ≤ getD tokens r 0
+
+-- barred with the refusal, or admitted
+pub data Checked (g : Grammar) (table tokens stack : List ℕ) : Answer → Type 0 where
+  barred : {a : Answer} → Barred g table tokens stack a → Checked g table tokens stack a
+  admitted : Admits g table tokens stack → Checked g table tokens stack (done 0)

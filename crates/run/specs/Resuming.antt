@@ -1,0 +1,36 @@
+-- One column offered to a run in progress, for every book, reading, table, buffer and count.
+-- Document 01, "Running and expanding"; at most 65,535 cells of a buffer count, and as many matched tokens.
+use mathlib.Core.Path.{_≡_}
+use mathlib.Core.List.{List}
+use Prim.Native.Nat.{ℕ, _+_, _-_, min}
+use lib.ListN.{length, take}
+use Rattle.grammar.specs.Grammar.{Grammar}
+use Rattle.table.specs.Calls.{over}
+use Rattle.table.specs.Table.{columnOf, cellOf}
+use Rattle.run.specs.Machine.{State, Offered, offer}
+use Rattle.run.specs.Offering.{reported, leaves}
+use Rattle.run.specs.Room.{rightOf}
+use Rattle.run.specs.Running.{counted}
+use Rattle.run.specs.Stack.{spelledBy, stacked}
+use Rattle.run.specs.declared.Progress.{Progress}
+use Rattle.run.specs.declared.Reply.{Reply}
+
+-- the counts as far as they count, of buffers that are so long
+unfoldable pub clamped : Progress → (stack list : ℕ) → Progress
+clamped at stack list = record { height = min (at .height) (min stack 65535); listed = min (at .listed) (min list 65535); matched = min (at .matched) 65535 }
+
+-- the state that the buffers spell: the stack in its first cells, the top last, and the list
+unfoldable pub standing : Progress → (stack list : List ℕ) → State
+standing at stack list = record { stack = spelledBy stack (at .height); listed = take (at .listed) list; matched = at .matched; moves = at .listed + at .matched; height = at .height }
+
+unfoldable pub offeredTo : Grammar → List ℕ → ℕ → Progress → (stack list : List ℕ) → Offered
+offeredTo g table column at stack list = offer (rightOf g) (cellOf g table) (counted stack) (counted list) (counted list - at .listed) (columnOf g column) (standing at stack list)
+
+-- what the offer answers and leaves: the stack from the bottom up, 0 in the cells that were in use, and what stood beyond
+pub record Offers (o : Offered) (stack list : List ℕ) (r : Reply) (stack′ list′ : List ℕ) : Type 0 where
+  pub answer : r ≡ reported o
+  pub stack-cells : stack′ ≡ stacked (leaves o .stack) (leaves o .height) stack
+  pub list-cells : list′ ≡ over (leaves o .listed) list
+
+abbrev pub OfferOutcome : Grammar → List ℕ → ℕ → Progress → (stack list : List ℕ) → Reply → (stack′ list′ : List ℕ) → Type 0
+OfferOutcome g table column at stack list = Offers (offeredTo g table column (clamped at (length stack) (length list)) stack list) stack list

@@ -1,0 +1,70 @@
+-- What an expansion does next, one case each, and what the code says of one that has ended.
+-- Document 01, "Running and expanding".
+use mathlib.Core.Path.{_≡_}
+use mathlib.Core.Bool.{Bool, true, false}
+use mathlib.Core.List.{List, [], _∷_, _++_}
+use Prim.Native.Nat.{ℕ, _≤_, _<_}
+use lib.ListN.{length}
+use Rattle.grammar.specs.Grammar.{Form, Grammar}
+use Rattle.grammar.specs.declared.Symbol.the-variants.{Token, Nonterminal}
+use Rattle.book.specs.Answers.{done, stop, noSet}
+use Rattle.book.specs.Refusals.{room, production, stackRoom, outputRoom}
+use Rattle.book.specs.declared.Answer.{Answer}
+use Rattle.table.specs.Calls.{over}
+use Rattle.run.specs.Expanding.{expansion, answeredBy}
+use Rattle.run.specs.Expansion.{Ending, complete, unfit, full-stack, full-output, Expanded}
+use Rattle.run.specs.Running.{counted, cleared}
+use Rattle.run.specs.declared.Ahead.the-variants.{Next, End}
+use Rattle.run.specs.declared.Ahead.{Ahead}
+use Rattle.run.specs.declared.Finale.the-variants.{Complete, Unfit, NoStack, NoOutput}
+use Rattle.run.specs.declared.Finale.{Finale}
+use Rattle.run.specs.declared.Turn.the-variants.{Write, Apply, Close}
+use Rattle.run.specs.declared.Turn.{Turn}
+use Rattle.run.specs.declared.Unfolding.{Unfolding}
+
+-- an empty stack: no production may be left
+abbrev pub emptied : Ahead → Finale
+emptied (Next p) = Unfit
+emptied End = Complete
+
+-- whether production p is one of A, its right side, and how many cells of stack and output count as room
+module _ (fits : ℕ → ℕ → Bool) (right : ℕ → Form) (cells output : ℕ) where
+  -- with the productions ps left, the stack α and so many tokens written
+  pub data Turns (ps : List ℕ) (α : Form) (written : ℕ) : Turn → Type 0 where
+    finished : α ≡ [] → ps ≡ [] → Turns ps α written (Close Complete)
+    left-over : {p : ℕ} {qs : List ℕ} → α ≡ [] → ps ≡ p ∷ qs → Turns ps α written (Close Unfit)
+    too-short : {A : ℕ} {β : Form} → α ≡ Nonterminal A ∷ β → ps ≡ [] → Turns ps α written (Close Unfit)
+    misfit : {A p : ℕ} {β : Form} {qs : List ℕ} → α ≡ Nonterminal A ∷ β → ps ≡ p ∷ qs → fits A p ≡ false → Turns ps α written (Close Unfit)
+    no-stack : {A p : ℕ} {β : Form} {qs : List ℕ} → α ≡ Nonterminal A ∷ β → ps ≡ p ∷ qs → fits A p ≡ true → cells < length (right p ++ β) → Turns ps α written (Close NoStack)
+    applies : {A p : ℕ} {β : Form} {qs : List ℕ} → α ≡ Nonterminal A ∷ β → ps ≡ p ∷ qs → fits A p ≡ true → length (right p ++ β) ≤ cells → Turns ps α written (Apply p)
+    no-output : {t : ℕ} {β : Form} → α ≡ Token t ∷ β → output ≤ written → Turns ps α written (Close NoOutput)
+    writes : {t : ℕ} {β : Form} → α ≡ Token t ∷ β → written < output → Turns ps α written (Write t)
+
+unfoldable pub finaleOf : Ending → Finale
+finaleOf complete = Complete
+finaleOf unfit = Unfit
+finaleOf full-stack = NoStack
+finaleOf full-output = NoOutput
+
+unfoldable pub unfolded : Expanded → Unfolding
+unfolded e = record { finale = finaleOf (e .ending); used = e .progress .used; written = length (e .progress .written) }
+
+-- steps made from the start, before the stack is cleared
+pub record Unfolds (g : Grammar) (list stack output : List ℕ) (r : Unfolding) (stack′ output′ : List ℕ) : Type 0 where
+  pub answer : r ≡ unfolded (expansion g (counted stack) (counted output) list)
+  pub written : output′ ≡ over (expansion g (counted stack) (counted output) list .progress .written) output
+  pub stack-length : length stack′ ≡ length stack
+  pub output-length : length output′ ≡ length output
+
+-- the paper's number and values for each finale
+unfoldable pub closing : Finale → (used steps : ℕ) → Answer
+closing Complete used steps = done steps
+closing Unfit used steps = stop production used 0 steps noSet
+closing NoStack used steps = stop room used stackRoom steps noSet
+closing NoOutput used steps = stop room used outputRoom steps noSet
+
+-- steps made and answered, and the stack cleared
+pub record ExpandedOn (g : Grammar) (list stack output : List ℕ) (r : Answer) (stack′ output′ : List ℕ) : Type 0 where
+  pub answer : r ≡ answeredBy (expansion g (counted stack) (counted output) list)
+  pub stack-cells : stack′ ≡ cleared stack
+  pub output-cells : output′ ≡ over (expansion g (counted stack) (counted output) list .progress .written) output

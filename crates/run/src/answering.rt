@@ -1,0 +1,123 @@
+ghost use mathlib.Core.Path.{_≡_};
+ghost use Prim.Native.Nat.{_+_, _^_, _<_};
+ghost use Rattle.run.specs.Answering.{numberOf, detailOf, WithColumn, RowColumns, Expects, progressIn, Answers};
+use crate::Cause;
+use crate::Outline;
+use crate::Progress;
+use crate::Reply;
+use crate::moves::VACANT;
+use crate::moves::cell_at;
+use book::Answer;
+use book::answers::done;
+use book::answers::stop;
+use book::refusals::LIST_ROOM;
+use book::refusals::ROOM;
+use book::refusals::STACK_ROOM;
+use book::refusals::SYNTAX;
+use sets::END_MARK;
+use sets::Set;
+use sets::column_bit;
+use sets::none;
+use sets::with;
+
+// The set with column j of row n added, where that cell is filled.
+fn with_column(columns: Set, table: &[u8], outline: Outline, n: u8, j: u8) -> Set
+    ensures { λ r. ⌜ WithColumn outline (now (table .entry)) n j columns r ⌝ }
+{
+    let row = n as usize * (outline.tokens as usize + 1);
+    if cell_at(table, row + j as usize) == VACANT {
+        columns
+    } else {
+        with(columns, column_bit(j, outline.tokens))
+    }
+}
+
+// The filled columns of row n.
+fn row_columns(table: &[u8], outline: Outline, n: u8) -> Set
+    ensures { λ r. ⌜ RowColumns outline (now (table .entry)) n r ⌝ }
+{
+    let last = outline.tokens as usize;
+    let mut columns = none();
+    let mut j: usize = 0;
+    while j <= last {
+        columns = with_column(columns, table, outline, n, j as u8);
+        j += 1;
+    }
+    columns
+}
+
+// The expected set of a stop.
+fn expects(table: &[u8], outline: Outline, cause: Cause) -> Set
+    ensures { λ r. ⌜ Expects outline (now (table .entry)) cause r ⌝ }
+{
+    match cause {
+        Cause::FullList => none(),
+        Cause::FullStack => none(),
+        Cause::WantsEnd => with(none(), END_MARK),
+        Cause::WantsToken(t) => with(none(), t),
+        Cause::WantsRow(n) => row_columns(table, outline, n),
+    }
+}
+
+fn number_of(cause: Cause) -> u32
+    ensures { λ r. ⌜ r ≡ numberOf cause ⌝ }
+{
+    match cause {
+        Cause::FullList => ROOM,
+        Cause::FullStack => ROOM,
+        Cause::WantsEnd => SYNTAX,
+        Cause::WantsToken(_) => SYNTAX,
+        Cause::WantsRow(_) => SYNTAX,
+    }
+}
+
+fn detail_of(cause: Cause) -> u64
+    ensures { λ r. ⌜ r ≡ detailOf cause ⌝ }
+{
+    match cause {
+        Cause::FullList => LIST_ROOM,
+        Cause::FullStack => STACK_ROOM,
+        Cause::WantsEnd => 0,
+        Cause::WantsToken(_) => 0,
+        Cause::WantsRow(_) => 0,
+    }
+}
+
+pub(crate) fn progress_of(reply: Reply) -> Progress
+    ensures { λ r. ⌜ r ≡ progressIn reply ⌝ }
+{
+    match reply {
+        Reply::Taken(at) => at,
+        Reply::Stopped(_, at) => at,
+    }
+}
+
+// The productions listed and the tokens matched.
+fn steps_of(at: Progress) -> u64
+    requires { ⌜ at .listed + at .matched < 2 ^ 64 ⌝ }
+    ensures { λ r. ⌜ r ≡ at .listed + at .matched ⌝ }
+{
+    at.listed as u64 + at.matched as u64
+}
+
+// The answer to a run that ends with this reply.
+pub(crate) fn answer_of(table: &[u8], outline: Outline, reply: Reply) -> Answer
+    requires { ⌜ progressIn reply .listed + progressIn reply .matched < 2 ^ 64 ⌝ }
+    ensures { λ r. ⌜ Answers outline (now (table .entry)) reply r ⌝ }
+{
+    let at = progress_of(reply);
+    let steps = steps_of(at);
+    match reply {
+        Reply::Taken(_) => done(steps),
+        Reply::Stopped(cause, _) => {
+            let expected = expects(table, outline, cause);
+            stop(
+                number_of(cause),
+                at.matched as u64,
+                detail_of(cause),
+                steps,
+                expected,
+            )
+        }
+    }
+}

@@ -1,0 +1,143 @@
+ghost use mathlib.Core.Path.{_≡_};
+ghost use Prim.Native.Nat.{_+_, _^_, _≤_, _<_};
+ghost use lib.ListN.{length};
+ghost use Rattle.run.specs.Moves.{outlined};
+ghost use Rattle.run.specs.Turns.{Unfolds, closing, ExpandedOn};
+ghost use Rattle.run.specs.Expanding.{ExpandOutcome};
+use crate::Finale;
+use crate::Outline;
+use crate::Turn;
+use crate::Unfolding;
+use crate::moves::counts;
+use crate::moves::place_at;
+use crate::moves::right_length;
+use crate::running::clear;
+use crate::stack::replace;
+use crate::turns::turn_at;
+use book::Answer;
+use book::answers::done;
+use book::answers::refusal;
+use book::answers::stop;
+use book::judging::judge;
+use book::refusals::DONE;
+use book::refusals::LIMIT;
+use book::refusals::OUTPUT_ROOM;
+use book::refusals::PRODUCTION;
+use book::refusals::ROOM;
+use book::refusals::STACK_ROOM;
+use sets::none;
+
+// How many productions an expansion takes.
+const MOST_PRODUCTIONS: usize = 65535;
+
+// From the start symbol on, tokens on top are written and the list's productions used.
+fn unfold_all(
+    book: &[u8],
+    places: &[u16],
+    outline: Outline,
+    list: &[u8],
+    stack: &mut [u8],
+    output: &mut [u8],
+) -> Unfolding
+    requires { ⌜ 1 ≤ length (now stack) ⌝ }
+    ensures { λ r. ⌜ Unfolds (outlined (now (book .entry)) (now (places .entry)) outline) (now (list .entry)) (now (stack .entry)) (now (output .entry)) r (now (stack .exit)) (now (output .exit)) ⌝ }
+{
+    stack[0] = 128 + outline.start % 128;
+    let cells = counts(output.len());
+    let mut height: usize = 1;
+    let mut used: usize = 0;
+    let mut written: usize = 0;
+    loop {
+        let turn = turn_at(
+            book,
+            places,
+            outline,
+            list,
+            used,
+            stack,
+            height,
+            written,
+            cells,
+        );
+        match turn {
+            Turn::Write(t) => {
+                height -= 1;
+                stack[height] = 0;
+                output[written] = t;
+                written += 1;
+            }
+            Turn::Apply(p) => {
+                let count = right_length(book, places, outline, p);
+                let below = height - 1;
+                replace(book, place_at(places, p), count, stack, below);
+                height = below + count;
+                used += 1;
+            }
+            Turn::Close(finale) => {
+                return Unfolding {
+                    finale,
+                    used,
+                    written,
+                };
+            }
+        }
+    }
+}
+
+// The answer to an expansion that has ended.
+fn answer_to(u: Unfolding) -> Answer
+    requires { ⌜ u .used + u .written < 2 ^ 64 ⌝ }
+    ensures { λ r. ⌜ r ≡ closing (u .finale) (u .used) (u .used + u .written) ⌝ }
+{
+    let finale = u.finale;
+    let used = u.used as u64;
+    let steps = used + u.written as u64;
+    match finale {
+        Finale::Complete => done(steps),
+        Finale::Unfit => stop(PRODUCTION, used, 0, steps, none()),
+        Finale::NoStack => stop(ROOM, used, STACK_ROOM, steps, none()),
+        Finale::NoOutput => stop(ROOM, used, OUTPUT_ROOM, steps, none()),
+    }
+}
+
+// The steps of an expansion and their answer; after them every stack cell is 0.
+fn expand_on(
+    book: &[u8],
+    places: &[u16],
+    outline: Outline,
+    list: &[u8],
+    stack: &mut [u8],
+    output: &mut [u8],
+) -> Answer
+    requires { ⌜ 1 ≤ length (now stack) ⌝ }
+    ensures { λ r. ⌜ ExpandedOn (outlined (now (book .entry)) (now (places .entry)) outline) (now (list .entry)) (now (stack .entry)) (now (output .entry)) r (now (stack .exit)) (now (output .exit)) ⌝ }
+{
+    let u = unfold_all(book, places, outline, list, stack, output);
+    clear(stack);
+    answer_to(u)
+}
+
+// A list of productions expanded to the tokens that it derives.
+pub fn expand(book: &[u8], list: &[u8], stack: &mut [u8], output: &mut [u8]) -> Answer
+    ensures { λ r. ⌜ ExpandOutcome (now (book .entry)) (now (list .entry)) (now (stack .entry)) (now (output .entry)) r (now (stack .exit)) (now (output .exit)) ⌝ }
+{
+    let reading = judge(book);
+    let judged = reading.answer;
+    if judged.number != DONE {
+        return judged;
+    }
+    if MOST_PRODUCTIONS < list.len() {
+        return refusal(LIMIT, MOST_PRODUCTIONS as u64, 0);
+    }
+    if stack.len() == 0 {
+        return refusal(ROOM, 0, STACK_ROOM);
+    }
+    let places = reading.places;
+    let outline = Outline {
+        tokens: reading.tokens,
+        nonterminals: reading.nonterminals,
+        start: reading.start,
+        productions: reading.productions,
+    };
+    expand_on(book, &places, outline, list, stack, output)
+}
