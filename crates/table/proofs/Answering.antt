@@ -1,5 +1,5 @@
 -- From what the functions find to the outcomes that they promise: a judged book, the checks on it, and what is written.
-use mathlib.Core.Path.{_≡_, refl, ap}
+use mathlib.Core.Path.{_≡_, refl, ap, subst}
 use mathlib.Core.Logic.{_≢_}
 use mathlib.Core.List.{List}
 use Prim.Native.Nat.{ℕ, _+_, _*_, _^_, _≤_, _<_}
@@ -18,12 +18,13 @@ use Rattle.table.specs.Numbers.{FirstSets, FollowSets}
 use Rattle.table.specs.Trail.{FirstAt, FollowAt}
 use Rattle.table.specs.Table.{size}
 use Rattle.table.specs.Forms.{Readable, Indexes}
-use Rattle.table.specs.Steps.{FirstFound, FollowFound, Ahead}
+use Rattle.table.specs.Steps.{FirstFound, FollowFound, leftOf, lookaheadOf, Tabulated}
 use Rattle.table.specs.Claims.{claims, Contest, contested, uncontested, Written}
-use Rattle.table.specs.Checks.{passes, stops, goes, for, Roomed, Given, Fillable}
+use Rattle.table.specs.Checks.{passes, stops, goes, because, Roomed, SetsRoomed}
+use Rattle.table.specs.Filling.{Given, Fillable, Enterable, Entered, clash, entered}
 use Rattle.table.specs.Calls.{over, SetsRoom, no-first, no-follow, SetsFit, SetsOutcome, BuildOutcome}
 use Rattle.table.specs.Calls as calls
-use Rattle.book.proofs.Promise.{refuses-number}
+use Rattle.book.proofs.Promise.{refuses-number, serves-unique}
 use Rattle.table.proofs.Closed.{at-taken}
 use Rattle.table.proofs.Spelled.{indexes-readable}
 use Rattle.table.proofs.Claimed.{rivals-conflict, written-table, written-over}
@@ -81,26 +82,26 @@ pub data SetsChecked (book : List ℕ) (reading : Reading) (first follow : List 
   ready : {a : Answer} → SetsReady book reading first follow a → SetsChecked book reading first follow a
 
 module _ {book : List ℕ} {reading : Reading} {first follow : List ℕ} where
-  pub sets-checked : {middle a : Answer} → Judged book reading
+  both-checked : {middle a : Answer} → Judged book reading
       → Roomed (reading .answer) (length first) (reading .nonterminals) refusals.firstRoom middle
       → Roomed middle (length follow) (reading .nonterminals) refusals.followRoom a
       → SetsChecked book reading first follow a
   unfolding refusal
-  sets-checked judged (passes d) (passes e) = refuses (judged-refused judged d .0)
-  sets-checked judged (passes d) (stops e b) = absurd (d e)
-  sets-checked judged (passes d) (goes e g) = absurd (d e)
-  sets-checked judged (stops e (for l)) (passes d) = first-lacks (judged-given judged e) l
+  both-checked judged (passes d) (passes e) = refuses (judged-refused judged d .0)
+  both-checked judged (passes d) (stops e b) = absurd (d e)
+  both-checked judged (passes d) (goes e g) = absurd (d e)
+  both-checked judged (stops e (because l)) (passes d) = first-lacks (judged-given judged e) l
     where
       first-lacks : (given : Given book reading) → length first < reading .nonterminals → SetsChecked book reading first follow (refusal refusals.room (reading .nonterminals) refusals.firstRoom)
       first-lacks given l = rw (given-served given .nonterminals) (lacks (given .serves) (no-first (rw (given-served given .nonterminals) at l)))
-  sets-checked judged (stops e (for l)) (stops d b) = absurd (omega arith)
-  sets-checked judged (stops e (for l)) (goes d g) = absurd (omega arith)
-  sets-checked judged (goes e h) (passes d) = absurd (d e)
-  sets-checked judged (goes e h) (stops d (for l)) = follow-lacks (judged-given judged e) h l
+  both-checked judged (stops e (because l)) (stops d b) = absurd (omega arith)
+  both-checked judged (stops e (because l)) (goes d g) = absurd (omega arith)
+  both-checked judged (goes e h) (passes d) = absurd (d e)
+  both-checked judged (goes e h) (stops d (because l)) = follow-lacks (judged-given judged e) h l
     where
       follow-lacks : (given : Given book reading) → reading .nonterminals ≤ length first → length follow < reading .nonterminals → SetsChecked book reading first follow (refusal refusals.room (reading .nonterminals) refusals.followRoom)
       follow-lacks given h l = rw (given-served given .nonterminals) (lacks (given .serves) (no-follow (rw (given-served given .nonterminals) at h) (rw (given-served given .nonterminals) at l)))
-  sets-checked judged (goes e h) (goes d l) = both-fit (judged-given judged e) h l
+  both-checked judged (goes e h) (goes d l) = both-fit (judged-given judged e) h l
     where
       both-fit : (given : Given book reading) → reading .nonterminals ≤ length first → reading .nonterminals ≤ length follow → SetsChecked book reading first follow (reading .answer)
       both-fit given h l =
@@ -110,6 +111,9 @@ module _ {book : List ℕ} {reading : Reading} {first follow : List ℕ} where
             fit = record { first-fits = rw (given-served given .nonterminals) at h; follow-fits = rw (given-served given .nonterminals) at l };
             is = given-done given;
           })
+
+  pub sets-checked : {a : Answer} → Judged book reading → SetsRoomed (reading .answer) (length first) (length follow) (reading .nonterminals) a → SetsChecked book reading first follow a
+  sets-checked judged r = both-checked judged (r .first-room) (r .follow-room)
 
 room-number : {g : Grammar} {first follow : List ℕ} {a : Answer} → SetsRoom g first follow a → a .number ≡ 7
 unfolding refusal
@@ -147,6 +151,31 @@ module _ {book : List ℕ} {reading : Reading} (given : Given book reading) {fir
       → first′ ≡ over (take (reading .nonterminals) firsts) first → follow′ ≡ over (take (reading .nonterminals) follows) follow → SetsOutcome book first follow a first′ follow′
   sets-served fit is p q = rw (is, p, q) (calls.served (given .serves) fit given-first-sets given-follow-sets)
 
+-- a contest is the first conflict; cells written without one are the table
+module _ {book : List ℕ} {reading : Reading} {firsts follows table : List ℕ} (x : Enterable book reading firsts follows table) {lefts ahead : List ℕ}
+    (sided : Tabulated (leftOf book (reading .places)) (reading .productions) lefts) (looked : Tabulated (lookaheadOf book (reading .places) firsts follows) (reading .productions) ahead)
+    {a : Answer} (contest : Contest (claims lefts ahead (reading .tokens)) (reading .productions) (reading .nonterminals * (reading .tokens + 1)) a) where
+  pub enter-refused : a .number ≢ 0 → (g : Grammar) → Serves book g → Entered g table a table
+  unfolding done
+  enter-refused d g serves = subst (λ (h : Grammar). Entered h table a table) (serves-unique (x .given .serves) serves) (go contest d)
+    where
+      go : {b : Answer} → Contest (claims lefts ahead (reading .tokens)) (reading .productions) (reading .nonterminals * (reading .tokens + 1)) b → b .number ≢ 0 → Entered (x .given .grammar) table b table
+      go (contested inside rivals earlier) d =
+          clash (rivals-conflict (given-indexes (x .given)) (given-served (x .given) .tokens) (x .first) (x .follow) sided looked (rw (given-size (x .given)) at inside) rivals earlier)
+      go (uncontested one) d = absurd (d refl)
+
+  pub enter-served : {table′ : List ℕ} → a .number ≡ 0 → Written (claims lefts ahead (reading .tokens)) (reading .productions) (reading .nonterminals * (reading .tokens + 1)) table table′
+      → (g : Grammar) → Serves book g → Entered g table a table′
+  unfolding refusal
+  enter-served {table′} e w g serves = subst (λ (h : Grammar). Entered h table a table′) (serves-unique (x .given .serves) serves) (go contest e)
+    where
+      go : {b : Answer} → Contest (claims lefts ahead (reading .tokens)) (reading .productions) (reading .nonterminals * (reading .tokens + 1)) b → b .number ≡ 0 → Entered (x .given .grammar) table b table′
+      go (contested inside rivals earlier) e = absurd (omega arith)
+      go (uncontested one) e =
+          let written = rw (given-size (x .given)) at w in
+          rw (written-over (x .room) written)
+          (entered (written-table (given-indexes (x .given)) (given-served (x .given) .tokens) (x .first) (x .follow) sided looked (x .room) (rw (given-size (x .given)) at one) written))
+
 module _ {book : List ℕ} {reading : Reading} {first follow table : List ℕ} where
   pub build-refused : {middle a : Answer} → SetsChecked book reading first follow middle → Roomed middle (length table) (reading .nonterminals * (reading .tokens + 1)) refusals.tableRoom a
       → a .number ≢ 0 → BuildOutcome book first follow table a first follow table
@@ -154,7 +183,7 @@ module _ {book : List ℕ} {reading : Reading} {first follow table : List ℕ} w
   build-refused (refuses r) (passes d) n = calls.refused r
   build-refused (lacks s r) (passes d) n = calls.no-room s r
   build-refused (ready x) (passes d) n = absurd (d (ap (λ (b : Answer). b .number) (x .is)))
-  build-refused checked (stops e (for l)) n = table-lacks (checked-ready checked e)
+  build-refused checked (stops e (because l)) n = table-lacks (checked-ready checked e)
     where
       table-lacks : {m : Answer} → SetsReady book reading first follow m → BuildOutcome book first follow table (refusal refusals.room (reading .nonterminals * (reading .tokens + 1)) refusals.tableRoom) first follow table
       table-lacks x = rw (given-size (x .given)) (calls.no-table (x .given .serves) (x .fit) (rw (given-size (x .given)) at l))
@@ -164,31 +193,22 @@ module _ {book : List ℕ} {reading : Reading} {first follow table : List ℕ} w
       → a .number ≡ 0 → Fillable book reading first follow table
   unfolding refusal
   build-fillable checked (passes d) e = absurd (d e)
-  build-fillable checked (stops d (for l)) e = absurd (omega arith)
+  build-fillable checked (stops d (because l)) e = absurd (omega arith)
   build-fillable checked (goes d h) e = let x = checked-ready checked d in record { given = x .given; fit = x .fit; room = rw (given-size (x .given)) at h }
 
-  module _ (f : Fillable book reading first follow table) {firsts follows ahead : List ℕ}
-      (first-found : FirstFound book (reading .places) (reading .productions) firsts) (follow-found : FollowFound book (reading .places) (reading .productions) (reading .start) firsts follows)
-      (looked : Ahead book (reading .places) firsts follows (reading .productions) ahead) where
-    -- a contest is the first conflict
-    pub fill-refused : {a : Answer} → Contest (claims book (reading .places) ahead (reading .tokens)) (reading .productions) (reading .nonterminals * (reading .tokens + 1)) a → a .number ≢ 0 → BuildOutcome book first follow table a first follow table
-    unfolding done
-    fill-refused (contested inside rivals earlier) d =
-        calls.conflict (f .given .serves) (f .fit) (f .room)
-        (rivals-conflict (given-indexes (f .given)) (given-served (f .given) .tokens) (given-first (f .given) first-found follow-found) (given-follow (f .given) first-found follow-found) looked
-        (rw (given-size (f .given)) at inside) rivals earlier)
-    fill-refused (uncontested one) d = absurd (d refl)
+  module _ (f : Fillable book reading first follow table) {firsts follows : List ℕ}
+      (first-found : FirstFound book (reading .places) (reading .productions) firsts) (follow-found : FollowFound book (reading .places) (reading .productions) (reading .start) firsts follows) where
+    pub fill-enterable : Enterable book reading firsts follows table
+    fill-enterable = record { given = f .given; first = given-first (f .given) first-found follow-found; follow = given-follow (f .given) first-found follow-found; room = f .room }
 
-    -- without one, what is written is the sets and the table
-    pub fill-served : {a : Answer} {first′ follow′ table′ : List ℕ} → Contest (claims book (reading .places) ahead (reading .tokens)) (reading .productions) (reading .nonterminals * (reading .tokens + 1)) a → a .number ≡ 0
-        → first′ ≡ over (take (reading .nonterminals) firsts) first → follow′ ≡ over (take (reading .nonterminals) follows) follow
-        → Written (claims book (reading .places) ahead (reading .tokens)) (reading .productions) (reading .nonterminals * (reading .tokens + 1)) table table′
-        → BuildOutcome book first follow table a first′ follow′ table′
+    pub fill-refused : {a : Answer} {table′ : List ℕ} → Entered (f .given .grammar) table a table′ → a .number ≢ 0 → BuildOutcome book first follow table a first follow table′
+    unfolding done
+    fill-refused (clash conflict) d = calls.conflict (f .given .serves) (f .fit) (f .room) conflict
+    fill-refused (entered built) d = absurd (d refl)
+
+    pub fill-served : {a : Answer} {first′ follow′ table′ : List ℕ} → Entered (f .given .grammar) table a table′ → a .number ≡ 0
+        → first′ ≡ over (take (reading .nonterminals) firsts) first → follow′ ≡ over (take (reading .nonterminals) follows) follow → BuildOutcome book first follow table a first′ follow′ table′
     unfolding refusal
-    fill-served (contested inside rivals earlier) e p q w = absurd (omega arith)
-    fill-served {table′ = table′} (uncontested one) e p q w =
-        let given = f .given in
-        let written = rw (given-size given) at w in
-        let table-of = written-table (given-indexes given) (given-served given .tokens) (given-first given first-found follow-found) (given-follow given first-found follow-found) looked (f .room) (rw (given-size given) at one) written in
-        rw (p, q, written-over (f .room) written)
-        (calls.served (given .serves) (f .fit) (f .room) (given-first-sets given first-found follow-found) (given-follow-sets given first-found follow-found) table-of)
+    fill-served (clash conflict) e p q = absurd (omega arith)
+    fill-served (entered built) e p q =
+        rw (p, q) (calls.served (f .given .serves) (f .fit) (f .room) (given-first-sets (f .given) first-found follow-found) (given-follow-sets (f .given) first-found follow-found) built)

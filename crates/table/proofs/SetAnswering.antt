@@ -18,8 +18,9 @@ use Rattle.book.proofs.Promise.{judged-refused}
 use Rattle.table.specs.declared.SetAnswer.{SetAnswer}
 use Rattle.table.specs.Trail.{trail, FirstAt}
 use Rattle.table.specs.Forms.{formIn, Narrow}
-use Rattle.table.specs.Steps.{lookaheadAt, FirstFound, FollowFound}
-use Rattle.table.specs.Checks.{Checked, passes, stops, goes, For, for, Numbered, Stranger, Unspelled, too-long, strange, Spelled, Given}
+use Rattle.table.specs.Steps.{lookaheadOf, FirstFound, FollowFound}
+use Rattle.table.specs.Checks.{Checked, passes, stops, goes, Because, because, Numbered, Stranger, Unspelled, too-long, strange, SymbolString}
+use Rattle.table.specs.Filling.{Given}
 use Rattle.table.specs.Calls.{NoSet, LookaheadOutcome, FirstStranger, FirstOutcome}
 use Rattle.table.specs.Calls as calls
 use Rattle.table.proofs.Closed.{first-is, lookahead-is}
@@ -44,17 +45,17 @@ module _ {book : List ℕ} {reading : Reading} {production : ℕ} where
   unfolding refusal
   numbered-ready = checked-goes some-number
     where
-      some-number : (b : Answer) → For (reading .productions ≤ production) (refusal refusals.production production 0) b → b .number ≢ 0
-      some-number b (for l) e = omega arith
+      some-number : (b : Answer) → Because (reading .productions ≤ production) (refusal refusals.production production 0) b → b .number ≢ 0
+      some-number b (because l) e = omega arith
 
   pub lookahead-refused : {a : Answer} {r : SetAnswer} → Judged book reading → Numbered (reading .answer) production (reading .productions) a → a .number ≢ 0 → NoSet a r → LookaheadOutcome book production r
   lookahead-refused judged (passes d) n no-set = calls.refused (judged-refused judged d .0) no-set
-  lookahead-refused judged (stops e (for l)) n no-set = let given = judged-given judged e in calls.no-production (given .serves) (rw (given-served given .productions) at l) no-set
+  lookahead-refused judged (stops e (because l)) n no-set = let given = judged-given judged e in calls.no-production (given .serves) (rw (given-served given .productions) at l) no-set
   lookahead-refused judged (goes e h) n no-set = absurd (n e)
 
   pub lookahead-served : {a : Answer} {set : Set} {firsts follows : List ℕ} → Ready book reading (production < reading .productions) a
       → FirstFound book (reading .places) (reading .productions) firsts → FollowFound book (reading .places) (reading .productions) (reading .start) firsts follows
-      → number set ≡ lookaheadAt book (reading .places) firsts follows production → LookaheadOutcome book production (record { answer = a; set = set })
+      → number set ≡ lookaheadOf book (reading .places) firsts follows production → LookaheadOutcome book production (record { answer = a; set = set })
   lookahead-served {set = set} x first-found follow-found e =
       let given = x .given in
       let index = given-indexes given in
@@ -64,8 +65,8 @@ module _ {book : List ℕ} {reading : Reading} {production : ℕ} where
       (record { answer = x .is; set = rw number-is (lookahead-is (given-limits given) (given-first given first-found follow-found) (given-follow given first-found follow-found) rule) })
 
 module _ {book : List ℕ} {reading : Reading} {symbols : List ℕ} where
-  pub spelled-ready : {a : Answer} → Judged book reading → Checked (reading .answer) (Unspelled (reading .tokens) (reading .nonterminals) symbols) (Spelled (reading .tokens) (reading .nonterminals) symbols) a
-      → a .number ≡ 0 → Ready book reading (Spelled (reading .tokens) (reading .nonterminals) symbols) a
+  pub spelled-ready : {a : Answer} → Judged book reading → Checked (reading .answer) (Unspelled (reading .tokens) (reading .nonterminals) symbols) (SymbolString (reading .tokens) (reading .nonterminals) symbols) a
+      → a .number ≡ 0 → Ready book reading (SymbolString (reading .tokens) (reading .nonterminals) symbols) a
   unfolding refusal
   spelled-ready = checked-goes some-number
     where
@@ -82,16 +83,16 @@ module _ {book : List ℕ} {reading : Reading} {symbols : List ℕ} where
         earlier = λ j below. something _ (s .passed j below (omega arith));
       })
 
-  pub first-refused : {a : Answer} {r : SetAnswer} → Judged book reading → Checked (reading .answer) (Unspelled (reading .tokens) (reading .nonterminals) symbols) (Spelled (reading .tokens) (reading .nonterminals) symbols) a
+  pub first-refused : {a : Answer} {r : SetAnswer} → Judged book reading → Checked (reading .answer) (Unspelled (reading .tokens) (reading .nonterminals) symbols) (SymbolString (reading .tokens) (reading .nonterminals) symbols) a
       → a .number ≢ 0 → NoSet a r → FirstOutcome book symbols r
   first-refused judged (passes d) n no-set = calls.refused (judged-refused judged d .0) no-set
   first-refused judged (stops e (too-long l)) n no-set = calls.too-long (judged-given judged e .serves) l no-set
   first-refused judged (stops e (strange short inside s)) n no-set = let given = judged-given judged e in calls.strange (given .serves) short (stranger-first given inside s) no-set
   first-refused judged (goes e h) n no-set = absurd (n e)
 
-  module _ {a : Answer} (x : Ready book reading (Spelled (reading .tokens) (reading .nonterminals) symbols) a) where
+  module _ {a : Answer} (x : Ready book reading (SymbolString (reading .tokens) (reading .nonterminals) symbols) a) where
     ready-spells : Spells (x .given .grammar) symbols
-    ready-spells = spells (given-limits (x .given)) symbols (λ i h. rw (← (given-served (x .given) .tokens), ← (given-served (x .given) .nonterminals)) (something _ (x .good .symbol i h)))
+    ready-spells = spells (given-limits (x .given)) symbols (λ i h. rw (← (given-served (x .given) .tokens), ← (given-served (x .given) .nonterminals)) (x .good .symbol i h))
 
     pub ready-narrow : Every Narrow (formIn symbols 0 (length symbols))
     ready-narrow = rw (ready-spells .is) (known-narrow (given-limits (x .given)) (ready-spells .known))

@@ -7,15 +7,10 @@ use mathlib.Core.Option.{some}
 use Prim.Native.Nat.{ℕ, _≤_, _<_}
 use lib.ListN.{length, getD}
 use Rattle.grammar.specs.declared.Symbol.{Symbol}
-use Rattle.grammar.specs.Grammar.{Grammar}
 use Rattle.book.specs.declared.Answer.{Answer}
-use Rattle.book.specs.declared.Reading.{Reading}
 use Rattle.book.specs.Answers.{refusal}
 use Rattle.book.specs.Book.{symbolOf}
-use Rattle.book.specs.Judging.{Serves, indexOf}
 use Rattle.book.specs.Refusals as refusals
-use Rattle.table.specs.Table.{size}
-use Rattle.table.specs.Calls.{SetsFit}
 use Rattle.table.specs.Claims.{Sought}
 
 -- an earlier refusal passes through; otherwise the check stops with its own, or goes on
@@ -25,16 +20,22 @@ pub data Checked (before : Answer) (Bad : Answer → Type 0) (Good : Type 0) : A
   goes : before .number ≡ 0 → Good → Checked before Bad Good before
 
 -- this answer, for this reason
-pub data For (reason : Type 0) (a : Answer) : Answer → Type 0 where
-  for : reason → For reason a a
+pub data Because (reason : Type 0) (a : Answer) : Answer → Type 0 where
+  because : reason → Because reason a a
 
 -- a buffer has room for so many cells
 abbrev pub Roomed : Answer → (have want detail : ℕ) → Answer → Type 0
-Roomed before have want detail = Checked before (For (have < want) (refusal refusals.room want detail)) (want ≤ have)
+Roomed before have want detail = Checked before (Because (have < want) (refusal refusals.room want detail)) (want ≤ have)
+
+-- the FIRST buffer has room for N sets, and then the FOLLOW buffer
+pub record SetsRoomed (before : Answer) (first follow N : ℕ) (after : Answer) : Type 0 where
+  pub middle : Answer
+  pub first-room : Roomed before first N refusals.firstRoom middle
+  pub follow-room : Roomed middle follow N refusals.followRoom after
 
 -- a production's number is below P
 abbrev pub Numbered : Answer → (production productions : ℕ) → Answer → Type 0
-Numbered before production productions = Checked before (For (productions ≤ production) (refusal refusals.production production 0)) (production < productions)
+Numbered before production productions = Checked before (Because (productions ≤ production) (refusal refusals.production production 0)) (production < productions)
 
 -- a byte is a symbol of a grammar with T tokens and N nonterminals
 abbrev pub IsSymbol : (T N : ℕ) → ℕ → Type 0
@@ -50,18 +51,6 @@ pub data Unspelled (T N : ℕ) (symbols : List ℕ) : Answer → Type 0 where
   strange : {i : ℕ} → length symbols ≤ 16 → i < length symbols → Stranger T N symbols i → Unspelled T N symbols (refusal refusals.symbol i 0)
 
 -- a symbol string of at most 16 symbols of the grammar
-pub record Spelled (T N : ℕ) (symbols : List ℕ) : Type 0 where
+pub record SymbolString (T N : ℕ) (symbols : List ℕ) : Type 0 where
   pub short : length symbols ≤ 16
-  pub symbol : (i : ℕ) → i < length symbols → ¬ ¬ IsSymbol T N (getD symbols i 0)
-
--- the reading is the index of the grammar that the book serves
-pub record Given (book : List ℕ) (reading : Reading) : Type 0 where
-  pub grammar : Grammar
-  pub serves : Serves book grammar
-  pub index : reading ≡ indexOf grammar
-
--- and there is room for its sets and its table
-pub record Fillable (book : List ℕ) (reading : Reading) (first follow table : List ℕ) : Type 0 where
-  pub given : Given book reading
-  pub fit : SetsFit (given .grammar) first follow
-  pub room : size (given .grammar) ≤ length table
+  pub symbol : (i : ℕ) → i < length symbols → IsSymbol T N (getD symbols i 0)

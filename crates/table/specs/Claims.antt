@@ -1,6 +1,6 @@
--- What building goes by: which records claim a cell by their lookaheads' numbers, the first number of which a claim holds, the
--- first cell with two claimants, and the cells written. Document 01, "Sets and table" and refusal 8. Only contracts inside the
--- crate cite what stands here.
+-- What building goes by: which productions claim a cell by their left sides and lookaheads, the lowest number of which a claim
+-- holds, the first cell with two claimants, and the cells written. Document 01, "Sets and table" and refusal 8.
+-- Only contracts inside the crate cite what stands here.
 use mathlib.Core.Path.{_≡_}
 use mathlib.Core.Bool.{true}
 use mathlib.Core.Logic.{_⊎_}
@@ -12,16 +12,15 @@ use Rattle.sets.specs.Calls.{setAt}
 use Rattle.book.specs.declared.Answer.{Answer}
 use Rattle.book.specs.Answers.{done, refusal}
 use Rattle.book.specs.Refusals as refusals
-use Rattle.table.specs.Forms.{leftAt}
 
--- record p is of this row, and its lookahead has this bit
-pub record ClaimsAt (book places ahead : List ℕ) (row bit p : ℕ) : Type 0 where
-  pub of-row : leftAt book (getD places p 0) ≡ row
+-- production p is of this row, and its lookahead has this bit
+pub record ClaimsAt (lefts ahead : List ℕ) (row bit p : ℕ) : Type 0 where
+  pub of-row : getD lefts p 0 ≡ row
   pub has-bit : member bit (setAt ahead p) ≡ true
 
 -- the claims on each cell of a table with so many tokens
-abbrev pub claims : List ℕ → List ℕ → List ℕ → (tokens cell : ℕ) → ℕ → Type 0
-claims book places ahead tokens cell = ClaimsAt book places ahead (cell / (tokens + 1)) (columnPlace (cell % (tokens + 1)) tokens)
+abbrev pub claims : List ℕ → List ℕ → (tokens cell : ℕ) → ℕ → Type 0
+claims lefts ahead tokens cell = ClaimsAt lefts ahead (cell / (tokens + 1)) (columnPlace (cell % (tokens + 1)) tokens)
 
 -- r is the lowest number from `from` on of which C holds; from `count` on nothing is sought
 pub record Sought (C : ℕ → Type 0) (from count r : ℕ) : Type 0 where

@@ -2,6 +2,7 @@ pub mod Calls
 pub mod Checks
 pub mod Claims
 pub mod Examples
+pub mod Filling
 pub mod Forms
 pub mod Numbers
 pub mod Steps

@@ -39,6 +39,11 @@ unfoldable pub passed : (ℕ → List ℕ → List ℕ) → ℕ → List ℕ →
 passed step zero cells = cells
 passed step (suc n) cells = step n (passed step n cells)
 
+-- 128 cells, of which each number p below the count holds what f gives
+pub record Tabulated (f : ℕ → ℕ) (count : ℕ) (cells : List ℕ) : Type 0 where
+  pub sized : length cells ≡ 128
+  pub each : (p : ℕ) → p < count → getD cells p 0 ≡ f p
+
 module _ (book places : List ℕ) where
   abbrev pub firstSteps : ℕ → List ℕ → List ℕ
   firstSteps p = firstStep book (getD places p 0)
@@ -56,11 +61,10 @@ module _ (book places : List ℕ) where
     pub sized : length cells ≡ 64
     pub found : (g : Grammar) → Indexes book places count g → start ≡ g .start → FirstAt g fs → FollowAt g cells
 
-  -- the lookahead of record p, with FIRST and FOLLOW
-  abbrev pub lookaheadAt : List ℕ → List ℕ → ℕ → ℕ
-  lookaheadAt fs ys p = trail fs (setAt ys (leftAt book (getD places p 0))) (rightAt book (getD places p 0))
+  -- the left side of record p
+  abbrev pub leftOf : ℕ → ℕ
+  leftOf p = leftAt book (getD places p 0)
 
-  -- the lookaheads of so many records
-  pub record Ahead (fs ys : List ℕ) (count : ℕ) (cells : List ℕ) : Type 0 where
-    pub sized : length cells ≡ 128
-    pub each : (p : ℕ) → p < count → getD cells p 0 ≡ lookaheadAt fs ys p
+  -- the lookahead of record p, with FIRST and FOLLOW
+  abbrev pub lookaheadOf : List ℕ → List ℕ → ℕ → ℕ
+  lookaheadOf fs ys p = trail fs (setAt ys (leftOf p)) (rightAt book (getD places p 0))

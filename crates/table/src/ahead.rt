@@ -4,7 +4,7 @@ ghost use Rattle.grammar.specs.Grammar.{Every};
 ghost use Rattle.sets.specs.Calls.{number, setAt};
 ghost use Rattle.table.specs.Forms.{leftAt, rightAt, Narrow, Readable};
 ghost use Rattle.table.specs.Trail.{trail};
-ghost use Rattle.table.specs.Steps.{Ahead};
+ghost use Rattle.table.specs.Steps.{leftOf, lookaheadOf, Tabulated};
 use crate::forms::trail_of;
 use book::fields::left_at;
 use book::fields::length_at;
@@ -24,6 +24,20 @@ pub(crate) fn lookahead_at(book: &[u8], place: u16, first: &[u64], follow: &[u64
     ahead.set
 }
 
+// The left side of each production.
+pub(crate) fn lefts(book: &[u8], places: &[u16], count: usize) -> [u8; 128]
+    requires { ⌜ count ≤ 128 ⌝ }
+    ensures { λ r. ⌜ Tabulated (leftOf (now (book .entry)) (now (places .entry))) count r ⌝ }
+{
+    let mut lefts = [0u8; 128];
+    let mut p: usize = 0;
+    while p < count {
+        lefts[p] = left_at(book, place_at(places, p) as usize);
+        p += 1;
+    }
+    lefts
+}
+
 // The lookahead of each production.
 pub(crate) fn lookaheads(
     book: &[u8],
@@ -33,7 +47,7 @@ pub(crate) fn lookaheads(
     follow: &[u64],
 ) -> [u64; 128]
     requires { ⌜ Readable (now book) (now places) count × (count ≤ 128) ⌝ }
-    ensures { λ r. ⌜ Ahead (now (book .entry)) (now (places .entry)) (now (first .entry)) (now (follow .entry)) count r ⌝ }
+    ensures { λ r. ⌜ Tabulated (lookaheadOf (now (book .entry)) (now (places .entry)) (now (first .entry)) (now (follow .entry))) count r ⌝ }
 {
     let mut ahead = [0u64; 128];
     let mut p: usize = 0;

@@ -1,8 +1,10 @@
 ghost use Rattle.sets.specs.Calls.{Decides};
-ghost use Rattle.table.specs.Checks.{Checked, Roomed, Numbered, IsSymbol, Stranger, Unspelled, Spelled};
+ghost use Rattle.table.specs.Checks.{Checked, Roomed, SetsRoomed, Numbered, IsSymbol, Stranger, Unspelled, SymbolString};
 use book::Answer;
 use book::answers::refusal;
 use book::refusals::DONE;
+use book::refusals::FIRST_ROOM;
+use book::refusals::FOLLOW_ROOM;
 use book::refusals::LIMIT;
 use book::refusals::PRODUCTION;
 use book::refusals::ROOM;
@@ -23,6 +25,14 @@ pub(crate) fn room(before: Answer, have: usize, want: usize, detail: u64) -> Ans
     } else {
         before
     }
+}
+
+// Both set buffers have room for N sets.
+pub(crate) fn sets_room(before: Answer, first: usize, follow: usize, n: usize) -> Answer
+    ensures { λ r. ⌜ SetsRoomed before first follow n r ⌝ }
+{
+    let middle = room(before, first, n, FIRST_ROOM);
+    room(middle, follow, n, FOLLOW_ROOM)
 }
 
 // A production's number is below P.
@@ -66,7 +76,7 @@ fn stranger(symbols: &[u8], t: u8, n: u8) -> usize
 
 // A symbol string is short enough, and each byte is a symbol of the grammar.
 pub(crate) fn spelled(before: Answer, symbols: &[u8], t: u8, n: u8) -> Answer
-    ensures { λ r. ⌜ Checked before (Unspelled t n (now (symbols .entry))) (Spelled t n (now (symbols .entry))) r ⌝ }
+    ensures { λ r. ⌜ Checked before (Unspelled t n (now (symbols .entry))) (SymbolString t n (now (symbols .entry))) r ⌝ }
 {
     if before.number != DONE {
         return before;

@@ -1,12 +1,11 @@
 ghost use Rattle.table.specs.Calls.{SetsOutcome, BuildOutcome, NoSet, LookaheadOutcome, FirstOutcome};
-ghost use Rattle.table.specs.Checks.{Fillable};
+ghost use Rattle.table.specs.Filling.{Fillable};
 use crate::ahead::lookahead_at;
-use crate::ahead::lookaheads;
 use crate::checks::numbered;
 use crate::checks::room;
+use crate::checks::sets_room;
 use crate::checks::spelled;
-use crate::claims::first_conflict;
-use crate::claims::write_table;
+use crate::claims::enter;
 use crate::families::copy;
 use crate::families::single;
 use crate::first::firsts;
@@ -17,8 +16,6 @@ use book::Reading;
 use book::fields::place_at;
 use book::judging::judge;
 use book::refusals::DONE;
-use book::refusals::FIRST_ROOM;
-use book::refusals::FOLLOW_ROOM;
 use book::refusals::TABLE_ROOM;
 use sets::EMPTY_STRING;
 use sets::Set;
@@ -47,12 +44,7 @@ pub fn sets(book: &[u8], first: &mut [u64], follow: &mut [u64]) -> Answer
     let places = reading.places;
     let count = reading.productions as usize;
     let n = reading.nonterminals as usize;
-    let answer = room(
-        room(judged, first.len(), n, FIRST_ROOM),
-        follow.len(),
-        n,
-        FOLLOW_ROOM,
-    );
+    let answer = sets_room(judged, first.len(), follow.len(), n);
     if answer.number == DONE {
         let begins = firsts(book, &places, count);
         let ends = follows(book, &places, count, reading.start, &begins);
@@ -62,7 +54,7 @@ pub fn sets(book: &[u8], first: &mut [u64], follow: &mut [u64]) -> Answer
     answer
 }
 
-// The sets and the table of a book with room for them, unless two productions claim one cell: nothing is written before that is known.
+// The sets and the table of a book with room for them; where two productions claim one cell, nothing is written.
 fn fill(
     book: &[u8],
     reading: Reading,
@@ -76,18 +68,14 @@ fn fill(
     let places = reading.places;
     let count = reading.productions as usize;
     let n = reading.nonterminals as usize;
-    let tokens = reading.tokens;
-    let cells = n * (tokens as usize + 1);
     let begins = firsts(book, &places, count);
     let ends = follows(book, &places, count, reading.start, &begins);
-    let ahead = lookaheads(book, &places, count, &begins, &ends);
-    let answer = first_conflict(book, &places, &ahead, count, tokens, cells);
-    if answer.number == DONE {
+    let entered = enter(book, reading, &begins, &ends, table);
+    if entered.number == DONE {
         copy(&begins, n, first);
         copy(&ends, n, follow);
-        write_table(book, &places, &ahead, count, tokens, cells, table);
     }
-    answer
+    entered
 }
 
 // The sets and the table into the lent buffers.
@@ -98,12 +86,7 @@ pub fn build(book: &[u8], first: &mut [u64], follow: &mut [u64], table: &mut [u8
     let judged = reading.answer;
     let n = reading.nonterminals as usize;
     let cells = n * (reading.tokens as usize + 1);
-    let roomy = room(
-        room(judged, first.len(), n, FIRST_ROOM),
-        follow.len(),
-        n,
-        FOLLOW_ROOM,
-    );
+    let roomy = sets_room(judged, first.len(), follow.len(), n);
     let answer = room(roomy, table.len(), cells, TABLE_ROOM);
     if answer.number == DONE {
         fill(book, reading, first, follow, table)

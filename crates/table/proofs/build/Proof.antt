@@ -4,8 +4,8 @@ use Rattle.table.proofs.Answering.{SetsChecked, sets-checked, cells-fit
 use Rattle.table.proofs.build.Statement.{statement}
 use Rattle.table.proofs.build.Tie as tie
 
-checked : (d : tie.After-room2) → SetsChecked (d .before .before .before .before .before .before .before .before .before .before .args .book .now) (d .before .before .before .before .before .judge .result) (d .before .before .before .before .before .before .before .before .before .before .args .first .now) (d .before .before .before .before .before .before .before .before .before .before .args .follow .now) (d .room2 .result)
-checked d = sets-checked (d .before .before .before .before .before .judge .ensures) (d .before .room .ensures) (d .room2 .ensures)
+checked : (d : tie.After-sets-room) → SetsChecked (d .before .before .before .before .before .before .before .before .before .args .book .now) (d .before .before .before .before .judge .result) (d .before .before .before .before .before .before .before .before .before .args .first .now) (d .before .before .before .before .before .before .before .before .before .args .follow .now) (d .sets-room .result)
+checked d = sets-checked (d .before .before .before .before .judge .ensures) (d .sets-room .ensures)
 
 judge-requires : tie.Need-judge-requires
 judge-requires c κs = search needs
@@ -22,17 +22,14 @@ add-cells c = search needs
 mul-cells : tie.Need-mul-cells
 mul-cells c = record { fits = cells-fit _ _ (search needs) (search needs) }
 
+sets-room-requires : tie.Need-sets-room-requires
+sets-room-requires c κs = search needs
+
 room-requires : tie.Need-room-requires
 room-requires c κs = search needs
 
-room-requires-2 : tie.Need-room-requires-2
-room-requires-2 c κs = search needs
-
-room-requires-3 : tie.Need-room-requires-3
-room-requires-3 c κs = search needs
-
 fill-requires : tie.Need-fill-requires
-fill-requires c κs = build-fillable (checked (c .before .before .before .before .before .before)) (c .before .before .before .before .before .room3 .ensures) (c .before .before .before .if1 .taken)
+fill-requires c κs = build-fillable (checked (c .before .before .before .before .before .before)) (c .before .before .before .before .before .room .ensures) (c .before .before .before .if1 .taken)
 
 same-length : tie.Need-same-length
 same-length c = search needs
@@ -47,7 +44,7 @@ returns : tie.Need-returns
 returns c = search needs
 
 returns-2 : tie.Need-returns-2
-returns-2 c = build-refused (checked (c .before .before .before)) (c .before .before .room3 .ensures) (c .if1 .left)
+returns-2 c = build-refused (checked (c .before .before .before)) (c .before .before .room .ensures) (c .if1 .left)
 
 pub build-spec : {M : Type 1} → statement M
 build-spec =
@@ -58,9 +55,8 @@ build-spec =
     cast-cells
     add-cells
     mul-cells
+    sets-room-requires
     room-requires
-    room-requires-2
-    room-requires-3
     fill-requires
     same-length
     same-length-2

@@ -1,13 +1,13 @@
 -- The symbols decide between a refusal and the trail of the form that they spell.
 use mathlib.Core.Path.{sym}
 use borrow.Author.Needs.{needs}
-use Rattle.table.specs.Checks.{Spelled}
+use Rattle.table.specs.Checks.{SymbolString}
 use Rattle.table.proofs.Answering.{given-served, given-readable}
 use Rattle.table.proofs.SetAnswering.{Ready, spelled-ready, ready-narrow, first-refused, first-served}
 use Rattle.table.proofs.first_of.Statement.{statement}
 use Rattle.table.proofs.first_of.Tie as tie
 
-ready : (d : tie.Else1) → Ready (d .before .before .before .before .before .before .before .args .book .now) (d .before .before .before .before .judge .result) (Spelled (d .before .before .before .before .judge .result .tokens) (d .before .before .before .before .judge .result .nonterminals) (d .before .before .before .before .before .before .before .args .symbols .now)) (d .before .before .spelled .result)
+ready : (d : tie.Else1) → Ready (d .before .before .before .before .before .before .before .args .book .now) (d .before .before .before .before .judge .result) (SymbolString (d .before .before .before .before .judge .result .tokens) (d .before .before .before .before .judge .result .nonterminals) (d .before .before .before .before .before .before .before .args .symbols .now)) (d .before .before .spelled .result)
 ready d = spelled-ready (d .before .before .before .before .judge .ensures) (d .before .before .spelled .ensures) (d .if1 .left)
 
 judge-requires : tie.Need-judge-requires

@@ -5,10 +5,10 @@ use Rattle.table.proofs.Answering.{SetsChecked, sets-checked, SetsReady
 use Rattle.table.proofs.sets.Statement.{statement}
 use Rattle.table.proofs.sets.Tie as tie
 
-checked : (d : tie.After-room2) → SetsChecked (d .before .before .before .before .before .before .before .before .before .before .args .book .now) (d .before .before .before .before .before .before .judge .result) (d .before .before .before .before .before .before .before .before .before .before .args .first .now) (d .before .before .before .before .before .before .before .before .before .before .args .follow .now) (d .room2 .result)
-checked d = sets-checked (d .before .before .before .before .before .before .judge .ensures) (d .before .room .ensures) (d .room2 .ensures)
+checked : (d : tie.After-sets-room) → SetsChecked (d .before .before .before .before .before .before .before .before .before .args .book .now) (d .before .before .before .before .before .judge .result) (d .before .before .before .before .before .before .before .before .before .args .first .now) (d .before .before .before .before .before .before .before .before .before .args .follow .now) (d .sets-room .result)
+checked d = sets-checked (d .before .before .before .before .before .judge .ensures) (d .sets-room .ensures)
 
-ready : (d : tie.Then1) → SetsReady (d .before .before .before .before .before .before .before .before .before .before .before .before .args .book .now) (d .before .before .before .before .before .before .before .before .judge .result) (d .before .before .before .before .before .before .before .before .before .before .before .before .args .first .now) (d .before .before .before .before .before .before .before .before .before .before .before .before .args .follow .now) (d .before .before .room2 .result)
+ready : (d : tie.Then1) → SetsReady (d .before .before .before .before .before .before .before .before .before .before .before .args .book .now) (d .before .before .before .before .before .before .before .judge .result) (d .before .before .before .before .before .before .before .before .before .before .before .args .first .now) (d .before .before .before .before .before .before .before .before .before .before .before .args .follow .now) (d .before .before .sets-room .result)
 ready d = checked-ready (checked (d .before .before)) (d .if1 .taken)
 
 judge-requires : tie.Need-judge-requires
@@ -20,11 +20,8 @@ cast-count c = search needs
 cast-n : tie.Need-cast-n
 cast-n c = search needs
 
-room-requires : tie.Need-room-requires
-room-requires c κs = search needs
-
-room-requires-2 : tie.Need-room-requires-2
-room-requires-2 c κs = search needs
+sets-room-requires : tie.Need-sets-room-requires
+sets-room-requires c κs = search needs
 
 slice-aggregate-firsts : tie.Need-slice-aggregate-firsts
 slice-aggregate-firsts c = sym (given-served (ready (c .before) .given) .cells)
@@ -72,8 +69,7 @@ sets-spec =
     judge-requires
     cast-count
     cast-n
-    room-requires
-    room-requires-2
+    sets-room-requires
     slice-aggregate-firsts
     firsts-requires
     slice-aggregate-follows

@@ -4,19 +4,19 @@ use Prim.Native.Nat.{_-_, _≤_}
 use native.Mathlib.Nat.{le-antisymm}
 use native.Mathlib.Omega.{arith}
 use borrow.Author.Needs.{needs}
-use Rattle.table.specs.Steps.{Ahead}
-use Rattle.table.proofs.Claimed.{ahead-none, ahead-next}
+use Rattle.table.specs.Steps.{lookaheadOf, Tabulated}
+use Rattle.table.proofs.Claimed.{tabulated-none, tabulated-next}
 use Rattle.table.proofs.ahead.lookaheads.Statement.{statement}
 use Rattle.table.proofs.ahead.lookaheads.Tie as tie
 
 abbrev Inv-loop : tie.InvT-loop
-Inv-loop book places count first follow ahead₀ p₀ ahead p = (p ≤ count) × Ahead book places first follow p ahead
+Inv-loop book places count first follow ahead₀ p₀ ahead p = (p ≤ count) × Tabulated (lookaheadOf book places first follow) p ahead
 
 abbrev μ-loop : tie.MeasureT-loop
 μ-loop book places count first follow ahead₀ p₀ ahead p = count - p
 
 loop-holds : tie.Need-loop-holds Inv-loop μ-loop
-loop-holds c = (search needs, ahead-none)
+loop-holds c = (search needs, tabulated-none)
 
 slice-aggregate-store : tie.Need-slice-aggregate-store Inv-loop μ-loop
 slice-aggregate-store c = sym (c .before .before .loop .inv .1 .sized)
@@ -37,7 +37,7 @@ loop-less : tie.Need-loop-less Inv-loop μ-loop
 loop-less c = search needs
 
 loop-again : tie.Need-loop-again Inv-loop μ-loop
-loop-again c = (search needs, ahead-next (omega (arith, c .before .before .before .before .before .before .before .before .before .before .before .pre .1)) (c .before .before .before .before .before .before .loop .inv .1) (rw (c .before .before .before .place-at .ensures) at (c .before .before .lookahead-at .ensures)) (c .before .store .ensures))
+loop-again c = (search needs, tabulated-next (omega (arith, c .before .before .before .before .before .before .before .before .before .before .before .pre .1)) (c .before .before .before .before .before .before .loop .inv .1) (rw (c .before .before .before .place-at .ensures) at (c .before .before .lookahead-at .ensures)) (c .before .store .ensures))
 
 returns : tie.Need-returns Inv-loop μ-loop
 returns c = rw (le-antisymm (c .before .loop .inv .0) (c .loop-test .left)) at (c .before .loop .inv .1)

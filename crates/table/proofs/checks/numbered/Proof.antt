@@ -1,6 +1,6 @@
 -- A refusal passes through; a number that is not below P is refused.
 use borrow.Author.Needs.{needs}
-use Rattle.table.specs.Checks.{passes, stops, goes, for}
+use Rattle.table.specs.Checks.{passes, stops, goes, because}
 use Rattle.table.proofs.checks.numbered.Statement.{statement}
 use Rattle.table.proofs.checks.numbered.Tie as tie
 
@@ -14,7 +14,7 @@ returns-2 : tie.Need-returns-2
 returns-2 c = goes (c .before .if1 .left) (c .if2 .taken)
 
 returns-3 : tie.Need-returns-3
-returns-3 c = rw (c .refusal .ensures) (stops (c .before .before .if1 .left) (for (c .before .if2 .left)))
+returns-3 c = rw (c .refusal .ensures) (stops (c .before .before .if1 .left) (because (c .before .if2 .left)))
 
 pub numbered-spec : {M : Type 1} → statement M
 numbered-spec = tie.close (tie.spec returns refusal-requires returns-2 returns-3)

@@ -1,6 +1,6 @@
 -- A refusal passes through; a buffer that is too short is refused.
 use borrow.Author.Needs.{needs}
-use Rattle.table.specs.Checks.{passes, stops, goes, for}
+use Rattle.table.specs.Checks.{passes, stops, goes, because}
 use Rattle.table.proofs.checks.room.Statement.{statement}
 use Rattle.table.proofs.checks.room.Tie as tie
 
@@ -11,7 +11,7 @@ refusal-requires : tie.Need-refusal-requires
 refusal-requires c κs = search needs
 
 returns-2 : tie.Need-returns-2
-returns-2 c = rw (c .refusal .ensures) (stops (c .before .before .if1 .left) (for (c .before .if2 .taken)))
+returns-2 c = rw (c .refusal .ensures) (stops (c .before .before .if1 .left) (because (c .before .if2 .taken)))
 
 returns-3 : tie.Need-returns-3
 returns-3 c = goes (c .before .if1 .left) (c .if2 .left)

@@ -1,6 +1,7 @@
 -- A refusal passes through; then the length, then each byte.
 use native.Mathlib.Omega.{arith}
 use borrow.Author.Needs.{needs}
+use Rattle.table.proofs.SymbolStrings.{something}
 use Rattle.table.specs.Checks.{passes, stops, goes, too-long, strange}
 use Rattle.table.proofs.checks.spelled.Statement.{statement}
 use Rattle.table.proofs.checks.spelled.Tie as tie
@@ -24,7 +25,7 @@ returns-3 : tie.Need-returns-3
 returns-3 c = rw (c .refusal2 .ensures) (stops (c .before .before .before .before .if1 .left) (strange (c .before .before .before .if2 .left) (c .before .if3 .taken) (c .before .before .stranger .ensures)))
 
 returns-4 : tie.Need-returns-4
-returns-4 c = goes (c .before .before .before .if1 .left) (record { short = c .before .before .if2 .left; symbol = λ i h. c .before .stranger .ensures .passed i (omega arith) (omega arith) })
+returns-4 c = goes (c .before .before .before .if1 .left) (record { short = c .before .before .if2 .left; symbol = λ i h. something _ (c .before .stranger .ensures .passed i (omega arith) (omega arith)) })
 
 pub spelled-spec : {M : Type 1} → statement M
 spelled-spec =

@@ -9,10 +9,10 @@ use Rattle.table.proofs.claims.first_conflict.Statement.{statement}
 use Rattle.table.proofs.claims.first_conflict.Tie as tie
 
 abbrev Inv-loop : tie.InvT-loop
-Inv-loop book places ahead count tokens cells cell₀ cell = (cell ≤ cells) × ((j : ℕ) → j < cell → AtMostOne (claims book places ahead tokens j) count)
+Inv-loop lefts ahead count tokens cells cell₀ cell = (cell ≤ cells) × ((j : ℕ) → j < cell → AtMostOne (claims lefts ahead tokens j) count)
 
 abbrev μ-loop : tie.MeasureT-loop
-μ-loop book places ahead count tokens cells cell₀ cell = cells - cell
+μ-loop lefts ahead count tokens cells cell₀ cell = cells - cell
 
 loop-holds : tie.Need-loop-holds Inv-loop μ-loop
 loop-holds c = (search needs, λ j none. absurd (omega arith))

@@ -10,10 +10,10 @@ use Rattle.table.proofs.claims.seek.Statement.{statement}
 use Rattle.table.proofs.claims.seek.Tie as tie
 
 abbrev Inv-loop : tie.InvT-loop
-Inv-loop book places ahead count tokens cell from columns row bit p₀ p = Seeking (claims book places ahead tokens cell) from count p
+Inv-loop lefts ahead count tokens cell from columns row bit p₀ p = Seeking (claims lefts ahead tokens cell) from count p
 
 abbrev μ-loop : tie.MeasureT-loop
-μ-loop book places ahead count tokens cell from columns row bit p₀ p = count - p
+μ-loop lefts ahead count tokens cell from columns row bit p₀ p = count - p
 
 add-columns : tie.Need-add-columns Inv-loop μ-loop
 add-columns c = search needs
@@ -25,7 +25,7 @@ rem-column-bit : tie.Need-rem-column-bit Inv-loop μ-loop
 rem-column-bit c = search needs
 
 cast-column-bit : tie.Need-cast-column-bit Inv-loop μ-loop
-cast-column-bit c = omega (arith, mod-lt (c .before .before .before .args .cell) {m = c .before .before .before .args .tokens + 1} (omega arith))
+cast-column-bit c = omega (arith, mod-lt (c .before .before .args .cell) {m = c .before .before .args .tokens + 1} (omega arith))
 
 column-bit-requires : tie.Need-column-bit-requires Inv-loop μ-loop
 column-bit-requires c κs = search needs

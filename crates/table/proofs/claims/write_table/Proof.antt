@@ -10,10 +10,10 @@ use Rattle.table.proofs.claims.write_table.Statement.{statement}
 use Rattle.table.proofs.claims.write_table.Tie as tie
 
 abbrev Inv-loop : tie.InvT-loop
-Inv-loop book places ahead count tokens cells table₀ cell₀ table cell = (cell ≤ cells) × Written (claims book places ahead tokens) count cell table₀ table
+Inv-loop lefts ahead count tokens cells table₀ cell₀ table cell = (cell ≤ cells) × Written (claims lefts ahead tokens) count cell table₀ table
 
 abbrev μ-loop : tie.MeasureT-loop
-μ-loop book places ahead count tokens cells table₀ cell₀ table cell = cells - cell
+μ-loop lefts ahead count tokens cells table₀ cell₀ table cell = cells - cell
 
 loop-holds : tie.Need-loop-holds Inv-loop μ-loop
 loop-holds c = (search needs, written-none)
@@ -25,7 +25,7 @@ cell-byte-requires : tie.Need-cell-byte-requires Inv-loop μ-loop
 cell-byte-requires c κs = search needs
 
 slice-write-table : tie.Need-slice-write-table Inv-loop μ-loop
-slice-write-table c = omega (arith, c .before .before .before .loop .inv .1 .sized, c .before .before .before .before .before .before .before .before .pre .1)
+slice-write-table c = omega (arith, c .before .before .before .loop .inv .1 .sized, c .before .before .before .before .before .before .before .pre .1)
 
 add-cell : tie.Need-add-cell Inv-loop μ-loop
 add-cell c = search needs
@@ -34,7 +34,7 @@ loop-less : tie.Need-loop-less Inv-loop μ-loop
 loop-less c = search needs
 
 loop-again : tie.Need-loop-again Inv-loop μ-loop
-loop-again c = (search needs, written-next (omega (arith, c .before .before .before .before .before .before .before .before .pre .1)) (c .before .before .before .loop .inv .1) (cell-holds (c .before .seek .ensures) (c .cell-byte .ensures)))
+loop-again c = (search needs, written-next (omega (arith, c .before .before .before .before .before .before .before .pre .1)) (c .before .before .before .loop .inv .1) (cell-holds (c .before .seek .ensures) (c .cell-byte .ensures)))
 
 same-length : tie.Need-same-length Inv-loop μ-loop
 same-length c = c .before .loop .inv .1 .sized
