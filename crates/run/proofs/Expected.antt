@@ -81,7 +81,7 @@ set-same e = λ i. record { word = e i }
 
 module _ {o : Outline} (table : List ℕ) {cause : Cause} {r : Set} where
   expects-for : (q : Reason) → cause ≡ causeOf q → ((g : Grammar) → Outlines o g → number r ≡ number (expected g table q)) → Expects o table cause r
-  expects-for q e h = record { set = λ g sized p f. set-same (h g sized) ∙ ap (expected g table) (cause-unique (sym e ∙ f)) }
+  expects-for q e h = record { given = λ g sized p f. set-same (h g sized) ∙ ap (expected g table) (cause-unique (sym e ∙ f)) }
 
   pub expects-list : cause ≡ FullList → None r → Expects o table cause r
   unfolding causeOf expected
@@ -137,4 +137,4 @@ module _ {o : Outline} (table : List ℕ) {reply : Reply} {at : Progress} {steps
       go g sized (taken s) reports moves = let bad : _≡_ {A = ℕ} 0 1 = cc in absurd (omega arith)
       go g sized (stopped q s) reports moves =
           let same : cause ≡ causeOf q = cc in
-          f ∙ rw (number-is, place-is ∙ matched-are s here (ap progressIn reports), detail-is, steps-are s here counts (ap progressIn reports) moves, expects .set g sized q same, same) (sym (answered-stopped g table q s))
+          f ∙ rw (number-is, place-is ∙ matched-are s here (ap progressIn reports), detail-is, steps-are s here counts (ap progressIn reports) moves, expects .given g sized q same, same) (sym (answered-stopped g table q s))

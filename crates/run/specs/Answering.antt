@@ -43,7 +43,7 @@ pub record RowColumns (o : Outline) (table : List ℕ) (A : ℕ) (r : Set) : Typ
 
 -- r is the expected set of the reason that the code has as this cause
 pub record Expects (o : Outline) (table : List ℕ) (cause : Cause) (r : Set) : Type 0 where
-  pub set : (g : Grammar) → Outlines o g → (reason : Reason) → cause ≡ causeOf reason → r ≡ expected g table reason
+  pub given : (g : Grammar) → Outlines o g → (reason : Reason) → cause ≡ causeOf reason → r ≡ expected g table reason
 
 -- the counts of a reply
 abbrev pub progressIn : Reply → Progress

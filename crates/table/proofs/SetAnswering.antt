@@ -62,7 +62,7 @@ module _ {book : List ℕ} {reading : Reading} {production : ℕ} where
       let (A, α, rule) = rule-at index production (x .good) in
       let number-is = rw (left-is index rule, right-is index rule) at e in
       calls.served (given .serves) rule
-      (record { answer = x .is; set = rw number-is (lookahead-is (given-limits given) (given-first given first-found follow-found) (given-follow given first-found follow-found) rule) })
+      (record { answer = x .is; holds = rw number-is (lookahead-is (given-limits given) (given-first given first-found follow-found) (given-follow given first-found follow-found) rule) })
 
 module _ {book : List ℕ} {reading : Reading} {symbols : List ℕ} where
   pub spelled-ready : {a : Answer} → Judged book reading → Checked (reading .answer) (Unspelled (reading .tokens) (reading .nonterminals) symbols) (SymbolString (reading .tokens) (reading .nonterminals) symbols) a
@@ -102,4 +102,4 @@ module _ {book : List ℕ} {reading : Reading} {symbols : List ℕ} where
     first-served {set} {firsts} first-found e =
         let first : FirstAt (x .given .grammar) firsts = first-found .found (x .given .grammar) (given-indexes (x .given)) in
         calls.served {α = ready-spells .form} (x .given .serves) (x .good .short) (ready-spells .spelled)
-        (record { answer = x .is; set = rw (e, ready-spells .is) (first-is (given-limits (x .given)) first (ready-spells .known)) })
+        (record { answer = x .is; holds = rw (e, ready-spells .is) (first-is (given-limits (x .given)) first (ready-spells .known)) })

@@ -14,7 +14,7 @@ use Rattle.sets.proofs.Promise.{exactly-unique, number-unique}
 use Rattle.book.specs.declared.Answer.{Answer}
 use Rattle.book.specs.Answers.{refusal}
 use Rattle.book.specs.Book.{symbolOf}
-use Rattle.book.proofs.Bytes.{symbolOf-known}
+use Rattle.book.proofs.Promise.{symbolOf-known}
 use Rattle.table.specs.declared.SetAnswer.{SetAnswer}
 use Rattle.table.specs.Calls.{SetIs, NoSet, LookaheadOutcome, FirstStranger, FirstOutcome}
 use Rattle.table.specs.Calls as calls
@@ -25,10 +25,10 @@ set-answer-same : (r s : SetAnswer) → r .answer ≡ s .answer → r .set ≡ s
 set-answer-same r s p q = λ i. record { answer = p i; set = q i }
 
 no-set-unique : (a : Answer) → Unique (NoSet a)
-no-set-unique a r s h k = set-answer-same r s (h .answer ∙ sym (k .answer)) (h .set ∙ sym (k .set))
+no-set-unique a r s h k = set-answer-same r s (h .answer ∙ sym (k .answer)) (h .empty ∙ sym (k .empty))
 
 set-is-unique : {P : Member → Type 0} → Unique (SetIs P)
-set-is-unique r s h k = set-answer-same r s (h .answer ∙ sym (k .answer)) (number-unique (exactly-unique (number (r .set)) (number (s .set)) (h .set) (k .set)))
+set-is-unique r s h k = set-answer-same r s (h .answer ∙ sym (k .answer)) (number-unique (exactly-unique (number (r .set)) (number (s .set)) (h .holds) (k .holds)))
 
 module _ (book : List ℕ) (production : ℕ) where
   record NoProduction (g : Grammar) (r : SetAnswer) : Type 0 where

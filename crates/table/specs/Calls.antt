@@ -49,11 +49,11 @@ pub data BuildOutcome (book first follow table : List ℕ) : Answer → List ℕ
 -- the set of an answer that is done; 0 with a refusal
 pub record SetIs (P : Member → Type 0) (r : SetAnswer) : Type 0 where
   pub answer : r .answer ≡ done 0
-  pub set : IsSet (number (r .set)) P
+  pub holds : IsSet (number (r .set)) P
 
 pub record NoSet (a : Answer) (r : SetAnswer) : Type 0 where
   pub answer : r .answer ≡ a
-  pub set : r .set ≡ noSet
+  pub empty : r .set ≡ noSet
 
 -- the lookahead of a production
 pub data LookaheadOutcome (book : List ℕ) (production : ℕ) (r : SetAnswer) : Type 0 where

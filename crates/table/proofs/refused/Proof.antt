@@ -9,7 +9,7 @@ none-requires : tie.Need-none-requires
 none-requires c κs = search needs
 
 returns : tie.Need-returns
-returns c = record { answer = refl; set = number-unique (none-is (c .none .ensures)) }
+returns c = record { answer = refl; empty = number-unique (none-is (c .none .ensures)) }
 
 pub refused-spec : {M : Type 1} → statement M
 refused-spec = tie.close (tie.spec none-requires returns)
