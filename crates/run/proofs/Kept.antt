@@ -1,4 +1,4 @@
--- What a function that keeps its promise answers and leaves, where the book serves: steps begin, or there is no stack cell.
+-- What a call that keeps its promise answers and leaves, where the book serves: steps begin, or there is no stack cell.
 use mathlib.Core.Path.{_≡_, refl, ap}
 use mathlib.Core.List.{List}
 use mathlib.Core.Option.{Option}
@@ -15,10 +15,9 @@ use Rattle.book.specs.Refusals.{room, stackRoom}
 use Rattle.table.specs.Calls.{over}
 use Rattle.table.specs.Table.{rowAt, columnAt, held, TableOf, cellOf}
 use Rattle.table.proofs.Promise.{built-exact}
-use Rattle.run.specs.Demands.{Runner, Expander, Ran, Expanded, Premises}
+use Rattle.run.specs.Demands.{Ran, Expanded, Premises}
 use Rattle.run.specs.Expanding.{ExpandOutcome, expansion, answeredBy}
 use Rattle.run.specs.Expanding as expanding
-use Rattle.run.specs.Promised.{KeepsRun, KeepsExpand}
 use Rattle.run.specs.Running.{counted, Fits, FitTable, Barred, Admits, RunOutcome, cleared, ran, answered, expected, listedBy}
 use Rattle.run.specs.Running as running
 use Rattle.run.proofs.OutcomeUnique.{Result, run-outcome-unique, expand-outcome-unique}
@@ -61,21 +60,21 @@ pub data ExpansionBegins (g : Grammar) (list stack output : List ℕ) (r : Expan
   stackless : length stack ≡ 0 → r .answer ≡ refusal room 0 stackRoom → r .stack ≡ stack → r .output ≡ output → ExpansionBegins g list stack output r
   begins : 1 ≤ length stack → EndsExpansion g list stack output r → ExpansionBegins g list stack output r
 
-module _ {run : Runner} (kept : KeepsRun run) (book table tokens stack list : List ℕ) where
+module _ (book table tokens stack list : List ℕ) (r : Ran) (o : RunOutcome book table tokens stack list (r .answer) (r .stack) (r .list)) where
   -- steps begin on every table that passes refusal 9
-  pub run-ends : {g : Grammar} → Serves book g → Admits g table tokens stack → EndsRun g table tokens stack list (run book table tokens stack list)
+  pub run-ends : {g : Grammar} → Serves book g → Admits g table tokens stack → EndsRun g table tokens stack list r
   run-ends s a =
-      let same = run-outcome-unique book table tokens stack list (kept .keeps book table tokens stack list) (running.ended s a) in
+      let same = run-outcome-unique book table tokens stack list o (running.ended s a) in
       record { answer = ap (λ (x : Result). x .0) same; cleared = ap (λ (x : Result). x .1) same; written = ap (λ (x : Result). x .2) same }
 
-  pub run-begins : (h : Premises book table tokens) → RunBegins (h .built .grammar) table tokens stack list (run book table tokens stack list)
+  pub run-begins : (h : Premises book table tokens) → RunBegins (h .built .grammar) table tokens stack list r
   run-begins h = go (decLt 0 (length stack))
     where
-      go : Dec (0 < length stack) → RunBegins (h .built .grammar) table tokens stack list (run book table tokens stack list)
+      go : Dec (0 < length stack) → RunBegins (h .built .grammar) table tokens stack list r
       go (yes k) = begins (omega arith) (run-ends (h .built .serves) (premises-admit h stack (omega arith)))
       go (no n) =
           let none : length stack ≡ 0 = omega arith in
-          let same = run-outcome-unique book table tokens stack list (kept .keeps book table tokens stack list) (running.barred (h .built .serves) (running.no-stack (table-fits (h .built .built)) (h .short) (h .known) none)) in
+          let same = run-outcome-unique book table tokens stack list o (running.barred (h .built .serves) (running.no-stack (table-fits (h .built .built)) (h .short) (h .known) none)) in
           stackless none (ap (λ (x : Result). x .0) same) (ap (λ (x : Result). x .1) same) (ap (λ (x : Result). x .2) same)
 
 refuses-no-steps : {book : List ℕ} {a : Answer} → Refuses book a → a .steps ≡ 0
@@ -96,24 +95,24 @@ before-steps n (running.refused r) = (refuses-no-steps r, refl, refl)
 before-steps n (running.barred s b) = (barred-no-steps b, refl, refl)
 before-steps n (running.ended {g = g} s a) = absurd (n g s a)
 
-module _ {expand : Expander} (kept : KeepsExpand expand) (book list stack output : List ℕ) {g : Grammar} (s : Serves book g) (short : length list ≤ 65535) where
-  pub expansion-begins : ExpansionBegins g list stack output (expand book list stack output)
+module _ (book list stack output : List ℕ) (r : Expanded) (o : ExpandOutcome book list stack output (r .answer) (r .stack) (r .output)) {g : Grammar} (s : Serves book g) (short : length list ≤ 65535) where
+  pub expansion-begins : ExpansionBegins g list stack output r
   expansion-begins = go (decLt 0 (length stack))
     where
-      go : Dec (0 < length stack) → ExpansionBegins g list stack output (expand book list stack output)
+      go : Dec (0 < length stack) → ExpansionBegins g list stack output r
       go (yes k) =
-          let same = expand-outcome-unique book list stack output (kept .keeps book list stack output) (expanding.ended s short (omega arith)) in
+          let same = expand-outcome-unique book list stack output o (expanding.ended s short (omega arith)) in
           begins (omega arith) (record { answer = ap (λ (x : Result). x .0) same; cleared = ap (λ (x : Result). x .1) same; written = ap (λ (x : Result). x .2) same })
       go (no n) =
           let none : length stack ≡ 0 = omega arith in
-          let same = expand-outcome-unique book list stack output (kept .keeps book list stack output) (expanding.no-stack s short none) in
+          let same = expand-outcome-unique book list stack output o (expanding.no-stack s short none) in
           stackless none (ap (λ (x : Result). x .0) same) (ap (λ (x : Result). x .1) same) (ap (λ (x : Result). x .2) same)
 
   -- steps begin wherever there is a stack cell
-  pub expansion-ends : 1 ≤ length stack → EndsExpansion g list stack output (expand book list stack output)
+  pub expansion-ends : 1 ≤ length stack → EndsExpansion g list stack output r
   expansion-ends k = go expansion-begins
     where
-      go : ExpansionBegins g list stack output (expand book list stack output) → EndsExpansion g list stack output (expand book list stack output)
+      go : ExpansionBegins g list stack output r → EndsExpansion g list stack output r
       go (stackless e a b c) = absurd (omega arith)
       go (begins l e) = e
 

@@ -1,4 +1,4 @@
--- The lead's demands 2 and 3 as predicates on outcome functions, whoever wrote them.
+-- The lead's demands 2 and 3: first of one call, by what it was lent and what it leaves, then of an outcome function, whoever wrote it.
 -- Document 01, "How much each promise says", and the demands themselves.
 use mathlib.Core.Path.{_≡_}
 use mathlib.Core.Logic.{_↔_, _⊎_}
@@ -57,34 +57,51 @@ pub record BuildRoom (g : Grammar) (first follow table : List ℕ) : Type 0 wher
   pub table-room : size g ≤ length table
 
 -- demand 2, sets and table: no member missing, none added; a conflict exactly if two productions claim one cell
-pub record Demand2Build (build : Builder) : Type 0 where
-  pub conflict-iff : (book first follow table : List ℕ) {g : Grammar} → Serves book g → BuildRoom g first follow table → (build book first follow table .answer .number ≡ conflict) ↔ Conflict g
-  pub done-iff : (book first follow table : List ℕ) {g : Grammar} → Serves book g → BuildRoom g first follow table → (build book first follow table .answer .number ≡ 0) ↔ (¬ Conflict g)
-  pub first-sets : (book first follow table : List ℕ) {g : Grammar} → Serves book g → build book first follow table .answer .number ≡ 0 → FirstSets g (take (g .nonterminals) (build book first follow table .first))
-  pub follow-sets : (book first follow table : List ℕ) {g : Grammar} → Serves book g → build book first follow table .answer .number ≡ 0 → FollowSets g (take (g .nonterminals) (build book first follow table .follow))
-  pub cells : (book first follow table : List ℕ) {g : Grammar} → Serves book g → build book first follow table .answer .number ≡ 0 → TableOf g (take (size g) (build book first follow table .table))
+pub record BuildMeets2 (book first follow table : List ℕ) (r : Built) : Type 0 where
+  pub conflict-iff : {g : Grammar} → Serves book g → BuildRoom g first follow table → (r .answer .number ≡ conflict) ↔ Conflict g
+  pub done-iff : {g : Grammar} → Serves book g → BuildRoom g first follow table → (r .answer .number ≡ 0) ↔ (¬ Conflict g)
+  pub first-sets : {g : Grammar} → Serves book g → r .answer .number ≡ 0 → FirstSets g (take (g .nonterminals) (r .first))
+  pub follow-sets : {g : Grammar} → Serves book g → r .answer .number ≡ 0 → FollowSets g (take (g .nonterminals) (r .follow))
+  pub cells : {g : Grammar} → Serves book g → r .answer .number ≡ 0 → TableOf g (take (size g) (r .table))
 
 -- demand 2, lists: given room and at most 65,535 productions, a complete list expands to the string it derives
-pub record Demand2Expand (expand : Expander) : Type 0 where
-  pub expands : (book stack output : List ℕ) {g : Grammar} {ps w : List ℕ} → Serves book g → (d : Complete g ps w) → length ps ≤ 65535 → peak d ≤ counted stack → length w ≤ counted output → (expand book ps stack output .answer .number ≡ 0) × (expand book ps stack output .output ≡ over w output)
+pub record ExpandMeets2 (book ps stack output : List ℕ) (r : Expanded) : Type 0 where
+  pub expands : {g : Grammar} {w : List ℕ} → Serves book g → (d : Complete g ps w) → length ps ≤ 65535 → peak d ≤ counted stack → length w ≤ counted output → (r .answer .number ≡ 0) × (r .output ≡ over w output)
 
 -- and under demand 3's premises and with room, that string runs back to the list
-pub record Demand2Back (run : Runner) : Type 0 where
-  pub back : (book table stack list : List ℕ) {ps w : List ℕ} (h : Premises book table w) (d : Complete (h .built .grammar) ps w) → length ps ≤ counted list → peak d ≤ counted stack → (run book table w stack list .answer .number ≡ 0) × (run book table w stack list .list ≡ over ps list)
+pub record RunMeets2 (book table w stack list : List ℕ) (r : Ran) : Type 0 where
+  pub back : {ps : List ℕ} (h : Premises book table w) (d : Complete (h .built .grammar) ps w) → length ps ≤ counted list → peak d ≤ counted stack → (r .answer .number ≡ 0) × (r .list ≡ over ps list)
 
 -- demand 3
-pub record Demand3 (run : Runner) : Type 0 where
+pub record RunMeets3 (book table tokens stack list : List ℕ) (r : Ran) : Type 0 where
   -- the run accepts only a string that the start symbol derives; the list it gives is the leftmost derivation
-  pub accepts : (book table tokens stack list : List ℕ) (h : Premises book table tokens) → run book table tokens stack list .answer .number ≡ 0 → (ps : List ℕ) × Complete (h .built .grammar) ps tokens × (run book table tokens stack list .list ≡ over ps list)
+  pub accepts : (h : Premises book table tokens) → r .answer .number ≡ 0 → (ps : List ℕ) × Complete (h .built .grammar) ps tokens × (r .list ≡ over ps list)
   -- and there is no second one
-  pub only-one : (book table tokens : List ℕ) (h : Premises book table tokens) {ps qs : List ℕ} → Complete (h .built .grammar) ps tokens → Complete (h .built .grammar) qs tokens → ps ≡ qs
+  pub only-one : (h : Premises book table tokens) {ps qs : List ℕ} → Complete (h .built .grammar) ps tokens → Complete (h .built .grammar) qs tokens → ps ≡ qs
   -- a derivable string is refused only for room
-  pub served-or-room : (book table tokens stack list : List ℕ) (h : Premises book table tokens) {ps : List ℕ} → Complete (h .built .grammar) ps tokens → (run book table tokens stack list .answer .number ≡ 0) ⊎ (run book table tokens stack list .answer .number ≡ room)
+  pub served-or-room : (h : Premises book table tokens) {ps : List ℕ} → Complete (h .built .grammar) ps tokens → (r .answer .number ≡ 0) ⊎ (r .answer .number ≡ room)
   -- exactly if its derivation has more productions than the list has cells, or the start or a step needs more stack than was lent
-  pub room-iff : (book table tokens stack list : List ℕ) (h : Premises book table tokens) {ps : List ℕ} (d : Complete (h .built .grammar) ps tokens) → (run book table tokens stack list .answer .number ≡ room) ↔ ((counted list < length ps) ⊎ (counted stack < peak d))
+  pub room-iff : (h : Premises book table tokens) {ps : List ℕ} (d : Complete (h .built .grammar) ps tokens) → (r .answer .number ≡ room) ↔ ((counted list < length ps) ⊎ (counted stack < peak d))
   -- where syntax is the reason, the place is the length of the longest beginning that some derivable string shares
-  pub place : (book table tokens stack list : List ℕ) (h : Premises book table tokens) → run book table tokens stack list .answer .number ≡ syntax → Longest (h .built .grammar) tokens (run book table tokens stack list .answer .place)
+  pub place : (h : Premises book table tokens) → r .answer .number ≡ syntax → Longest (h .built .grammar) tokens (r .answer .place)
 
--- steps = productions listed + tokens matched, as the definition's machine counts them, on every table that passes 9
+-- steps = productions listed + tokens matched, as the definition's machine counts them; 0 in an answer before steps
+pub record StepsAdd (book table tokens stack list : List ℕ) (r : Ran) : Type 0 where
+  pub sum : {g : Grammar} → Serves book g → Admits g table tokens stack → r .answer .steps ≡ length (listedBy (ran g table tokens stack list)) + matchedBy (ran g table tokens stack list)
+  pub none : ((g : Grammar) → Serves book g → ¬ Admits g table tokens stack) → r .answer .steps ≡ 0
+
+-- the demands of an outcome function: every call meets them
+pub record Demand2Build (build : Builder) : Type 0 where
+  pub call : (book first follow table : List ℕ) → BuildMeets2 book first follow table (build book first follow table)
+
+pub record Demand2Expand (expand : Expander) : Type 0 where
+  pub call : (book list stack output : List ℕ) → ExpandMeets2 book list stack output (expand book list stack output)
+
+pub record Demand2Back (run : Runner) : Type 0 where
+  pub call : (book table tokens stack list : List ℕ) → RunMeets2 book table tokens stack list (run book table tokens stack list)
+
+pub record Demand3 (run : Runner) : Type 0 where
+  pub call : (book table tokens stack list : List ℕ) → RunMeets3 book table tokens stack list (run book table tokens stack list)
+
 pub record StepsSum (run : Runner) : Type 0 where
-  pub sum : (book table tokens stack list : List ℕ) {g : Grammar} → Serves book g → Admits g table tokens stack → run book table tokens stack list .answer .steps ≡ length (listedBy (ran g table tokens stack list)) + matchedBy (ran g table tokens stack list)
+  pub call : (book table tokens stack list : List ℕ) → StepsAdd book table tokens stack list (run book table tokens stack list)

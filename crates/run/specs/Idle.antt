@@ -5,24 +5,23 @@ use mathlib.Core.Logic.{_⊎_, _≢_}
 use mathlib.Core.List.{List, _∷_}
 use Prim.Native.Nat.{ℕ, zero, suc}
 use lib.ListN.{length, getD}
+use lib.Seq.{sets}
 use Rattle.book.specs.declared.Answer.{Answer}
 use Rattle.book.specs.Answers.{done, stop, noSet}
 use Rattle.book.specs.Refusals.{syntax}
-use Rattle.run.specs.Demands.{Builder, Runner, Expander, Ran, Expanded}
+use Rattle.run.specs.Demands.{Builder, Runner, Expander, Premises}
 
 -- it refuses everything, with whatever number
 pub record RefusesEverything (run : Runner) : Type 0 where
   pub refuses : (book table tokens stack list : List ℕ) → run book table tokens stack list .answer .number ≢ 0
 
--- it leaves one output, whatever the list
+-- it leaves one output in a buffer, whatever the list
 pub record FixedOutput (expand : Expander) : Type 0 where
-  pub output : List ℕ
-  pub fixed : (book list stack output′ : List ℕ) → expand book list stack output′ .output ≡ output
+  pub fixed : (book list list′ stack output : List ℕ) → expand book list stack output .output ≡ expand book list′ stack output .output
 
--- it leaves one list, whatever the tokens
+-- it leaves one list in a buffer, whatever the tokens
 pub record FixedList (run : Runner) : Type 0 where
-  pub list : List ℕ
-  pub fixed : (book table tokens stack list′ : List ℕ) → run book table tokens stack list′ .list ≡ list
+  pub fixed : (book table tokens tokens′ stack list : List ℕ) → run book table tokens stack list .list ≡ run book table tokens′ stack list .list
 
 -- it answers what it likes, and leaves the list as it was
 pub record LeavesList (run : Runner) : Type 0 where
@@ -34,15 +33,20 @@ pub record LeavesTable (build : Builder) : Type 0 where
 
 -- it accepts or refuses for syntax by the first token, and only its place moves, with the length
 pub record JudgesAtFirst (run : Runner) : Type 0 where
-  pub judges : (book table tokens stack list : List ℕ) → (run book table tokens stack list .answer .number ≡ 0) ⊎ (run book table tokens stack list .answer .number ≡ syntax)
+  pub judges : (book table tokens stack list : List ℕ) → Premises book table tokens → (run book table tokens stack list .answer .number ≡ 0) ⊎ (run book table tokens stack list .answer .number ≡ syntax)
   pub alike : (book table stack list : List ℕ) (t : ℕ) (u v : List ℕ) → length u ≡ length v → run book table (t ∷ u) stack list .answer ≡ run book table (t ∷ v) stack list .answer
 
--- the plainest of each kind: one outcome, whatever the call
-unfoldable pub always : Ran → Runner
-always r book table tokens stack list = r
+-- it tells one number of steps, whatever it does
+pub record InventsSteps (run : Runner) : Type 0 where
+  pub steps : ℕ
+  pub told : (book table tokens stack list : List ℕ) → run book table tokens stack list .answer .steps ≡ steps
 
-unfoldable pub alwaysExpanded : Expanded → Expander
-alwaysExpanded r book list stack output = r
+-- the plainest of each kind: one answer, and the same cells written from the front as far as there is room
+unfoldable pub writing : Answer → List ℕ → Runner
+writing a cells book table tokens stack list = record { answer = a; stack = stack; list = sets list 0 cells }
+
+unfoldable pub writingOutput : Answer → List ℕ → Expander
+writingOutput a cells book list stack output = record { answer = a; stack = stack; output = sets output 0 cells }
 
 -- one answer, and every buffer as it was
 unfoldable pub untouching : Answer → Runner
@@ -58,10 +62,3 @@ judged (suc t) n = stop syntax n 0 n noSet
 
 unfoldable pub judgingFirst : Runner
 judgingFirst book table tokens stack list = record { answer = judged (getD tokens 0 1) (length tokens); stack = stack; list = list }
-
--- it takes the outcome of another and changes the steps
-unfoldable pub changingSteps : (ℕ → ℕ) → Runner → Runner
-changingSteps change run book table tokens stack list =
-    let r = run book table tokens stack list in
-    let a = r .answer in
-    record { answer = record { number = a .number; place = a .place; detail = a .detail; steps = change (a .steps); expected = a .expected }; stack = r .stack; list = r .list }
