@@ -23,6 +23,7 @@ pub mod Answered
 pub mod Kept
 pub mod AnyTable
 pub mod Shown
+pub mod OnReading
 pub mod RunDemands
 pub mod RoomNeeded
 pub mod RunRoom

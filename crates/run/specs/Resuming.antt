@@ -5,14 +5,19 @@ use mathlib.Core.List.{List}
 use Prim.Native.Nat.{ℕ, _+_, _-_, min}
 use lib.ListN.{length, take}
 use Rattle.grammar.specs.Grammar.{Grammar}
+use Rattle.book.specs.declared.Answer.{Answer}
+use Rattle.book.specs.Answers.{done, stop, noSet}
+use Rattle.book.specs.Refusals.{room, syntax, stackRoom, listRoom}
 use Rattle.table.specs.Calls.{over}
 use Rattle.table.specs.Table.{columnOf, cellOf}
-use Rattle.run.specs.Machine.{State, Offered, offer}
+use Rattle.run.specs.Machine.{State, wants-end, wants-token, wants-row, Offered, offer}
 use Rattle.run.specs.Offering.{reported, leaves}
 use Rattle.run.specs.Room.{rightOf}
-use Rattle.run.specs.Running.{counted}
+use Rattle.run.specs.Running.{counted, expected}
 use Rattle.run.specs.Stack.{spelledBy, stacked}
+use Rattle.run.specs.declared.Cause.the-variants.{FullList, FullStack, WantsEnd, WantsToken, WantsRow}
 use Rattle.run.specs.declared.Progress.{Progress}
+use Rattle.run.specs.declared.Reply.the-variants.{Taken, Stopped}
 use Rattle.run.specs.declared.Reply.{Reply}
 
 -- the counts as far as they count, of buffers that are so long
@@ -34,3 +39,12 @@ pub record Offers (o : Offered) (stack list : List ℕ) (r : Reply) (stack′ li
 
 abbrev pub OfferOutcome : Grammar → List ℕ → ℕ → Progress → (stack list : List ℕ) → Reply → (stack′ list′ : List ℕ) → Type 0
 OfferOutcome g table column at stack list = Offers (offeredTo g table column (clamped at (length stack) (length list)) stack list) stack list
+
+-- the paper's number and values for each reply of an offer, on a book's grammar and a table
+unfoldable pub answerOf : Grammar → List ℕ → Reply → Answer
+answerOf g table (Taken at) = done (at .listed + at .matched)
+answerOf g table (Stopped FullList at) = stop room (at .matched) listRoom (at .listed + at .matched) noSet
+answerOf g table (Stopped FullStack at) = stop room (at .matched) stackRoom (at .listed + at .matched) noSet
+answerOf g table (Stopped WantsEnd at) = stop syntax (at .matched) 0 (at .listed + at .matched) (expected g table wants-end)
+answerOf g table (Stopped (WantsToken t) at) = stop syntax (at .matched) 0 (at .listed + at .matched) (expected g table (wants-token t))
+answerOf g table (Stopped (WantsRow A) at) = stop syntax (at .matched) 0 (at .listed + at .matched) (expected g table (wants-row A))
