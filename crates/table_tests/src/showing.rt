@@ -1,5 +1,8 @@
 use book::Answer;
 use book::fields::byte_at;
+use book::fields::length_at;
+use book::fields::place_at;
+use book::judging::judge;
 use libc::STDOUT_FILENO;
 use sets::load;
 
@@ -38,6 +41,29 @@ fn show_lookaheads(book: &[u8], count: usize) {
         let found = table::lookahead(book, p as u64);
         let set = found.set;
         show_set(b"ahead", p, set.word);
+        p += 1;
+    }
+}
+
+// FIRST of the right side that takes `size` bytes from `from` on.
+fn show_first_of(book: &[u8], p: usize, from: usize, size: usize) {
+    if from <= book.len() {
+        if size <= book.len() - from {
+            let end = from + size;
+            let found = table::first_of(book, &book[from..end]);
+            let set = found.set;
+            show_set(b"begin", p, set.word);
+        }
+    }
+}
+
+fn show_beginnings(book: &[u8], count: usize) {
+    let reading = judge(book);
+    let places = reading.places;
+    let mut p: usize = 0;
+    while p < count {
+        let at = place_at(&places, p) as usize;
+        show_first_of(book, p, at + 4, length_at(book, at) as usize);
         p += 1;
     }
 }
@@ -87,13 +113,15 @@ pub fn show(book: &[u8]) {
     let mut cells = [0u8; 4032];
     let columns = byte_at(book, 0, 2) as usize + 1;
     let rows = byte_at(book, 0, 3) as usize;
-    let built = table::build(book, &mut first, &mut follow, &mut cells);
+    let count = byte_at(book, 0, 5) as usize;
     let worked = table::sets(book, &mut first, &mut follow);
+    let built = table::build(book, &mut first, &mut follow, &mut cells);
     show_answer(b"build", built);
     if worked.number == 0 {
         show_sets(b"first", &first, rows);
         show_sets(b"follow", &follow, rows);
-        show_lookaheads(book, byte_at(book, 0, 5) as usize);
+        show_lookaheads(book, count);
+        show_beginnings(book, count);
     }
     if built.number == 0 {
         show_rows(&cells, rows, columns);
