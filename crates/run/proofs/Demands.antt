@@ -26,9 +26,9 @@ use Rattle.run.proofs.ExpandDemands.{ends-moves, done-complete, done-ex
 use Rattle.run.proofs.Kept.{premises-exact, run-ends, run-begins, before-steps, expansion-begins, expansion-ends, expansion-before-steps}
 use Rattle.run.proofs.AnyTable.{ends-told, ends-steps, any-accepted}
 use Rattle.run.proofs.RunDemands.{accepted-derived, syntax-place, served-or-short, room-short, short-room-refused, runs-back, done-had-room}
-use Rattle.run.proofs.RunRoom.{StopsForRoom, room-place, decides-exactly}
-use Rattle.run.proofs.RoomNeeded.{RoomNeeded, room-needed}
-use Rattle.run.proofs.Walk.{final}
+use Rattle.run.specs.Stopping.{final, RoomNeeded, StopsForRoom}
+use Rattle.run.proofs.RunRoom.{room-place, decides-exactly}
+use Rattle.run.proofs.RoomNeeded.{room-needed}
 -- and each promise allows one outcome
 pub use Rattle.run.proofs.OutcomeUnique.{run-outcome-unique, beside-outcome-unique, expand-outcome-unique}
 

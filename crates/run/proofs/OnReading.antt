@@ -2,19 +2,18 @@
 -- table that fits and tokens of its own the judged run is the run.
 use mathlib.Core.Path.{_≡_, refl, sym, ap, _∙_, subst}
 use mathlib.Core.List.{List}
-use Prim.Native.Nat.{ℕ, _+_, _-_, _≤_, min}
+use Prim.Native.Nat.{ℕ, _+_, _-_}
 use native.Mathlib.Omega.{arith}
 use lib.ListN.{length, length-append, take}
 use lib.Seq.{length-take-le}
 use Rattle.grammar.specs.Grammar.{Grammar}
 use Rattle.book.specs.declared.Answer.{Answer}
-use Rattle.book.specs.Answers.{done, stop}
 use Rattle.book.specs.Judging.{Serves, indexOf}
 use Rattle.table.specs.Table.{columnOf, cellOf}
 use Rattle.run.specs.Beside.{Shown}
 use Rattle.run.specs.Index.{grammarIn}
 use Rattle.run.specs.Judged.{JudgedRun, no-stack, ended}
-use Rattle.run.specs.Machine.{State, full-list, full-stack, wants-end, wants-token, wants-row, Offered, taken, stopped}
+use Rattle.run.specs.Machine.{full-list, full-stack, wants-end, wants-token, wants-row, Offered, taken, stopped}
 use Rattle.run.specs.Offering.{causeOf, progressOf, reported}
 use Rattle.run.specs.Resuming.{clamped, standing, offeredTo, OfferOutcome, answerOf}
 use Rattle.run.specs.Room.{rightOf}

@@ -1,18 +1,19 @@
 -- How the run of a derivable string ends: taken, if list and stack have room for its derivation, else at the first production that has none.
 use mathlib.Core.Path.{_≡_, refl, sym, _∙_, ap, subst}
 use mathlib.Core.Logic.{_⊎_, inl, inr, ⊎-elim}
-use mathlib.Core.List.{List, [], _∷_, _++_, append-nil}
+use mathlib.Core.List.{List, _∷_, _++_, append-nil}
 use mathlib.Core.Option.{Option, some}
 use Prim.Native.Nat.{ℕ, _+_, _≤_, _<_, max}
 use native.Mathlib.Omega.{arith}
 use lib.ListN.{length, take, length-append}
 use lib.Seq.{take-append-seam}
 use Rattle.grammar.specs.declared.Symbol.the-variants.{Nonterminal}
-use Rattle.grammar.specs.Grammar.{Form, spelled, Grammar, Column, itself, LeftmostSteps, Complete}
+use Rattle.grammar.specs.Grammar.{Form, Grammar, Column, itself, Complete}
 use Rattle.grammar.specs.Machine.{front, Exact}
 use Rattle.grammar.proofs.Leftmost.{leftmost-derives}
 use Rattle.run.specs.Machine.{State, Reason, full-list, full-stack, Offered, taken, stopped, begun, runFrom}
 use Rattle.run.specs.Room.{rightOf, peak}
+use Rattle.run.specs.Stopping.{Before}
 use Rattle.run.proofs.Walk.{Short, short-list, short-stack, wanted-end, wanted-token, wanted-row, Walk, Halt, accepts, left-over, unmatched, vacant, list-full, stack-full, Ran}
 use Rattle.run.proofs.Count.{Counted, begun-counted, walk-counted}
 use Rattle.run.proofs.Relation.{exact-rows, walk-reached, reached-form}
@@ -30,14 +31,6 @@ whole {ps = ps} {w = w} d =
       moves = length ps + length w;
       height = peak d;
     }
-
--- a state of the derivation ps of w right before its production p: those before p are listed, and they give the matched tokens with the stack behind them
-pub record Before (g : Grammar) (ps w : List ℕ) (p : ℕ) (below : Form) (s : State) : Type 0 where
-  pub later : List ℕ
-  pub lists : ps ≡ s .listed ++ (p ∷ later)
-  pub row : ℕ
-  pub on-top : s .stack ≡ Nonterminal row ∷ below
-  pub form : LeftmostSteps g (Nonterminal (g .start) ∷ []) (s .listed) (spelled (take (s .matched) w) ++ s .stack)
 
 -- what becomes of the derivation: there is room for all of it, or a production finds the list full, or its right side the stack
 pub data Outcome {g : Grammar} (room cells : ℕ) {ps w : List ℕ} (d : Complete g ps w) : Offered → Type 0 where

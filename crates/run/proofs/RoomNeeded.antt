@@ -1,6 +1,6 @@
 -- The room that a string needs, derivable or not: what the machine lists on it, and how high its stack gets, when nothing is too short.
 use mathlib.Core.Path.{_≡_, sym, _∙_, ap, subst}
-use mathlib.Core.List.{List, [], _∷_}
+use mathlib.Core.List.{List, _∷_}
 use mathlib.Core.Option.{Option}
 use Prim.Native.Nat.{ℕ, _+_, _≤_}
 use native.Mathlib.Omega.{arith}
@@ -9,6 +9,7 @@ use Rattle.grammar.specs.Grammar.{Form, Grammar, Column}
 use Rattle.grammar.specs.Machine.{Exact}
 use Rattle.run.specs.Machine.{State, Offered, begun, popped, replaced, runFrom}
 use Rattle.run.specs.Room.{rightOf}
+use Rattle.run.specs.Stopping.{RoomNeeded}
 use Rattle.run.proofs.Walk.{Decided, refused, final, Walk, here, match, expand, Halt, accepts, left-over, unmatched, vacant, list-full, stack-full, Ran}
 use Rattle.run.proofs.Agreement.{walk-runs, ran}
 use Rattle.run.proofs.Count.{Counted, walk-grown, halt-final}
@@ -54,14 +55,6 @@ unfolding begun
 run-tall right cell room cells start w =
     let r : Ran right cell room cells w (begun start) (runFrom right cell room cells w (begun start)) = ran right cell room cells w (begun start) (omega arith) in
     omega (arith, walk-higher (r .walk), ap (λ (s : State). s .height) (halt-final (r .halt)))
-
--- the string is decided exactly with so much room, and always alike
-pub record RoomNeeded (g : Grammar) (cell : ℕ → Column → Option ℕ) (w : List ℕ) : Type 0 where
-  pub outcome : Offered
-  pub decided : Decided outcome
-  pub tall : 1 ≤ final outcome .height
-  pub reached : (room cells : ℕ) → final outcome .height ≤ room → length (final outcome .listed) ≤ cells → runOf g cell room cells w ≡ outcome
-  pub needed : (room cells : ℕ) → 1 ≤ room → Decided (runOf g cell room cells w) → (final outcome .height ≤ room) × (length (final outcome .listed) ≤ cells)
 
 -- every string has such an end
 pub room-needed : {g : Grammar} {cell : ℕ → Column → Option ℕ} → Exact g cell → (w : List ℕ) → RoomNeeded g cell w

@@ -1,11 +1,11 @@
 -- Where the run of a derivable string that has no room stops; and every string is decided exactly with the room that it needs.
 use mathlib.Core.Path.{_≡_, refl, sym, ap, _∙_, subst}
 use mathlib.Core.Logic.{_↔_, _⊎_, inl, inr, ⊎-elim}
-use mathlib.Core.List.{List, _++_}
-use Prim.Native.Nat.{ℕ, _+_, _≤_, _<_}
+use mathlib.Core.List.{List}
+use Prim.Native.Nat.{ℕ, _≤_}
 use native.Mathlib.Omega.{arith}
 use lib.ListN.{length}
-use Rattle.grammar.specs.Grammar.{Form, Grammar, Complete}
+use Rattle.grammar.specs.Grammar.{Grammar, Complete}
 use Rattle.sets.specs.declared.Set.{Set}
 use Rattle.book.specs.declared.Answer.{Answer}
 use Rattle.book.specs.Answers.{done, refusal, stop, noSet}
@@ -13,23 +13,17 @@ use Rattle.book.specs.Refusals.{room, syntax, stackRoom, listRoom}
 use Rattle.table.specs.Calls.{over}
 use Rattle.table.specs.Table.{cellOf}
 use Rattle.run.specs.Demands.{Ran, Premises}
-use Rattle.run.specs.Machine.{State, Reason, Offered}
+use Rattle.run.specs.Machine.{Reason, Offered}
 use Rattle.run.specs.Room.{rightOf}
+use Rattle.run.specs.Stopping.{RoomNeeded, StopsForRoom, no-stack, no-list-cell, no-stack-cells}
 use Rattle.run.specs.Running.{counted, cleared, ran, answered, expected, listedBy}
 use Rattle.run.proofs.Walk.{final, Decided, accepted, refused}
 use Rattle.run.proofs.Count.{Counted}
-use Rattle.run.proofs.RoomNeeded.{RoomNeeded}
-use Rattle.run.proofs.Outcome.{Before, Outcome, enough, list-short, stack-short}
+use Rattle.run.proofs.Outcome.{Outcome, enough, list-short, stack-short}
 use Rattle.run.proofs.Answered.{Told, served, short-of-list, short-of-stack, blocked}
 use Rattle.run.proofs.Kept.{premises-exact, RunBegins, stackless, begins}
 use Rattle.run.proofs.AnyTable.{ends-told}
 use Rattle.run.proofs.RunTheorems.{run-steps, run-room}
-
--- what a run leaves that stops for room: no stack cell; or right before the first production of the derivation for which the list is full, or whose right side does not fit the stack
-pub data StopsForRoom (g : Grammar) {ps w : List ℕ} (d : Complete g ps w) (stack list : List ℕ) : Answer → List ℕ → List ℕ → Type 0 where
-  no-stack : length stack ≡ 0 → StopsForRoom g d stack list (refusal room 0 stackRoom) stack list
-  no-list-cell : {p : ℕ} {below : Form} {s : State} → Before g ps w p below s → length (s .listed) ≡ counted list → s .height ≤ counted stack → StopsForRoom g d stack list (stop room (s .matched) listRoom (length (s .listed) + s .matched) noSet) (cleared stack) (over (s .listed) list)
-  no-stack-cells : {p : ℕ} {below : Form} {s : State} → Before g ps w p below s → length (s .listed) < counted list → s .height ≤ counted stack → counted stack < length (rightOf g p ++ below) → StopsForRoom g d stack list (stop room (s .matched) stackRoom (length (s .listed) + s .matched) noSet) (cleared stack) (over (s .listed) list)
 
 module _ {g : Grammar} {ps w : List ℕ} {d : Complete g ps w} {stack list : List ℕ} where
   stops-as : {a b : Answer} {s t l m : List ℕ} → a ≡ b → s ≡ t → l ≡ m → StopsForRoom g d stack list b t m → StopsForRoom g d stack list a s l

@@ -10,7 +10,7 @@ use Rattle.grammar.specs.Grammar.{Form, Grammar, Column, Derivable, Leftmost, C
 use Rattle.grammar.specs.Machine.{Exact, Longest}
 use Rattle.grammar.proofs.Theorems.{leftmost-unique, exact-no-conflict, halts}
 use Rattle.run.specs.Machine.{State, Reason, Offered, taken, stopped, begun, runFrom}
-use Rattle.run.specs.Room.{rightOf, peak}
+use Rattle.run.specs.Room.{peak}
 use Rattle.run.proofs.Walk.{Syntax, Short, final}
 use Rattle.run.proofs.Count.{Counted, counted-stack, begun-counted, run-counted, run-grown}
 use Rattle.run.proofs.Relation.{Rows, Reached, run-reached}
@@ -19,6 +19,7 @@ use Rattle.run.proofs.Peak.{peak-from}
 use Rattle.run.proofs.Outcome.{whole, Outcome, run-outcome, enough-taken, taken-enough, short-stopped, stopped-short}
 use Rattle.run.proofs.Enough.{RoomEnough, halted-decides}
 -- the equations of an offer and of a run, case by case
+pub use Rattle.run.specs.Stopping.{runOf}
 pub use Rattle.run.proofs.Offer.{offer-match, offer-use, offer-halt, run-taken, run-stopped, run-match, run-use, run-halt}
 -- an offer, and a run from any state, keep the counts right and grow the list at its end
 pub use Rattle.run.proofs.Count.{offer-counted, offer-grown, run-counted, run-grown}
@@ -48,10 +49,6 @@ module _ (right : ℕ → Form) (cell : ℕ → Column → Option ℕ) (room cel
 -- two derivations of one list reach one height
 pub peak-same : {g : Grammar} {α : Form} {ps w : List ℕ} (d e : Leftmost g α ps w) → peak d ≡ peak e
 peak-same d e = peak-from d e refl refl
-
--- the run of a grammar's machine from its start
-abbrev pub runOf : Grammar → (ℕ → Column → Option ℕ) → ℕ → ℕ → List ℕ → Offered
-runOf g cell room cells w = runFrom (rightOf g) cell room cells w (begun (g .start))
 
 module _ {g : Grammar} {cell : ℕ → Column → Option ℕ} (rows : Rows g cell) (room cells : ℕ) where
   -- a table that passes refusal 9: the machine makes the moves of the textbook's

@@ -1,35 +1,17 @@
 -- The machine with its room as a relation: the moves that it makes, and why it ends where it makes none.
 use mathlib.Core.Path.{_≡_}
 use mathlib.Core.Logic.{_≢_}
-use mathlib.Core.List.{List, [], _∷_, _++_}
+use mathlib.Core.List.{List, _∷_, _++_}
 use mathlib.Core.Option.{Option, some, none}
 use Prim.Native.Nat.{ℕ, _≤_, _<_}
 use lib.ListN.{length}
 use Rattle.grammar.specs.declared.Symbol.the-variants.{Token, Nonterminal}
 use Rattle.grammar.specs.Grammar.{Form, Column, token, endmark}
 use Rattle.grammar.specs.Machine.{front}
-use Rattle.run.specs.Machine.{State, Reason, full-list, full-stack, wants-end, wants-token, wants-row, Offered, taken, stopped, popped, replaced}
-
--- the reasons of a syntax stop
-pub data Syntax : Reason → Type 0 where
-  wanted-end : Syntax wants-end
-  wanted-token : {t : ℕ} → Syntax (wants-token t)
-  wanted-row : {A : ℕ} → Syntax (wants-row A)
-
--- the reasons of a stop for room
-pub data Short : Reason → Type 0 where
-  short-list : Short full-list
-  short-stack : Short full-stack
-
--- the string is decided: taken, or a syntax stop
-pub data Decided : Offered → Type 0 where
-  accepted : {s : State} → Decided (taken s)
-  refused : {r : Reason} {s : State} → Syntax r → Decided (stopped r s)
-
--- the state in which an outcome leaves the machine
-unfoldable pub final : Offered → State
-final (taken s) = s
-final (stopped r s) = s
+use Rattle.run.specs.Machine.{State, full-list, full-stack, wants-end, wants-token, wants-row, Offered, taken, stopped, popped, replaced}
+-- why it ends, and in which state
+pub use Rattle.run.specs.Stopping.{Syntax, wanted-end, wanted-token, wanted-row, Short, short-list, short-stack, Decided, accepted, refused}
+unfoldable pub use Rattle.run.specs.Stopping.{final}
 
 module _ (right : ℕ → Form) (cell : ℕ → Column → Option ℕ) (room cells : ℕ) where
   -- Walk z e w s: from the state s with w unread the machine comes to the state e with z unread

@@ -16,4 +16,5 @@ pub mod Resuming
 pub mod Room
 pub mod Running
 pub mod Stack
+pub mod Stopping
 pub mod Turns
