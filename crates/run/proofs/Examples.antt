@@ -1,5 +1,5 @@
 -- The starred examples: the definitions give each row's answer and buffers.
-use mathlib.Core.List.{_∷_}
+use mathlib.Core.List.{[], _∷_}
 use native.Mathlib.Omega.{arith}
 use lib.Dec.{ltb, ltb→lt}
 use lib.ListN.{getD}

@@ -1,7 +1,7 @@
 -- The machine with its room as a relation: the moves that it makes, and why it ends where it makes none.
 use mathlib.Core.Path.{_≡_}
 use mathlib.Core.Logic.{_≢_}
-use mathlib.Core.List.{List, _∷_, _++_}
+use mathlib.Core.List.{List, [], _∷_, _++_}
 use mathlib.Core.Option.{Option, some, none}
 use Prim.Native.Nat.{ℕ, _≤_, _<_}
 use lib.ListN.{length}

@@ -1,7 +1,7 @@
 -- How a run ends: taken, a syntax stop, or a stop for want of room, where a derivation then stands, and what room a string needs.
 -- Document 01, "Running and expanding"; demand 3's sentence on room.
 use mathlib.Core.Path.{_≡_}
-use mathlib.Core.List.{List, _∷_, _++_}
+use mathlib.Core.List.{List, [], _∷_, _++_}
 use mathlib.Core.Option.{Option}
 use Prim.Native.Nat.{ℕ, _+_, _≤_, _<_}
 use lib.ListN.{length, take}
