@@ -1,55 +1,17 @@
 use crate::showing::show;
 use crate::showing::show_changed;
 use crate::showing::show_first;
+use crate::showing::show_productions;
 
 // House book H.
 fn house() -> [u8; 39] {
-    [
-        71,
-        82,
-        4,
-        4,
-        0,
-        6,
-        80,
-        82,
-        0,
-        2,
-        0,
-        129,
-        80,
-        82,
-        1,
-        3,
-        1,
-        130,
-        131,
-        80,
-        82,
-        2,
-        2,
-        2,
-        1,
-        80,
-        82,
-        2,
-        0,
-        80,
-        82,
-        3,
-        2,
-        3,
-        129,
-        80,
-        82,
-        3,
-        0,
-    ]
+    *b"GR\x04\x04\x00\x06PR\x00\x02\x00\x81PR\x01\x03\x01\x82\x83PR\x02\x02\x02\x01PR\x02\x00PR\x03\x02\x03\x81PR\x03\x00"
 }
 
 pub fn whole() {
     let book = house();
     show(b"house", &book);
+    show_productions(&book);
     show_first(b"no-bytes", &book, 0);
     show_first(b"first-byte-only", &book, 1);
     show_first(b"header-only", &book, 6);

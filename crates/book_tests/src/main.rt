@@ -1,4 +1,4 @@
-// Judges books at the edges of document 01 and prints each one's name, number and place.
+// Judges books at the edges of document 01 and prints each one's name, answer and numbers, and H's productions.
 mod built;
 mod house;
 mod showing;

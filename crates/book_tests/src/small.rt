@@ -17,34 +17,7 @@ pub fn useless() {
     show(b"start-derives-itself", &itself);
     let dead_start = [71u8, 82, 1, 2, 1, 2, 80, 82, 0, 0, 80, 82, 1, 1, 129];
     show(b"start-1-derives-itself", &dead_start);
-    let example_i = [
-        71u8,
-        82,
-        2,
-        3,
-        0,
-        4,
-        80,
-        82,
-        0,
-        1,
-        0,
-        80,
-        82,
-        0,
-        2,
-        129,
-        130,
-        80,
-        82,
-        1,
-        1,
-        1,
-        80,
-        82,
-        2,
-        1,
-        130,
-    ];
-    show(b"example-i", &example_i);
+    let example_i =
+        b"GR\x02\x03\x00\x04PR\x00\x01\x00PR\x00\x02\x81\x82PR\x01\x01\x01PR\x02\x01\x82";
+    show(b"example-i", example_i);
 }
