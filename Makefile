@@ -1,13 +1,29 @@
 # make test               the whole gate
 # make list BOOK=FILE     lists a book
+# make restore            the example program in C, target/c/restore
+# make bench              the benchmark
+# make stack              the machine stack that each C function uses
 SHELL := /bin/bash
 .SHELLFLAGS := -eu -o pipefail -c
-.PHONY: test list
+.PHONY: test list compiler
+
+CC ?= cc
+LIB := target/libdesk.a
 
 # Its last line is the last line of rt ci, printed once everything has passed.
-test:
+test: compiler
 	@rt fmt --check
-	@log=$$(mktemp); trap 'rm -f "$$log"' EXIT; rt ci | tee "$$log"; tail -n 1 "$$log"
+	@log=$$(mktemp); trap 'rm -f "$$log"' EXIT; rt ci | tee "$$log"; $(MAKE) --no-print-directory c-test; tail -n 1 "$$log"
 
 list:
-	@echo "make list: the lister is not built yet" >&2; exit 1
+	@[ -n "$(BOOK)" ] || { echo "usage: make list BOOK=FILE" >&2; exit 2; }
+	@tools/program lister < "$(BOOK)"
+
+compiler:
+	@command -v $(CC) > /dev/null || { echo "make: no C compiler $(CC): the tests at the C boundary need one" >&2; exit 1; }
+
+# Made anew whenever a file of a crate is newer; what is proved is not proved again.
+$(LIB): tools/library crates.txt $(shell find crates -name '*.rt' -o -name '*.antt')
+	@tools/library $@
+
+include tests/c/c.mk

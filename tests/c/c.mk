@@ -1,13 +1,12 @@
 # The C side, all built into target/c: tests at the boundary, the example program, benchmark and stack measurement.
-# LIB is the library and CC the compiler; C_LINK takes further flags for linking.
+# LIB is the library and CC the compiler.
 
-LIB ?= target/libdesk.a
 BISON ?= $(shell command -v bison)
 C_OUT := target/c
 C_FLAGS := -std=c11 -O2 -Wall -Wextra -Wpedantic -Iinclude -Itests/c -Ibench
 C_PLAIN := tests/c/plain.c tests/c/plain.h
 C_LENT := tests/c/lent.c tests/c/lent.h
-C_COMPILE = $(CC) $(C_FLAGS) $(1) -o $@ $(filter %.c,$^) $(LIB) $(C_LINK)
+C_COMPILE = $(CC) $(C_FLAGS) $(1) -o $@ $(filter %.c,$^) $(LIB)
 
 ifneq ($(BISON),)
 C_PARSERS := $(C_OUT)/house.tab.c $(C_OUT)/json.tab.c

@@ -19,10 +19,10 @@ use Rattle.book.specs.Judging.{refusing, indexOf, Refuses, misread, usel
 use Rattle.book.proofs.Index.{record-indexed, symbol-indexed, place-fits, placesIn-length}
 use Rattle.book.proofs.Longest.{judged-by-first}
 use Rattle.book.proofs.Order.{Fault, bad-mark, extra-byte, over-limit, not-a-symbol}
-use Rattle.book.proofs.Place.{refused-kinds}
 pub use Rattle.book.proofs.Bytes.{symbolOf-known}
 pub use Rattle.book.proofs.Written.{read-limits}
 pub use Rattle.book.proofs.Examples.{house-reads, house-serves, useless-refused}
+pub use Rattle.book.proofs.Place.{Refusal, refused-kinds}
 pub use Rattle.book.proofs.Rules.{rule-below, below-rule}
 pub use Rattle.book.proofs.Unique.{refuses-unique, refuses-not-serves, serves-unique, judged-unique}
 

@@ -19,6 +19,7 @@ pub mod ExpandPlace
 pub mod ExpandWhole
 pub mod ExpandTheorems
 pub mod OutcomeUnique
+pub mod Promise
 pub mod Answered
 pub mod Kept
 pub mod AnyTable

@@ -1,0 +1,178 @@
+-- Every answer fits its four words, wherever the book and the table are shorter than 2 ^ 64.
+use mathlib.Core.Path.{ap}
+use mathlib.Core.List.{List, [], _∷_}
+use mathlib.Core.Option.{Option, some, none}
+use Prim.Native.Nat.{ℕ, zero, suc, _+_, _*_, _^_, _≤_, _<_}
+use native.Mathlib.Nat.{mul-le-mul}
+use native.Mathlib.Decide.{decLt}
+use native.Mathlib.Omega.{arith}
+use borrow.Author.Tests.{lt-ltb, le-ltb}
+use lib.ListN.{length, getD}
+use Rattle.grammar.specs.declared.Symbol.the-variants.{Nonterminal}
+use Rattle.grammar.specs.Grammar.{Grammar}
+use Rattle.sets.specs.Calls as sets
+use Rattle.sets.specs.Sets.{width, endMark, columnPlace}
+use Rattle.sets.proofs.Promise.{added-fits}
+use Rattle.sets.specs.declared.Set.{Set}
+use Rattle.book.specs.declared.Answer.{Answer}
+use Rattle.book.specs.declared.Reading.{Reading}
+use Rattle.book.specs.Answers.{done, refusal, stop}
+use Rattle.book.specs.Book.{Limits}
+use Rattle.book.specs.Judging.{Refuses, misread, useless-one, refusing, indexOf, Judged, refuses, serves}
+use Rattle.book.proofs.Promise.{refused-kinds, read-limits, serves-limits}
+use Rattle.table.specs.declared.SetAnswer.{SetAnswer}
+use Rattle.table.specs.Calls.{SetsRoom, no-first, no-follow, SetsOutcome, BuildOutcome, LookaheadOutcome, FirstOutcome}
+use Rattle.table.specs.Calls as calls
+use Rattle.table.specs.Table.{size, held, cellOf}
+use Rattle.table.proofs.Promise.{rule-inside}
+use Rattle.run.specs.Machine.{Reason, full-list, full-stack, wants-end, wants-token, wants-row, Offered}
+use Rattle.run.specs.Expanding.{ExpandOutcome, expansion}
+use Rattle.run.specs.Expanding as expanding
+use Rattle.run.specs.Expansion.{Progress, Ending}
+use Rattle.run.specs.Room.{rightOf, isOf}
+use Rattle.run.specs.Running.{counted, Misfit, length-given, cell, Barred, bad-table, too-long, strange, no-stack, RunOutcome, marking, filledBelow, expected, ran, answered, listedBy, matchedBy}
+use Rattle.run.specs.Running as running
+use Rattle.run.specs.Stopping.{final}
+use Rattle.run.proofs.Promise.{Counted, run-steps, run-inside, expand-steps, Told, told, served, short-of-list, short-of-stack, blocked, told-steps, listed-final, matched-final, ToldBy, told-by, finished, misfitting, out-of-stack, out-of-output}
+use Rattle.desk.proofs.ReadBack.{FitsWords}
+
+done-fits : (n : ℕ) → n < 2 ^ 64 → FitsWords (done n)
+unfolding done
+done-fits n h = record { place = omega arith; detail = omega arith; steps = h; expected = omega arith }
+
+refusal-fits : (number : ℕ) {place detail : ℕ} → place < 2 ^ 64 → detail < 2 ^ 64 → FitsWords (refusal number place detail)
+unfolding refusal
+refusal-fits number h k = record { place = h; detail = k; steps = omega arith; expected = omega arith }
+
+-- no table has more than 64 × 63 cells
+size-bounded : {g : Grammar} → Limits g → size g ≤ 4032
+size-bounded {g} l =
+    let columns : g .tokens + 1 ≤ 63 = omega (arith, l .tokens-fit) in
+    mul-le-mul (l .nonterminals-fit) columns
+
+pub refused-fits : {book : List ℕ} {a : Answer} → length book < 2 ^ 64 → Refuses book a → FitsWords a
+refused-fits {book} short (misread {number = n} e) = refusal-fits n (omega (arith, refused-kinds book e .within)) (omega arith)
+refused-fits {book} short (useless-one e h) = refusal-fits 6 (omega (arith, h .inside, read-limits book e .nonterminals-fit)) (omega arith)
+
+misfit-bounded : {g : Grammar} {table : List ℕ} {k : ℕ} → Limits g → Misfit g table k → length table < 2 ^ 64 → k < 2 ^ 64
+misfit-bounded l (length-given n) h = h
+misfit-bounded l (cell e i n earlier) h = omega (arith, size-bounded l)
+
+barred-fits : {g : Grammar} {table tokens stack : List ℕ} {a : Answer} → Limits g → length table < 2 ^ 64 → Barred g table tokens stack a → FitsWords a
+barred-fits l h (bad-table m) = refusal-fits 9 (misfit-bounded l m h) (omega arith)
+barred-fits l h (too-long f k) = refusal-fits 4 (omega arith) (omega arith)
+barred-fits l h (strange f k s) = refusal-fits 10 (omega (arith, s .inside)) (omega arith)
+barred-fits l h (no-stack f k m e) = refusal-fits 7 (omega arith) (omega arith)
+
+-- a set that is marked stays within its width
+marking-fits : (k x : ℕ) → x < 2 ^ width → marking k x < 2 ^ width
+unfolding marking
+marking-fits k x h = go (decLt k width)
+  where
+    go : Dec (k < width) → marking k x < 2 ^ width
+    go (yes l) = rw (lt-ltb k width l, marking) (added-fits width k x l h)
+    go (no n) = let past : width ≤ k = omega arith in rw (le-ltb k width past, marking) h
+
+filled-fits : (g : Grammar) (table : List ℕ) (A j : ℕ) → filledBelow g table A j < 2 ^ width
+unfolding filledBelow
+filled-fits g table A zero = omega arith
+filled-fits g table A (suc j) = go (held (getD table (A * (g .tokens + 1) + j) 255)) (filled-fits g table A j)
+  where
+    go : (o : Option ℕ) → filledBelow g table A j < 2 ^ width → elim o [ none ↦ filledBelow g table A j | some p ↦ marking (columnPlace j (g .tokens)) (filledBelow g table A j) ] < 2 ^ width
+    go none h = h
+    go (some p) h = marking-fits (columnPlace j (g .tokens)) (filledBelow g table A j) h
+
+expected-fits : (g : Grammar) (table : List ℕ) (r : Reason) → sets.number (expected g table r) < 2 ^ 64
+unfolding expected
+expected-fits g table full-list = omega arith
+expected-fits g table full-stack = omega arith
+expected-fits g table wants-end = marking-fits endMark 0 (omega arith)
+expected-fits g table (wants-token t) = marking-fits t 0 (omega arith)
+expected-fits g table (wants-row A) = filled-fits g table A (g .tokens + 1)
+
+told-fits : {e : Reason → Set} {o : Offered} {a : Answer} → Told e o a → ((r : Reason) → sets.number (e r) < 2 ^ 64) → matchedBy o < 2 ^ 64 → a .steps < 2 ^ 64 → FitsWords a
+unfolding matchedBy done stop
+told-fits (served s) sets-fit h k = done-fits (s .moves) k
+told-fits (short-of-list s) sets-fit h k = record { place = h; detail = omega arith; steps = k; expected = omega arith }
+told-fits (short-of-stack s) sets-fit h k = record { place = h; detail = omega arith; steps = k; expected = omega arith }
+told-fits (blocked {r = r} s b) sets-fit h k = record { place = h; detail = omega arith; steps = k; expected = sets-fit r }
+
+module _ (g : Grammar) (table tokens stack list : List ℕ) where
+  ran-counted : Counted (counted stack) (counted list) (final (ran g table tokens stack list))
+  unfolding ran
+  ran-counted = run-steps (rightOf g) (cellOf g table) (counted stack) (counted list) (g .start) tokens
+
+  ran-inside : matchedBy (ran g table tokens stack list) ≤ length tokens
+  unfolding ran
+  ran-inside = omega (arith, matched-final (ran g table tokens stack list), run-inside (rightOf g) (cellOf g table) (counted stack) (counted list) (g .start) tokens)
+
+  -- a run lists at most 65,535 productions and matches no more tokens than there are
+  pub ran-bounded : (length (listedBy (ran g table tokens stack list)) ≤ 65535) × (matchedBy (ran g table tokens stack list) ≤ length tokens)
+  ran-bounded = (omega (arith, ap length (listed-final (ran g table tokens stack list)), ran-counted .list-fits), ran-inside)
+
+  ran-fits : length tokens ≤ 4096 → FitsWords (answered (expected g table) (ran g table tokens stack list))
+  ran-fits short =
+      let o : Offered = ran g table tokens stack list in
+      let answer : Told (expected g table) o (answered (expected g table) o) = told (expected g table) o in
+      told-fits answer (expected-fits g table) (omega (arith, ran-inside)) (omega (arith, told-steps answer, ran-counted .steps, ran-counted .list-fits, matched-final o, ran-inside))
+
+-- the answer of a run
+pub run-fits : {book table tokens stack list : List ℕ} {a : Answer} {stack′ list′ : List ℕ} → length book < 2 ^ 64 → length table < 2 ^ 64 → RunOutcome book table tokens stack list a stack′ list′ → FitsWords a
+run-fits b t (running.refused r) = refused-fits b r
+run-fits b t (running.barred s r) = barred-fits (serves-limits s) t r
+run-fits {table = table} {tokens} {stack} {list} b t (running.ended {g = g} s a) = ran-fits g table tokens stack list (a .short)
+
+told-by-fits : {s : Progress} {e : Ending} {a : Answer} → ToldBy s e a → s .used < 2 ^ 64 → s .moves < 2 ^ 64 → FitsWords a
+unfolding stop
+told-by-fits {s} finished h k = done-fits (s .moves) k
+told-by-fits misfitting h k = record { place = h; detail = omega arith; steps = k; expected = omega arith }
+told-by-fits out-of-stack h k = record { place = h; detail = omega arith; steps = k; expected = omega arith }
+told-by-fits out-of-output h k = record { place = h; detail = omega arith; steps = k; expected = omega arith }
+
+-- of an expansion
+pub expand-fits : {book list stack output : List ℕ} {a : Answer} {stack′ output′ : List ℕ} → length book < 2 ^ 64 → ExpandOutcome book list stack output a stack′ output′ → FitsWords a
+expand-fits b (expanding.refused r) = refused-fits b r
+expand-fits b (expanding.too-long s h) = refusal-fits 4 (omega arith) (omega arith)
+expand-fits b (expanding.no-stack s h e) = refusal-fits 7 (omega arith) (omega arith)
+expand-fits {list = list} {stack} {output} b (expanding.ended {g = g} s h k) =
+    let counts = expand-steps (isOf g) (rightOf g) (counted stack) (counted output) list (Nonterminal (g .start) ∷ []) in
+    told-by-fits (told-by (expansion g (counted stack) (counted output) list)) (omega (arith, counts .used)) (omega (arith, counts .used, counts .written, counts .moves))
+
+room-fits : {g : Grammar} {first follow : List ℕ} {a : Answer} → Limits g → SetsRoom g first follow a → FitsWords a
+room-fits l (no-first h) = refusal-fits 7 (omega (arith, l .nonterminals-fit)) (omega arith)
+room-fits l (no-follow h k) = refusal-fits 7 (omega (arith, l .nonterminals-fit)) (omega arith)
+
+-- of judging
+pub judge-fits : {book : List ℕ} {r : Reading} → length book < 2 ^ 64 → Judged book r → FitsWords (r .answer)
+unfolding refusing indexOf
+judge-fits b (refuses r) = refused-fits b r
+judge-fits b (serves s) = done-fits 0 (omega arith)
+
+-- of the sets
+pub sets-fits : {book first follow : List ℕ} {a : Answer} {first′ follow′ : List ℕ} → length book < 2 ^ 64 → SetsOutcome book first follow a first′ follow′ → FitsWords a
+sets-fits b (calls.refused r) = refused-fits b r
+sets-fits b (calls.no-room s r) = room-fits (serves-limits s) r
+sets-fits b (calls.served s f x y) = done-fits 0 (omega arith)
+
+-- of building
+pub build-fits : {book first follow table : List ℕ} {a : Answer} {first′ follow′ table′ : List ℕ} → length book < 2 ^ 64 → BuildOutcome book first follow table a first′ follow′ table′ → FitsWords a
+build-fits b (calls.refused r) = refused-fits b r
+build-fits b (calls.no-room s r) = room-fits (serves-limits s) r
+build-fits b (calls.no-table s f h) = refusal-fits 7 (omega (arith, size-bounded (serves-limits s))) (omega arith)
+build-fits b (calls.conflict s f h c) =
+    let limits = serves-limits s in
+    refusal-fits 8 (omega (arith, c .inside, size-bounded limits)) (omega (arith, rule-inside (c .lowest .rule), rule-inside (c .next .rule), limits .productions-fit))
+build-fits b (calls.served s f h x y t) = done-fits 0 (omega arith)
+
+-- of a lookahead
+pub lookahead-fits : {book : List ℕ} {production : ℕ} {r : SetAnswer} → length book < 2 ^ 64 → production < 2 ^ 64 → LookaheadOutcome book production r → FitsWords (r .answer)
+lookahead-fits b p (calls.refused r k) = rw (k .answer) (refused-fits b r)
+lookahead-fits b p (calls.no-production s h k) = rw (k .answer) (refusal-fits 12 p (omega arith))
+lookahead-fits b p (calls.served s rule is) = rw (is .answer) (done-fits 0 (omega arith))
+
+-- and of FIRST of a symbol string
+pub first-fits : {book symbols : List ℕ} {r : SetAnswer} → length book < 2 ^ 64 → FirstOutcome book symbols r → FitsWords (r .answer)
+first-fits b (calls.refused r k) = rw (k .answer) (refused-fits b r)
+first-fits b (calls.too-long s h k) = rw (k .answer) (refusal-fits 4 (omega arith) (omega arith))
+first-fits b (calls.strange s h f k) = rw (k .answer) (refusal-fits 5 (omega (arith, f .inside)) (omega arith))
+first-fits b (calls.served s h e is) = rw (is .answer) (done-fits 0 (omega arith))

@@ -1,0 +1,8 @@
+pub mod LittleEndian
+pub mod AnswerBytes
+pub mod Calls
+pub mod ReadBack
+pub mod Fitting
+pub mod Through
+pub mod Theorems
+pub mod Examples

@@ -1,0 +1,45 @@
+-- The answer of building is written, or the answer buffer is too short.
+use native.Mathlib.Omega.{arith}
+use borrow.Author.Needs.{needs}
+use Rattle.desk.specs.Desk.{short}
+use Rattle.desk.proofs.AnswerBytes.{answerSize-is}
+use Rattle.desk.proofs.Calls.{answered-call}
+use Rattle.desk.proofs.desk_build.Statement.{statement}
+use Rattle.desk.proofs.desk_build.Tie as tie
+
+returns : tie.Need-returns
+returns c = record { call = short (λ lent. omega (arith, answerSize-is)) }
+
+build-requires : tie.Need-build-requires
+build-requires c κs = search needs
+
+write-answer-requires : tie.Need-write-answer-requires
+write-answer-requires c κs = omega (arith, answerSize-is)
+
+same-length : tie.Need-same-length
+same-length c = search needs
+
+same-length-2 : tie.Need-same-length-2
+same-length-2 c = search needs
+
+same-length-3 : tie.Need-same-length-3
+same-length-3 c = search needs
+
+same-length-4 : tie.Need-same-length-4
+same-length-4 c = search needs
+
+returns-2 : tie.Need-returns-2
+returns-2 c = record { call = answered-call (c .before .before .before .before .before .before .before .before .before .before .build .result) (omega (arith, answerSize-is)) (c .before .before .before .before .before .before .before .before .before .before .build .ensures) (c .before .before .write-answer .ensures) }
+
+pub desk-build-spec : {M : Type 1} → statement M
+desk-build-spec =
+    tie.close
+    (tie.spec
+    returns
+    build-requires
+    write-answer-requires
+    same-length
+    same-length-2
+    same-length-3
+    same-length-4
+    returns-2)

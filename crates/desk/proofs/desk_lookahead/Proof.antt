@@ -1,0 +1,43 @@
+-- The lookahead and its answer are written, or a buffer is too short.
+use mathlib.Core.Logic.{⊎-elim}
+use borrow.Author.Tests.{ltb-true, ltb-false}
+use native.Mathlib.Omega.{arith}
+use borrow.Author.Needs.{needs}
+use Rattle.desk.specs.Desk.{short}
+use Rattle.desk.proofs.AnswerBytes.{answerSize-is}
+use Rattle.desk.proofs.Calls.{set-call}
+use Rattle.desk.proofs.desk_lookahead.Statement.{statement}
+use Rattle.desk.proofs.desk_lookahead.Tie as tie
+
+returns : tie.Need-returns
+returns c = record { call = short (λ lent. ⊎-elim (λ w. omega (arith, lent .cell)) (λ w. omega (arith, answerSize-is, lent .bytes, ltb-true)) (c .if1 .came)) }
+
+lookahead-requires : tie.Need-lookahead-requires
+lookahead-requires c κs = search needs
+
+slice-write-set : tie.Need-slice-write-set
+slice-write-set c = search needs
+
+write-answer-requires : tie.Need-write-answer-requires
+write-answer-requires c κs = omega (arith, answerSize-is, ltb-false)
+
+same-length : tie.Need-same-length
+same-length c = search needs
+
+same-length-2 : tie.Need-same-length-2
+same-length-2 c = search needs
+
+returns-2 : tie.Need-returns-2
+returns-2 c = record { call = set-call (c .before .before .before .before .before .before .lookahead .result) (c .before .before .before .before .before .before .before .before .before .before .before .before .args .set .now) (omega arith) (omega (arith, answerSize-is, ltb-false)) (c .before .before .before .before .before .before .lookahead .ensures) (c .before .before .write-answer .ensures) }
+
+pub desk-lookahead-spec : {M : Type 1} → statement M
+desk-lookahead-spec =
+    tie.close
+    (tie.spec
+    returns
+    lookahead-requires
+    slice-write-set
+    write-answer-requires
+    same-length
+    same-length-2
+    returns-2)

@@ -1,0 +1,143 @@
+// The functions that C programs call. The number is returned, and place, detail, steps and expected set go into a lent buffer; where
+// that is too short the answer is 7 before all else, and nothing changes.
+ghost use Rattle.desk.specs.Desk.{JudgeCall, SetsCall, BuildCall, RunCall, ExpandCall, LookaheadCall, FirstCall};
+use crate::words::ANSWER_SIZE;
+use crate::words::write_answer;
+use book::judging::judge;
+use book::refusals::ROOM;
+use run::expanding::expand;
+use run::running::run;
+
+mod words;
+
+// A token string run on a book and a table.
+#[no_mangle]
+pub extern "C" fn desk_run(
+    book: &[u8],
+    table: &[u8],
+    tokens: &[u8],
+    stack: &mut [u8],
+    list: &mut [u8],
+    answer: &mut [u8],
+) -> u32
+    ensures { λ r. ⌜ RunCall (now (book .entry)) (now (table .entry)) (now (tokens .entry)) (now (stack .entry)) (now (list .entry)) (now (answer .entry)) r (now (stack .exit)) (now (list .exit)) (now (answer .exit)) ⌝ }
+{
+    if answer.len() < ANSWER_SIZE {
+        return ROOM;
+    }
+    let ran = run(book, table, tokens, stack, list);
+    write_answer(answer, ran);
+    ran.number
+}
+
+// A production list expanded to the tokens it derives.
+#[no_mangle]
+pub extern "C" fn desk_expand(
+    book: &[u8],
+    list: &[u8],
+    stack: &mut [u8],
+    tokens: &mut [u8],
+    answer: &mut [u8],
+) -> u32
+    ensures { λ r. ⌜ ExpandCall (now (book .entry)) (now (list .entry)) (now (stack .entry)) (now (tokens .entry)) (now (answer .entry)) r (now (stack .exit)) (now (tokens .exit)) (now (answer .exit)) ⌝ }
+{
+    if answer.len() < ANSWER_SIZE {
+        return ROOM;
+    }
+    let expanded = expand(book, list, stack, tokens);
+    write_answer(answer, expanded);
+    expanded.number
+}
+
+// The refusal 1 to 6 of a book, or done.
+#[no_mangle]
+pub extern "C" fn desk_judge(book: &[u8], answer: &mut [u8]) -> u32
+    ensures { λ r. ⌜ JudgeCall (now (book .entry)) (now (answer .entry)) r (now (answer .exit)) ⌝ }
+{
+    if answer.len() < ANSWER_SIZE {
+        return ROOM;
+    }
+    let reading = judge(book);
+    let judged = reading.answer;
+    write_answer(answer, judged);
+    judged.number
+}
+
+// FIRST and FOLLOW of each nonterminal into the lent buffers.
+#[no_mangle]
+pub extern "C" fn desk_sets(
+    book: &[u8],
+    first: &mut [u64],
+    follow: &mut [u64],
+    answer: &mut [u8],
+) -> u32
+    ensures { λ r. ⌜ SetsCall (now (book .entry)) (now (first .entry)) (now (follow .entry)) (now (answer .entry)) r (now (first .exit)) (now (follow .exit)) (now (answer .exit)) ⌝ }
+{
+    if answer.len() < ANSWER_SIZE {
+        return ROOM;
+    }
+    let filled = table::sets(book, first, follow);
+    write_answer(answer, filled);
+    filled.number
+}
+
+// The sets and the table into the lent buffers.
+#[no_mangle]
+pub extern "C" fn desk_build(
+    book: &[u8],
+    first: &mut [u64],
+    follow: &mut [u64],
+    table: &mut [u8],
+    answer: &mut [u8],
+) -> u32
+    ensures { λ r. ⌜ BuildCall (now (book .entry)) (now (first .entry)) (now (follow .entry)) (now (table .entry)) (now (answer .entry)) r (now (first .exit)) (now (follow .exit)) (now (table .exit)) (now (answer .exit)) ⌝ }
+{
+    if answer.len() < ANSWER_SIZE {
+        return ROOM;
+    }
+    let built = table::build(book, first, follow, table);
+    write_answer(answer, built);
+    built.number
+}
+
+// The lookahead of a production into the first cell of the lent buffer.
+#[no_mangle]
+pub extern "C" fn desk_lookahead(
+    book: &[u8],
+    production: u64,
+    set: &mut [u64],
+    answer: &mut [u8],
+) -> u32
+    ensures { λ r. ⌜ LookaheadCall (now (book .entry)) production (now (set .entry)) (now (answer .entry)) r (now (set .exit)) (now (answer .exit)) ⌝ }
+{
+    if set.len() < 1 || answer.len() < ANSWER_SIZE {
+        return ROOM;
+    }
+    let found = table::lookahead(book, production);
+    let ahead = found.set;
+    let looked = found.answer;
+    set[0] = ahead.word;
+    write_answer(answer, looked);
+    looked.number
+}
+
+// FIRST of a symbol string into the first cell of the lent buffer.
+#[no_mangle]
+pub extern "C" fn desk_first_of(
+    book: &[u8],
+    symbols: &[u8],
+    set: &mut [u64],
+    answer: &mut [u8],
+) -> u32
+    ensures { λ r. ⌜ FirstCall (now (book .entry)) (now (symbols .entry)) (now (set .entry)) (now (answer .entry)) r (now (set .exit)) (now (answer .exit)) ⌝ }
+{
+    if set.len() < 1 || answer.len() < ANSWER_SIZE {
+        return ROOM;
+    }
+    let found = table::first_of(book, symbols);
+    let begins = found.set;
+    let begun = found.answer;
+    set[0] = begins.word;
+    write_answer(answer, begun);
+    begun.number
+}

@@ -1,0 +1,10 @@
+-- What crates above cite of runs and expansions.
+pub use Rattle.run.proofs.Count.{Counted}
+pub use Rattle.run.proofs.RunTheorems.{run-steps, run-inside}
+pub use Rattle.run.proofs.ExpandTheorems.{expand-steps}
+pub use Rattle.run.proofs.Answered.{Told, told, served, short-of-list, short-of-stack, blocked, told-steps, listed-final, matched-final}
+pub use Rattle.run.proofs.Answered.{ToldBy, told-by, finished, misfitting, out-of-stack, out-of-output, told-moves}
+pub use Rattle.run.proofs.OutcomeUnique.{run-outcome-unique, expand-outcome-unique}
+pub use Rattle.run.proofs.Demands.{build-demand2, run-demand3, run-back, run-steps-sum, expand-demand2}
+pub use Rattle.run.proofs.House.{house-premises}
+pub use Rattle.run.proofs.Examples.{examples-allowed}
