@@ -1,0 +1,104 @@
+-- What building answers makes the listing: a refusal or a conflict its only line, sets and a table all lines. With buffers for 64 sets
+-- and 4,032 cells there is always room.
+use mathlib.Core.Path.{_≡_, refl, ap}
+use mathlib.Core.Logic.{_≢_}
+use mathlib.Core.List.{List, _++_}
+use Prim.Native.Nat.{ℕ, zero, suc, _+_, _*_, _≤_}
+use native.Mathlib.Nat.{mul-le-mul, suc-mul}
+use native.Mathlib.Omega.{arith}
+use lib.ListN.{length, take, drop, replicate, length-append, length-drop, length-replicate}
+use lib.Seq.{take-at, take-append-le, drop-append-le}
+use Rattle.grammar.specs.Grammar.{Grammar}
+use Rattle.book.specs.declared.Answer.{Answer}
+use Rattle.book.specs.declared.Reading.{Reading}
+use Rattle.book.specs.Answers.{done, refusal}
+use Rattle.book.specs.Book.{Limits}
+use Rattle.book.specs.Judging.{indexOf, Serves, Judged, serves}
+use Rattle.book.proofs.Promise.{refuses-some, serves-limits, judged-unique}
+use Rattle.table.specs.Table.{size}
+use Rattle.table.specs.Calls.{over, SetsRoom, no-first, no-follow, BuildOutcome}
+use Rattle.table.specs.Calls as calls
+use Rattle.listing.specs.Listing.{refusedLine, rowLine, rowLines, servedText, Listing, refused, conflicted, served}
+
+-- a grammar that a book can hold has at most 4,032 cells
+pub size-fits : {g : Grammar} → Limits g → size g ≤ 4032
+size-fits {g} limits =
+    let columns : g .tokens + 1 ≤ 63 = omega (arith, limits .tokens-fit) in
+    mul-le-mul (limits .nonterminals-fit) columns
+
+over-front : (xs buffer : List ℕ) (n : ℕ) → length xs ≡ n → take n (over xs buffer) ≡ xs
+over-front xs buffer n sized = take-at xs (drop (length xs) buffer) n sized
+
+over-length : (xs buffer : List ℕ) → length xs ≤ length buffer → length (over xs buffer) ≡ length buffer
+over-length xs buffer fits = omega (arith, length-append xs (drop (length xs) buffer), length-drop (length xs) buffer)
+
+-- cells behind the last row are not listed
+rows-of : (columns A rows : ℕ) (cells more : List ℕ) → rows * columns ≤ length cells
+    → rowLines columns A rows (cells ++ more) ≡ rowLines columns A rows cells
+unfolding rowLines
+rows-of columns A zero cells more fits = refl
+rows-of columns A (suc rows) cells more fits =
+    let wide : columns ≤ length cells = omega (arith, suc-mul rows columns) in
+    let deep : rows * columns ≤ length (drop columns cells) = omega (arith, suc-mul rows columns, length-drop columns cells) in
+    rw (take-append-le columns cells more wide, drop-append-le columns cells more wide)
+    (ap (λ (text : List ℕ). rowLine A (take columns cells) ++ text) (rows-of columns (suc A) rows (drop columns cells) more deep))
+
+-- the buffers of building that is done hold what is listed of the grammar
+pub record Filled (book : List ℕ) (reading : Reading) (first follow table : List ℕ) : Type 0 where
+  pub grammar : Grammar
+  pub index : reading ≡ indexOf grammar
+  pub first-fits : grammar .nonterminals ≤ length first
+  pub follow-fits : grammar .nonterminals ≤ length follow
+  pub table-fits : size grammar ≤ length table
+  pub listing : Listing book (servedText grammar (take (grammar .nonterminals) first) (take (grammar .nonterminals) follow) table)
+
+-- room for the sets and the table of every book, as in the local arrays of `list`
+pub record Enough (first follow table : List ℕ) : Type 0 where
+  pub first-room : 64 ≤ length first
+  pub follow-room : 64 ≤ length follow
+  pub table-room : 4032 ≤ length table
+
+pub enough : Enough (replicate 64 0) (replicate 64 0) (replicate 4032 0)
+enough =
+    record {
+      first-room = omega (arith, length-replicate {A = ℕ} 64 0);
+      follow-room = omega (arith, length-replicate {A = ℕ} 64 0);
+      table-room = omega (arith, length-replicate {A = ℕ} 4032 0);
+    }
+
+no-room-left : {book first follow table : List ℕ} → Enough first follow table → {g : Grammar} {a : Answer} → Serves book g → SetsRoom g first follow a → ⊥
+no-room-left enough s (no-first short) = omega (arith, serves-limits s .nonterminals-fit, enough .first-room)
+no-room-left enough s (no-follow fits short) = omega (arith, serves-limits s .nonterminals-fit, enough .follow-room)
+
+module _ {book first follow table : List ℕ} (enough : Enough first follow table) where
+  -- whatever is refused is listed as the refusal's line
+  pub listing-refused : {a : Answer} {f w t : List ℕ} → BuildOutcome book first follow table a f w t → a .number ≢ 0 → Listing book (refusedLine a)
+  unfolding done
+  listing-refused (calls.refused r) other = refused r
+  listing-refused (calls.no-room s short) other = absurd (no-room-left enough s short)
+  listing-refused (calls.no-table s fit short) other = absurd (omega (arith, size-fits (serves-limits s), enough .table-room))
+  listing-refused (calls.conflict s fit room c) other = conflicted s c
+  listing-refused (calls.served s fit room firsts follows cells) other = absurd (other refl)
+
+  -- and what is done as all lines
+  pub listing-filled : {a : Answer} {f w t : List ℕ} {reading : Reading} → BuildOutcome book first follow table a f w t → a .number ≡ 0 → Judged book reading → Filled book reading f w t
+  unfolding refusal servedText
+  listing-filled (calls.refused r) none j = absurd (omega (arith, refuses-some r))
+  listing-filled (calls.no-room s short) none j = absurd (no-room-left enough s short)
+  listing-filled (calls.no-table s fit short) none j = absurd (omega arith)
+  listing-filled (calls.conflict s fit room c) none j = absurd (omega arith)
+  listing-filled (calls.served {g = g} {xs = xs} {ys = ys} {cells = cells} s fit room firsts follows table-of) none j =
+      record {
+        grammar = g;
+        index = judged-unique j (serves s);
+        first-fits = omega (arith, over-length xs first (omega (arith, firsts .size, fit .first-fits)), fit .first-fits);
+        follow-fits = omega (arith, over-length ys follow (omega (arith, follows .size, fit .follow-fits)), fit .follow-fits);
+        table-fits = omega (arith, over-length cells table (omega (arith, table-of .sized)));
+        listing =
+            rw (
+              over-front xs first (g .nonterminals) (firsts .size),
+              over-front ys follow (g .nonterminals) (follows .size),
+              rows-of (g .tokens + 1) 0 (g .nonterminals) cells (drop (length cells) table) (omega (arith, table-of .sized)),
+            )
+            (served s firsts follows table-of);
+      }

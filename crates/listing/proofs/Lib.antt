@@ -1,0 +1,10 @@
+pub mod Parts
+pub mod Built
+pub mod Unique
+pub mod Spelled
+pub mod Beginning
+pub mod Lengths
+pub mod Whole
+pub mod Examples
+pub mod Theorems
+pub mod Promise

@@ -1,0 +1,80 @@
+-- `listing::served` meets its contract: the grammar's line, then the `first` lines, the `follow` lines and the rows.
+use borrow.Author.Needs.{needs}
+use mathlib.Core.List.{_++_}
+use Prim.Native.Nat.{_+_}
+use native.Mathlib.Omega.{arith}
+use lib.ListN.{take, length-take}
+use Rattle.text.proofs.Promise.{put-then}
+use Rattle.book.specs.Judging.{indexOf}
+use Rattle.listing.specs.Listing.{firstWord, followWord, grammarLine, setLines, rowLines, servedText}
+use Rattle.listing.proofs.served.Statement.{statement}
+use Rattle.listing.proofs.served.Tie as tie
+
+cast-n : tie.Need-cast-n
+cast-n c = search needs
+
+grammar-line-requires : tie.Need-grammar-line-requires
+grammar-line-requires c κs = search needs
+
+slice-aggregate-set-lines : tie.Need-slice-aggregate-set-lines
+slice-aggregate-set-lines c = search needs
+
+slice-aggregate-set-lines-2 : tie.Need-slice-aggregate-set-lines-2
+slice-aggregate-set-lines-2 c =
+    let args = c .before .before .before .before .before .before .before .before .before .before .before .before .args in
+    omega (arith, length-take (args .reading .nonterminals) (args .first .now))
+
+set-lines-requires : tie.Need-set-lines-requires
+set-lines-requires c κs = search needs
+
+slice-aggregate-set-lines-3 : tie.Need-slice-aggregate-set-lines-3
+slice-aggregate-set-lines-3 c = search needs
+
+slice-aggregate-set-lines-4 : tie.Need-slice-aggregate-set-lines-4
+slice-aggregate-set-lines-4 c =
+    let args = c .before .before .before .before .before .before .before .before .before .before .before .before .before .before .before .before .before .before .args in
+    omega (arith, length-take (args .reading .nonterminals) (args .follow .now))
+
+set-lines-requires-2 : tie.Need-set-lines-requires-2
+set-lines-requires-2 c κs = search needs
+
+cast-row-lines : tie.Need-cast-row-lines
+cast-row-lines c = search needs
+
+add-row-lines : tie.Need-add-row-lines
+add-row-lines c = search needs
+
+row-lines-requires : tie.Need-row-lines-requires
+row-lines-requires c κs = search needs
+
+same-length : tie.Need-same-length
+same-length c = search needs
+
+returns : tie.Need-returns
+unfolding servedText indexOf
+returns c g index =
+    let args = c .before .before .before .before .before .before .before .before .before .before .before .before .before .before .before .before .before .before .before .before .before .before .before .before .before .before .args in
+    let firsts = setLines firstWord 0 (take (g .nonterminals) (args .first .now)) in
+    let follows = setLines followWord 0 (take (g .nonterminals) (args .follow .now)) in
+    let rows = rowLines (g .tokens + 1) 0 (g .nonterminals) (args .table .now) in
+    put-then (grammarLine g) (firsts ++ (follows ++ rows)) (c .before .before .before .before .before .before .before .before .before .before .before .before .before .before .before .before .before .before .before .grammar-line .ensures g index)
+    (put-then firsts (follows ++ rows) (rw index at (c .before .before .before .before .before .before .before .before .before .before .before .before .before .set-lines .ensures))
+    (put-then follows rows (rw index at (c .before .before .before .before .before .before .before .set-lines2 .ensures)) (rw index at (c .before .before .row-lines .ensures))))
+
+pub served-spec : {M : Type 1} → statement M
+served-spec =
+    tie.close
+    (tie.spec
+    cast-n
+    grammar-line-requires
+    slice-aggregate-set-lines
+    slice-aggregate-set-lines-2
+    set-lines-requires
+    slice-aggregate-set-lines-3
+    slice-aggregate-set-lines-4
+    set-lines-requires-2
+    cast-row-lines
+    add-row-lines
+    row-lines-requires
+    same-length
+    returns)

@@ -1,0 +1,23 @@
+-- `listing::words::spaced` meets its contract: a space, then the number.
+use borrow.Author.Needs.{needs}
+use mathlib.Core.List.{[], _∷_}
+use Rattle.text.specs.Text.{decimal}
+use Rattle.text.proofs.Promise.{put-then, put-length}
+use Rattle.listing.specs.Listing.{space}
+use Rattle.listing.proofs.words.spaced.Statement.{statement}
+use Rattle.listing.proofs.words.spaced.Tie as tie
+
+put-requires : tie.Need-put-requires
+put-requires c κs = search needs
+
+decimal-requires : tie.Need-decimal-requires
+decimal-requires c κs = search needs
+
+returns : tie.Need-returns
+returns c = put-then (space ∷ []) (decimal _) (c .before .before .before .before .before .before .put .ensures) (c .before .before .decimal .ensures)
+
+same-length : tie.Need-same-length
+same-length c = put-length (returns c)
+
+pub spaced-spec : {M : Type 1} → statement M
+spaced-spec = tie.close (tie.spec put-requires decimal-requires same-length returns)
