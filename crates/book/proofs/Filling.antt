@@ -1,19 +1,19 @@
 -- Sets made member by member, and families of them made set by set.
-use mathlib.Core.Path.{_≡_, sym, _∙_, ap}
+use mathlib.Core.Path.{_≡_, refl, sym, _∙_, ap}
 use mathlib.Core.Bool.{true, and-false, or-false, false≢true}
 use mathlib.Core.Logic.{inl, inr, ⊎-elim}
 use mathlib.Core.List.{List}
 use Prim.Native.Nat.{ℕ, _+_, _^_, _≤_, _<_}
 use native.Mathlib.Decide.{decLt, ℕ-discrete}
 use native.Mathlib.Omega.{arith}
-use lib.ListN.{length, replicate, length-replicate}
+use lib.ListN.{length}
 use borrow.Author.Count.{below-more}
 use borrow.Author.Tests.{le-ltb}
 use Rattle.grammar.specs.declared.Symbol.{Symbol}
 use Rattle.grammar.specs.declared.Symbol.the-variants.{Token, Nonterminal}
 use Rattle.sets.specs.declared.Set.{Set}
 use Rattle.sets.specs.Sets.{width, member, Subset, Exactly}
-use Rattle.sets.specs.Calls.{number, None, With, stored}
+use Rattle.sets.specs.Calls.{number, None, With, setAt, stored}
 use Rattle.sets.proofs.Promise.{with-is, added-new, added-keep, added-cases, stored-length, stored-there, stored-elsewhere}
 use Rattle.book.specs.Closure.{Adds, Follows}
 use Rattle.book.specs.Fields.{symbolAt}
@@ -110,8 +110,8 @@ pub follows-whole : {input before : ℕ} → input < 2 ^ width → Subset input 
 follows-whole fits holds = record { fits = fits; sound = λ k m. record { holds = holds; gives = m }; complete = λ k h. h .gives }
 
 module _ {P : ℕ → ℕ → Type 0} where
-  pub filled-none : Filled P 0 (replicate 128 0)
-  filled-none = record { size = length-replicate {A = ℕ} 128 0; each = λ p none. absurd (omega arith) }
+  pub filled-none : {sets : List ℕ} → length sets ≡ 128 → Filled P 0 sets
+  filled-none size = record { size = size; each = λ p none. absurd (omega arith) }
 
   pub filled-next : {n set : ℕ} {sets after : List ℕ} → n < 128 → Filled P n sets → Exactly width set (P n) → after ≡ stored sets n set → Filled P (n + 1) after
   filled-next {n} {set} {sets} inside filled exact e =
@@ -124,3 +124,20 @@ module _ {P : ℕ → ℕ → Type 0} where
             (λ p below. rw (stored-elsewhere sets n set p (λ same. omega arith)) (filled .each p below))
             (rw (stored-there sets n set there) exact);
       })
+
+-- the sets below n are those of which the members follow, and the others are as they were
+pub record Keeping (productive : ℕ) (before : List ℕ) (n : ℕ) (sets : List ℕ) : Type 0 where
+  pub filled : Filled (λ p. Follows (setAt before p) (setAt before p) productive) n sets
+  pub rest : (p : ℕ) → n ≤ p → setAt sets p ≡ setAt before p
+
+module _ {productive : ℕ} {before : List ℕ} where
+  pub keeping-none : length before ≡ 128 → Keeping productive before 0 before
+  keeping-none size = record { filled = filled-none size; rest = λ p _. refl }
+
+  pub keeping-next : {n x set : ℕ} {sets after : List ℕ} → n < 128 → Keeping productive before n sets → x ≡ setAt sets n → Exactly width set (Follows x x productive)
+      → after ≡ stored sets n set → Keeping productive before (n + 1) after
+  keeping-next {n} {x} {set} {sets} inside keeping same exact e =
+      record {
+        filled = filled-next inside (keeping .filled) (rw (same ∙ keeping .rest n (omega arith)) at exact) e;
+        rest = λ p past. rw e (stored-elsewhere sets n set p (λ here. omega arith) ∙ keeping .rest p (omega arith));
+      }

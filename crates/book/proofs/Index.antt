@@ -13,7 +13,7 @@ use Rattle.grammar.specs.declared.Symbol.the-variants.{Nonterminal}
 use Rattle.grammar.specs.Grammar.{Form, Production, Grammar, Rule, Known, known-token, known-nonterminal}
 use Rattle.grammar.proofs.Every.{every-at}
 use Rattle.book.specs.Book.{reads, spells, byteOf, bytesOf, Limits}
-use Rattle.book.specs.Fields.{symbolOfByte, symbolAt, placeAfter, placeOfRecord, placesOf}
+use Rattle.book.specs.Fields.{lengthAt, symbolOfByte, symbolAt, placeAfter, placeOfRecord, placesOf}
 use Rattle.book.specs.Judging.{recordPlaces, placesIn}
 use Rattle.book.proofs.Records.{recordsSize, recordPlace, RecordAt}
 use Rattle.book.proofs.Cells.{zero-cell, zeros-behind, places-length, places-cell, places-rest}
@@ -83,10 +83,12 @@ module _ (b : List ℕ) {g : Grammar} (read : spells b ≡ reads g) where
   pub record-indexed : {p A : ℕ} {β : Form} → Rule g p A β → RecordAt b (getD (placesIn (g .productions)) p 0) A β
   record-indexed {p} rule = rw (placesIn-cell (g .productions) p (below-rule rule)) (record-placed rule)
 
-  pub symbol-indexed : {p A : ℕ} {β : Form} → Rule g p A β → (i : ℕ) {s : Symbol} → getElem? β i ≡ some s → symbolAt b (getD (placesIn (g .productions)) p 0) i ≡ s
+  symbol-there : {at p A : ℕ} {β : Form} → Rule g p A β → RecordAt b at A β → (i : ℕ) {s : Symbol} → getElem? β i ≡ some s → symbolAt b at i ≡ s
   unfolding symbolAt
-  symbol-indexed rule i {s} e =
-      rw (record-indexed rule .symbols i e) (symbolOfByte-byteOf (limits .tokens-fit) (every-at (limits .well-formed .right-known rule) i s e))
+  symbol-there rule there i {s} e = rw (there .symbols i e) (symbolOfByte-byteOf (limits .tokens-fit) (every-at (limits .well-formed .right-known rule) i s e))
+
+  pub symbol-indexed : {p A : ℕ} {β : Form} → Rule g p A β → (i : ℕ) {s : Symbol} → getElem? β i ≡ some s → symbolAt b (getD (placesIn (g .productions)) p 0) i ≡ s
+  symbol-indexed rule i e = symbol-there rule (record-indexed rule) i e
 
   pub place-fits : {p A : ℕ} {β : Form} → Rule g p A β → getD (placesIn (g .productions)) p 0 < 2566
   place-fits {p} rule =
@@ -100,6 +102,19 @@ module _ (b : List ℕ) {g : Grammar} (read : spells b ≡ reads g) where
   place-counted (suc p) h =
       let (A, β, rule) = rule-below g p (omega arith) in
       rw (place-counted p (omega arith), record-placed rule .size) (sym (recordPlace-suc rule))
+
+  -- each record stands where counting through the book comes to
+  pub record-counted : {p A : ℕ} {β : Form} → Rule g p A β → RecordAt b (placeOfRecord b p) A β
+  record-counted {p} rule = rw (place-counted p (omega (arith, below-rule rule))) (record-placed rule)
+
+  pub symbol-counted : {p A : ℕ} {β : Form} → Rule g p A β → (i : ℕ) {s : Symbol} → getElem? β i ≡ some s → symbolAt b (placeOfRecord b p) i ≡ s
+  symbol-counted rule i e = symbol-there rule (record-counted rule) i e
+
+  -- and lies within the book
+  pub record-fits : (p : ℕ) → p < length (g .productions) → placeOfRecord b p + 4 + lengthAt b (placeOfRecord b p) ≤ length b
+  record-fits p below =
+      let (A, β, rule) = rule-below g p below in
+      omega (arith, record-within rule, ap length (written-read b read), place-counted p (omega arith), record-counted rule .size)
 
   pub places-indexed : placesOf b (length (g .productions)) ≡ placesIn (g .productions)
   places-indexed =

@@ -1,6 +1,8 @@
 pub mod Records
 pub mod Turns
 pub mod Checked
+pub mod Guards
+pub mod Heads
 pub mod Joined
 pub mod Bytes
 pub mod Written

@@ -1,9 +1,9 @@
 -- From what the bytes spell, and the lowest useless nonterminal, to what judging answers.
 use mathlib.Core.Path.{_≡_, refl, sym, _∙_, ap}
 use mathlib.Core.List.{List}
-use Prim.Native.Nat.{ℕ, _≤_, _<_}
+use Prim.Native.Nat.{ℕ, _≤_, _<_, min}
 use native.Mathlib.Omega.{arith}
-use lib.ListN.{length, getD}
+use lib.ListN.{length, getD, replicate}
 use Rattle.grammar.specs.Grammar.{Grammar}
 use Rattle.book.specs.declared.Answer.{Answer}
 use Rattle.book.specs.declared.Verdict.{Verdict}
@@ -13,9 +13,11 @@ use Rattle.book.specs.Book.{Spelling, refused, reads, spells}
 use Rattle.book.specs.Fields.{placesOf}
 use Rattle.book.specs.Judging.{AllUseful, refusing, indexOf, Judged, refuses, serves, useless-one}
 use Rattle.book.specs.Refusals.{useless}
-use Rattle.book.specs.Useful.{FirstUseless, Indexed}
+use Rattle.book.specs.Useful.{Surveyed, Sides, FirstUseless, Indexed}
 use Rattle.book.specs.Verdicts.{told, verdictOf}
 use Rattle.book.proofs.Index.{header-tokens, header-nonterminals, header-start, header-productions, places-indexed}
+use Rattle.book.proofs.Sides.{sides-surveyed}
+use Rattle.book.proofs.Written.{read-limits}
 
 told-reads : (size : ℕ) (x : Spelling) {at : ℕ} → told size x ≡ Next at → (g : Grammar) × (x ≡ reads g)
 unfolding told
@@ -37,6 +39,10 @@ module _ (b : List ℕ) where
   unfolding verdictOf
   verdict-refused e bad = told-refused (length b) (spells b) (sym e ∙ bad)
 
+  -- as many records are surveyed as there are productions
+  pub header-counted : {g : Grammar} {P count : ℕ} → spells b ≡ reads g → P ≡ getD b 5 0 → count ≡ min P 128 → count ≡ length (g .productions)
+  header-counted read P-is count-is = omega (arith, P-is, count-is, header-productions b read, read-limits b read .productions-fit)
+
   -- the header's bytes and the places counted through the book are the fields of the index
   pub header-indexed : {g : Grammar} {places : List ℕ} {P N start : ℕ} → spells b ≡ reads g → N ≡ getD b 3 0 → start ≡ getD b 4 0 → P ≡ getD b 5 0 → places ≡ placesOf b P → Indexed b places P N start g
   header-indexed {g} {P = P} read N-is start-is P-is places-are =
@@ -48,6 +54,17 @@ module _ (b : List ℕ) where
         numbered = N-is ∙ header-nonterminals b read;
         started = start-is ∙ header-start b read;
       }
+
+  -- the survey gives the index, and with it the lowest useless nonterminal
+  pub survey-decides : {g : Grammar} {places names lefts : List ℕ} {P N start count r : ℕ} → spells b ≡ reads g → N ≡ getD b 3 0 → start ≡ getD b 4 0 → P ≡ getD b 5 0 → count ≡ min P 128
+      → Surveyed b count (replicate 128 0) places names lefts
+      → ((g : Grammar) → Sides g count names lefts → N ≡ g .nonterminals → start ≡ g .start → FirstUseless g r)
+      → Indexed b places P N start g × FirstUseless g r
+  unfolding placesOf
+  survey-decides {g} read N-is start-is P-is count-is surveyed first =
+      let indexed = header-indexed read N-is start-is P-is (rw count-is at (surveyed .placed)) in
+      let sides = sides-surveyed read (header-counted read P-is count-is) (surveyed .named) (surveyed .left) in
+      (indexed, first g sides (indexed .numbered) (indexed .started))
 
 module _ {b places : List ℕ} {P N start r : ℕ} {g : Grammar} (indexed : Indexed b places P N start g) (first : FirstUseless g r) where
   pub judged-useless : r < N → Judged b (refusing (refusal useless r 0))

@@ -25,6 +25,10 @@ within low high byte = leb low byte && ltb byte high
 unfoldable pub isSymbol : (T N : ℕ) → ℕ → Bool
 isSymbol T N byte = elim (ltb byte T) [ true ↦ true | false ↦ leb 128 byte && ltb (byte - 128) N ]
 
+-- a byte stands at a place and lies in a range
+unfoldable pub withinAt : List ℕ → (low high : ℕ) → ℕ → Bool
+withinAt b low high at = ltb at (length b) && within low high (getD b at 0)
+
 -- the byte at a place is missing, right or wrong
 unfoldable pub checkedAt : List ℕ → Bool → ℕ → ℕ → Verdict
 checkedAt b right refusal at = elim (ltb at (length b)) [ true ↦ elim right [ true ↦ Next (at + 1) | false ↦ Bad refusal at ] | false ↦ Bad short (length b) ]
@@ -61,6 +65,10 @@ headerFrom b at =
     (wantedFrom b 1 65 limit
     (wantedFrom b 1 63 limit
     (markedFrom b 71 82 (Next at)))))
+
+-- a byte is wanted where the book ends, unless it was refused
+unfoldable pub cutOff : List ℕ → Verdict → Verdict
+cutOff b v = andThen v λ _. Bad short (length b)
 
 -- reading goes on from a place, unless it was refused
 unfoldable pub resumedAt : ℕ → Verdict → Verdict

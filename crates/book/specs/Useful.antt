@@ -4,15 +4,16 @@ use mathlib.Core.Path.{_≡_}
 use mathlib.Core.Bool.{true, false}
 use mathlib.Core.List.{List}
 use mathlib.Core.Option.{some}
-use Prim.Native.Nat.{ℕ, _+_, _≤_, _<_}
-use lib.ListN.{length, getD, getElem?}
+use Prim.Native.Nat.{ℕ, _≤_, _<_}
+use lib.ListN.{length, getElem?}
+use lib.Seq.{sets}
 use Rattle.grammar.specs.declared.Symbol.{Symbol}
 use Rattle.grammar.specs.declared.Symbol.the-variants.{Nonterminal}
 use Rattle.grammar.specs.Grammar.{Form, Grammar, Rule, Useful}
 use Rattle.sets.specs.Sets.{width, member, Exactly}
 use Rattle.sets.specs.Calls.{setAt}
 use Rattle.book.specs.Book.{reads, spells}
-use Rattle.book.specs.Fields.{symbolAt}
+use Rattle.book.specs.Fields.{leftAt, lengthAt, symbolAt, placeOfRecord, placesFrom}
 use Rattle.book.specs.Judging.{placesIn}
 
 -- k is the number a, and has a place in a set
@@ -32,17 +33,29 @@ pub record NamedAt (book : List ℕ) (at l k : ℕ) : Type 0 where
   pub names : IsNonterminal (symbolAt book at index) k
 
 -- the nonterminals on the right side of record p
-abbrev pub RightNames : List ℕ → List ℕ → ℕ → ℕ → Type 0
-RightNames book places p = NamedAt book (getD places p 0) (getD book (getD places p 0 + 3) 0)
+abbrev pub RightNames : List ℕ → ℕ → ℕ → Type 0
+RightNames book p = NamedAt book (placeOfRecord book p) (lengthAt book (placeOfRecord book p))
 
 -- the left side of record p
-abbrev pub LeftName : List ℕ → List ℕ → ℕ → ℕ → Type 0
-LeftName book places p = Single (getD book (getD places p 0 + 2) 0)
+abbrev pub LeftName : List ℕ → ℕ → ℕ → Type 0
+LeftName book p = Single (leftAt book (placeOfRecord book p))
 
 -- 128 sets, of which each number p below `count` has those k as members of which P p holds
 pub record Filled (P : ℕ → ℕ → Type 0) (count : ℕ) (sets : List ℕ) : Type 0 where
   pub size : length sets ≡ 128
   pub each : (p : ℕ) → p < count → Exactly width (setAt sets p) (P p)
+
+-- the book spells a grammar of so many productions
+pub record Lists (book : List ℕ) (count : ℕ) : Type 0 where
+  pub grammar : Grammar
+  pub read : spells book ≡ reads grammar
+  pub counted : count ≡ length (grammar .productions)
+
+-- the first `count` records: their places written over what the cells were, the names on their right sides, their left sides
+pub record Surveyed (book : List ℕ) (count : ℕ) (cells places names lefts : List ℕ) : Type 0 where
+  pub placed : places ≡ sets cells 0 (placesFrom book count 0)
+  pub named : Filled (RightNames book) count names
+  pub left : Filled (LeftName book) count lefts
 
 -- the nonterminal k occurs in a form
 pub record Occurs (β : Form) (k : ℕ) : Type 0 where

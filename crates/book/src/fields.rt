@@ -1,15 +1,15 @@
 ghost use mathlib.Core.Path.{_≡_};
 ghost use Prim.Native.Nat.{_+_, _≤_, _<_, min};
 ghost use lib.ListN.{getD};
-ghost use Rattle.book.specs.Fields.{leftAt, lengthAt, symbolAt, symbolOfByte, placeAfter, placesOf};
+ghost use Rattle.book.specs.Fields.{leftAt, lengthAt, symbolAt, symbolOfByte, placeAfter};
 use grammar::Symbol;
 
 // The byte at place `at + more`, 0 past the end; the sum is never formed where it could wrap.
 pub fn byte_at(book: &[u8], at: usize, more: usize) -> u8
     ensures { λ r. ⌜ r ≡ getD (now (book .entry)) (at + more) 0 ⌝ }
 {
-    if at < book.len() {
-        if more < book.len() - at {
+    if more < book.len() {
+        if at < book.len() - more {
             let place = at + more;
             book[place]
         } else {
@@ -67,33 +67,17 @@ pub fn symbol_at(book: &[u8], at: usize, i: usize) -> Symbol
 }
 
 // At most as many records as there are cells.
-fn cells_for(count: u8) -> usize
+pub(crate) fn cells_for(count: u8) -> usize
     ensures { λ r. ⌜ r ≡ min count 128 ⌝ }
 {
     if count < 128 { count as usize } else { 128 }
 }
 
 // The place after the record at `place`.
-fn place_after(book: &[u8], place: u16) -> u16
+pub(crate) fn place_after(book: &[u8], place: u16) -> u16
     requires { ⌜ place < 65000 ⌝ }
     ensures { λ r. ⌜ (r ≡ placeAfter (now (book .entry)) place) × (r ≤ place + 259) ⌝ }
 {
     let length = length_at(book, place as usize);
     place + 4 + length as u16
-}
-
-// The place of each record, and 0 in the cells from `count` on; a place rises by at most 259, so 128 of them cannot wrap.
-pub(crate) fn places(book: &[u8], count: u8) -> [u16; 128]
-    ensures { λ r. ⌜ r ≡ placesOf (now (book .entry)) count ⌝ }
-{
-    let last = cells_for(count);
-    let mut places = [0u16; 128];
-    let mut place: u16 = 6;
-    let mut p: usize = 0;
-    while p < last {
-        places[p] = place;
-        place = place_after(book, place);
-        p += 1;
-    }
-    places
 }

@@ -9,9 +9,10 @@ use crate::Verdict;
 use crate::answers::done;
 use crate::answers::refusal;
 use crate::fields::byte_at;
-use crate::fields::places;
+use crate::fields::cells_for;
 use crate::refusals::USELESS;
-use crate::useful::useless;
+use crate::useful::first_useless;
+use crate::useful::survey;
 use crate::walk::read;
 
 // On a refusal every other field is 0.
@@ -36,8 +37,12 @@ fn indexed(book: &[u8]) -> Reading
     let nonterminals = byte_at(book, 0, 3);
     let start = byte_at(book, 0, 4);
     let productions = byte_at(book, 0, 5);
-    let cells = places(book, productions);
-    let lowest = useless(book, &cells, productions, nonterminals, start);
+    let count = cells_for(productions);
+    let mut places = [0u16; 128];
+    let mut names = [0u64; 128];
+    let mut lefts = [0u64; 128];
+    survey(book, count, &mut places, &mut names, &mut lefts);
+    let lowest = first_useless(&mut names, &lefts, count, nonterminals, start);
     if lowest < nonterminals {
         return refusing(refusal(USELESS, lowest as u64, 0));
     }
@@ -47,7 +52,7 @@ fn indexed(book: &[u8]) -> Reading
         nonterminals,
         start,
         productions,
-        places: cells,
+        places,
     }
 }
 

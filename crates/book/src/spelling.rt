@@ -1,8 +1,11 @@
 ghost use mathlib.Core.Path.{_≡_};
-ghost use Prim.Native.Nat.{_<_};
-ghost use Rattle.book.specs.Verdicts.{placeOf, verdictOf};
-ghost use Rattle.book.specs.Positional.{within, isSymbol, nextByte, checkedAt, wantedFrom, symbolFrom, symbolsFrom};
-ghost use Rattle.book.specs.Positional.{markedFrom, rightFrom, recordFrom, eachRecordFrom, resumedAt, headerFrom, recordsFrom, endFrom};
+ghost use mathlib.Core.Bool.{false};
+ghost use Prim.Native.Nat.{_+_, _-_, _≤_};
+ghost use lib.Dec.{ltb};
+ghost use Rattle.book.specs.declared.Verdict.the-variants.{Next};
+ghost use Rattle.book.specs.Verdicts.{placeOf};
+ghost use Rattle.book.specs.Positional.{withinAt, isSymbol, checkedAt, symbolsFrom, cutOff, recordFrom, eachRecordFrom};
+ghost use Rattle.book.specs.Positional.{headerFrom, recordsFrom, endFrom};
 use crate::Verdict;
 use crate::fields::byte_at;
 use crate::refusals::EXTRA;
@@ -21,21 +24,28 @@ pub(crate) fn place_of(v: Verdict) -> usize
     }
 }
 
-// The byte that is next; 0 after a refusal.
-fn next_byte(book: &[u8], v: Verdict) -> u8
-    ensures { λ r. ⌜ r ≡ nextByte (now (book .entry)) v ⌝ }
+// The book has a byte at place `at + more`.
+fn stands(book: &[u8], at: usize, more: usize) -> bool
+    ensures { λ r. do ⌜ r ≡ ltb (at + more) (← ⟦book.len()⟧ .entry) ⌝ }
 {
-    match v {
-        Verdict::Next(at) => byte_at(book, at, 0),
-        Verdict::Bad(_, _) => 0,
+    if at < book.len() {
+        more < book.len() - at
+    } else {
+        false
     }
 }
 
-// The byte lies in `low .. high`.
-fn is_within(byte: u8, low: u8, high: u8) -> bool
-    ensures { λ r. ⌜ r ≡ within low high byte ⌝ }
+// The book has a byte at place `at + more`, and it lies in `low .. high`.
+fn is_within(book: &[u8], at: usize, more: usize, low: u8, high: u8) -> bool
+    ensures { λ r. ⌜ r ≡ withinAt (now (book .entry)) low high (at + more) ⌝ }
 {
-    if low <= byte { byte < high } else { false }
+    if stands(book, at, more) {
+        let place = at + more;
+        let byte = book[place];
+        if low <= byte { byte < high } else { false }
+    } else {
+        false
+    }
 }
 
 // A token below `t`, or 128 and a nonterminal below `n`.
@@ -49,129 +59,128 @@ fn is_symbol(byte: u8, t: u8, n: u8) -> bool
     }
 }
 
-// The verdict on the byte at `at`, once it is known whether that byte is right.
-fn checked(book: &[u8], right: bool, refusal: u32, at: usize) -> Verdict
-    ensures { λ r. ⌜ r ≡ checkedAt (now (book .entry)) right refusal at ⌝ }
+// The refusal for the byte at place `at + more`, which is missing or wrong.
+fn refused(book: &[u8], refusal: u32, at: usize, more: usize) -> Verdict
+    ensures { λ r. ⌜ r ≡ checkedAt (now (book .entry)) false refusal (at + more) ⌝ }
 {
-    if at < book.len() {
-        if right {
-            Verdict::Next(at + 1)
-        } else {
-            Verdict::Bad(refusal, at)
-        }
+    if stands(book, at, more) {
+        Verdict::Bad(refusal, at + more)
     } else {
         Verdict::Bad(SHORT, book.len())
     }
 }
 
-// The byte that is next lies in `low .. high`, else this refusal; a refusal passes through.
-fn want(book: &[u8], v: Verdict, low: u8, high: u8, refusal: u32) -> Verdict
-    ensures { λ r. ⌜ r ≡ wantedFrom (now (book .entry)) low high refusal v ⌝ }
+// The bytes from `from` up to `last` are symbols of the grammar.
+fn symbols(book: &[u8], from: usize, last: usize, t: u8, n: u8) -> Verdict
+    requires { do ⌜ (from ≤ last) × (last ≤ (← ⟦book.len()⟧)) ⌝ }
+    ensures { λ r. ⌜ r ≡ symbolsFrom (now (book .entry)) t n (last - from) (Next from) ⌝ }
+{
+    let mut at = from;
+    while at < last {
+        if !is_symbol(book[at], t, n) {
+            return Verdict::Bad(SYMBOL, at);
+        }
+        at += 1;
+    }
+    Verdict::Next(at)
+}
+
+// The book ends where a byte is still wanted.
+fn cut_off(book: &[u8], v: Verdict) -> Verdict
+    ensures { λ r. ⌜ r ≡ cutOff (now (book .entry)) v ⌝ }
 {
     match v {
-        Verdict::Next(at) => {
-            let right = is_within(byte_at(book, at, 0), low, high);
-            checked(book, right, refusal, at)
-        }
+        Verdict::Next(_) => Verdict::Bad(SHORT, book.len()),
         Verdict::Bad(number, place) => Verdict::Bad(number, place),
     }
 }
 
-// The byte that is next is a symbol of the grammar.
-fn symbol(book: &[u8], v: Verdict, t: u8, n: u8) -> Verdict
-    ensures { λ r. ⌜ r ≡ symbolFrom (now (book .entry)) t n v ⌝ }
+// A right side of so many symbols from `at` on.
+fn right(book: &[u8], at: usize, t: u8, n: u8, length: u8) -> Verdict
+    requires { do ⌜ at ≤ (← ⟦book.len()⟧) ⌝ }
+    ensures { λ r. ⌜ r ≡ symbolsFrom (now (book .entry)) t n length (Next at) ⌝ }
 {
-    match v {
-        Verdict::Next(at) => {
-            let right = is_symbol(byte_at(book, at, 0), t, n);
-            checked(book, right, SYMBOL, at)
-        }
-        Verdict::Bad(number, place) => Verdict::Bad(number, place),
+    let wanted = length as usize;
+    if wanted <= book.len() - at {
+        symbols(book, at, at + wanted, t, n)
+    } else {
+        cut_off(book, symbols(book, at, book.len(), t, n))
     }
 }
 
-// So many bytes are symbols of the grammar.
-fn symbols(book: &[u8], v: Verdict, t: u8, n: u8, length: u8) -> Verdict
-    ensures { λ r. ⌜ r ≡ symbolsFrom (now (book .entry)) t n length v ⌝ }
+// `PR`, the left side, the length of the right side, its symbols.
+fn record(book: &[u8], at: usize, t: u8, n: u8) -> Verdict
+    ensures { λ r. ⌜ r ≡ recordFrom (now (book .entry)) t n (Next at) ⌝ }
 {
-    let mut v = v;
-    let mut i: u8 = 0;
-    while i < length {
-        v = symbol(book, v, t, n);
-        i += 1;
+    if !is_within(book, at, 0, b'P', b'P' + 1) {
+        return refused(book, MARK, at, 0);
     }
-    v
+    if !is_within(book, at, 1, b'R', b'R' + 1) {
+        return refused(book, MARK, at, 1);
+    }
+    if !is_within(book, at, 2, 0, n) {
+        return refused(book, SYMBOL, at, 2);
+    }
+    if !is_within(book, at, 3, 0, 17) {
+        return refused(book, LIMIT, at, 3);
+    }
+    right(book, at + 4, t, n, byte_at(book, at, 3))
 }
 
-// A mark of two bytes.
-fn marked(book: &[u8], v: Verdict, one: u8, other: u8) -> Verdict
-    requires { ⌜ (one < 255) × (other < 255) ⌝ }
-    ensures { λ r. ⌜ r ≡ markedFrom (now (book .entry)) one other v ⌝ }
+// So many records from `from` on.
+fn each_record(book: &[u8], from: usize, t: u8, n: u8, count: u8) -> Verdict
+    ensures { λ r. ⌜ r ≡ eachRecordFrom (now (book .entry)) t n count (Next from) ⌝ }
 {
-    let first = want(book, v, one, one + 1, MARK);
-    want(book, first, other, other + 1, MARK)
-}
-
-// The length of a right side, then its symbols.
-fn right(book: &[u8], v: Verdict, t: u8, n: u8) -> Verdict
-    ensures { λ r. ⌜ r ≡ rightFrom (now (book .entry)) t n v ⌝ }
-{
-    let length = next_byte(book, v);
-    let counted = want(book, v, 0, 17, LIMIT);
-    symbols(book, counted, t, n, length)
-}
-
-// `PR`, the left side, the right side.
-fn record(book: &[u8], v: Verdict, t: u8, n: u8) -> Verdict
-    ensures { λ r. ⌜ r ≡ recordFrom (now (book .entry)) t n v ⌝ }
-{
-    let opened = marked(book, v, b'P', b'R');
-    let left = want(book, opened, 0, n, SYMBOL);
-    right(book, left, t, n)
-}
-
-// So many records.
-fn each_record(book: &[u8], v: Verdict, t: u8, n: u8, count: u8) -> Verdict
-    ensures { λ r. ⌜ r ≡ eachRecordFrom (now (book .entry)) t n count v ⌝ }
-{
-    let mut v = v;
+    let mut at = from;
     let mut p: u8 = 0;
     while p < count {
-        v = record(book, v, t, n);
+        let v = record(book, at, t, n);
+        let Verdict::Next(next) = v else {
+            return v;
+        };
+        at = next;
         p += 1;
     }
-    v
-}
-
-// Reading goes on from `at`, unless it was refused.
-fn resumed(at: usize, v: Verdict) -> Verdict
-    ensures { λ r. ⌜ r ≡ resumedAt at v ⌝ }
-{
-    match v {
-        Verdict::Next(_) => Verdict::Next(at),
-        Verdict::Bad(number, place) => Verdict::Bad(number, place),
-    }
+    Verdict::Next(at)
 }
 
 // `GR`, T, N, the start below N, P.
 pub(crate) fn header(book: &[u8], at: usize) -> Verdict
     ensures { λ r. ⌜ r ≡ headerFrom (now (book .entry)) at ⌝ }
 {
-    let opened = marked(book, Verdict::Next(at), b'G', b'R');
-    let tokens = want(book, opened, 1, 63, LIMIT);
-    let nonterminals = want(book, tokens, 1, 65, LIMIT);
-    let start = want(book, nonterminals, 0, byte_at(book, at, 3), LIMIT);
-    want(book, start, 1, 129, LIMIT)
+    if !is_within(book, at, 0, b'G', b'G' + 1) {
+        return refused(book, MARK, at, 0);
+    }
+    if !is_within(book, at, 1, b'R', b'R' + 1) {
+        return refused(book, MARK, at, 1);
+    }
+    if !is_within(book, at, 2, 1, 63) {
+        return refused(book, LIMIT, at, 2);
+    }
+    if !is_within(book, at, 3, 1, 65) {
+        return refused(book, LIMIT, at, 3);
+    }
+    if !is_within(book, at, 4, 0, byte_at(book, at, 3)) {
+        return refused(book, LIMIT, at, 4);
+    }
+    if !is_within(book, at, 5, 1, 129) {
+        return refused(book, LIMIT, at, 5);
+    }
+    Verdict::Next(at + 6)
 }
 
 // The records from `at` on, as many as the header says.
 pub(crate) fn records(book: &[u8], at: usize, v: Verdict) -> Verdict
     ensures { λ r. ⌜ r ≡ recordsFrom (now (book .entry)) at v ⌝ }
 {
-    let t = byte_at(book, 0, 2);
-    let n = byte_at(book, 0, 3);
-    let count = byte_at(book, 0, 5);
-    each_record(book, resumed(at, v), t, n, count)
+    match v {
+        Verdict::Next(_) => {
+            let t = byte_at(book, 0, 2);
+            let n = byte_at(book, 0, 3);
+            each_record(book, at, t, n, byte_at(book, 0, 5))
+        }
+        Verdict::Bad(number, place) => Verdict::Bad(number, place),
+    }
 }
 
 // Nothing follows at `at`.

@@ -1,17 +1,16 @@
 ghost use mathlib.Core.Path.{_≡_};
 ghost use Prim.Native.Nat.{_+_, _≤_, _<_};
-ghost use lib.ListN.{getD};
+ghost use lib.ListN.{length};
 ghost use Rattle.grammar.specs.Grammar.{Grammar};
 ghost use Rattle.sets.specs.Sets.{width, Exactly};
 ghost use Rattle.sets.specs.Calls.{number, setAt};
-ghost use Rattle.book.specs.Fields.{lengthAt};
 ghost use Rattle.book.specs.Closure.{Adds, Follows};
-ghost use Rattle.book.specs.Useful.{Single, IsNonterminal, NamedAt, RightNames, LeftName, Filled, Sides, LowestMissing, FirstUseless, Indexed};
+ghost use Rattle.book.specs.Useful.{Single, IsNonterminal, NamedAt, Filled, Lists, Surveyed, Sides, LowestMissing, FirstUseless};
 use crate::closure::closure;
 use crate::fields::left_at;
 use crate::fields::length_at;
-use crate::fields::place_at;
-use crate::fields::symbol_at;
+use crate::fields::place_after;
+use crate::fields::symbol_of;
 use grammar::Symbol;
 use sets::Set;
 use sets::has;
@@ -38,50 +37,42 @@ fn with_symbol(names: Set, s: Symbol) -> Set
     }
 }
 
-// The nonterminals on the right side of the record at `at`.
-fn names_at(book: &[u8], at: usize) -> Set
-    ensures { λ r. ⌜ Exactly width (number r) (NamedAt (now (book .entry)) at (lengthAt (now (book .entry)) at)) ⌝ }
+// The nonterminals among the symbols of the record at `at`.
+fn names_at(book: &[u8], at: usize, length: usize) -> Set
+    requires { do ⌜ at + 4 + length ≤ (← ⟦book.len()⟧) ⌝ }
+    ensures { λ r. ⌜ Exactly width (number r) (NamedAt (now (book .entry)) at length) ⌝ }
 {
-    let length = length_at(book, at) as usize;
     let mut names = none();
     let mut i: usize = 0;
     while i < length {
-        names = with_symbol(names, symbol_at(book, at, i));
+        let place = at + 4 + i;
+        names = with_symbol(names, symbol_of(book[place]));
         i += 1;
     }
     names
 }
 
-// The nonterminals of each right side.
-fn right_names(book: &[u8], places: &[u16], count: usize) -> [u64; 128]
-    requires { ⌜ count ≤ 128 ⌝ }
-    ensures { λ r. ⌜ Filled (RightNames (now (book .entry)) (now (places .entry))) count r ⌝ }
+// The place of each record, the names on its right side and its left side; a place rises by at most 259, so 128 of them cannot wrap.
+pub(crate) fn survey(
+    book: &[u8],
+    count: usize,
+    places: &mut [u16],
+    names: &mut [u64],
+    lefts: &mut [u64],
+)
+    requires { ⌜ Lists (now book) count × (length (now places) ≡ 128) × (length (now names) ≡ 128) × (length (now lefts) ≡ 128) ⌝ }
+    ensures { λ r. ⌜ Surveyed (now (book .entry)) count (now (places .entry)) (now (places .exit)) (now (names .exit)) (now (lefts .exit)) ⌝ }
 {
-    let mut cells = [0u64; 128];
+    let mut place: u16 = 6;
     let mut p: usize = 0;
     while p < count {
-        store(&mut cells, p, names_at(book, place_at(places, p) as usize));
+        places[p] = place;
+        let at = place as usize;
+        store(names, p, names_at(book, at, length_at(book, at) as usize));
+        store(lefts, p, single(left_at(book, at)));
+        place = place_after(book, place);
         p += 1;
     }
-    cells
-}
-
-// Each left side.
-fn left_names(book: &[u8], places: &[u16], count: usize) -> [u64; 128]
-    requires { ⌜ count ≤ 128 ⌝ }
-    ensures { λ r. ⌜ Filled (LeftName (now (book .entry)) (now (places .entry))) count r ⌝ }
-{
-    let mut cells = [0u64; 128];
-    let mut p: usize = 0;
-    while p < count {
-        store(
-            &mut cells,
-            p,
-            single(left_at(book, place_at(places, p) as usize)),
-        );
-        p += 1;
-    }
-    cells
 }
 
 // The names of a right side, where all of them are productive; otherwise none.
@@ -95,18 +86,16 @@ fn kept(names: Set, productive: Set) -> Set
     }
 }
 
-// The names of each right side that derives a token string.
-fn productive_names(names: &[u64], count: usize, productive: Set) -> [u64; 128]
-    requires { ⌜ count ≤ 128 ⌝ }
-    ensures { λ r. ⌜ Filled (λ p. Follows (setAt (now (names .entry)) p) (setAt (now (names .entry)) p) (number productive)) count r ⌝ }
+// Of each right side, the names are kept where it derives a token string.
+fn keep_productive(names: &mut [u64], count: usize, productive: Set)
+    requires { ⌜ (count ≤ 128) × (length (now names) ≡ 128) ⌝ }
+    ensures { λ r. ⌜ Filled (λ p. Follows (setAt (now (names .entry)) p) (setAt (now (names .entry)) p) (number productive)) count (now (names .exit)) ⌝ }
 {
-    let mut cells = [0u64; 128];
     let mut p: usize = 0;
     while p < count {
-        store(&mut cells, p, kept(load(names, p), productive));
+        store(names, p, kept(load(names, p), productive));
         p += 1;
     }
-    cells
 }
 
 // The lowest number below `count` that is not in the set, or `count`.
@@ -124,33 +113,22 @@ fn lowest_missing(set: Set, count: u8) -> u8
 }
 
 // Productive first, then used through productive productions only: where the start is not productive, nothing is useful.
-fn first_useless(names: &[u64], lefts: &[u64], count: usize, nonterminals: u8, start: u8) -> u8
-    requires { ⌜ count ≤ 128 ⌝ }
+pub(crate) fn first_useless(
+    names: &mut [u64],
+    lefts: &[u64],
+    count: usize,
+    nonterminals: u8,
+    start: u8,
+) -> u8
+    requires { ⌜ (count ≤ 128) × (length (now names) ≡ 128) ⌝ }
     ensures { λ r. ⌜ ((g : Grammar) → Sides g count (now (names .entry)) (now (lefts .entry)) → nonterminals ≡ g .nonterminals → start ≡ g .start → FirstUseless g r) ⌝ }
 {
     let productive = closure(names, lefts, count, none());
     if has(productive, start) {
-        let kept = productive_names(names, count, productive);
-        let used = closure(lefts, &kept, count, single(start));
+        keep_productive(names, count, productive);
+        let used = closure(lefts, names, count, single(start));
         lowest_missing(used, nonterminals)
     } else {
         0
     }
-}
-
-// The lowest useless nonterminal, or `nonterminals` where there is none.
-pub(crate) fn useless(
-    book: &[u8],
-    places: &[u16],
-    productions: u8,
-    nonterminals: u8,
-    start: u8,
-) -> u8
-    requires { ⌜ productions ≤ 128 ⌝ }
-    ensures { λ r. ⌜ ((g : Grammar) → Indexed (now (book .entry)) (now (places .entry)) productions nonterminals start g → FirstUseless g r) ⌝ }
-{
-    let count = productions as usize;
-    let names = right_names(book, places, count);
-    let lefts = left_names(book, places, count);
-    first_useless(&names, &lefts, count, nonterminals, start)
 }

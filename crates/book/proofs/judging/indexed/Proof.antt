@@ -1,9 +1,7 @@
 -- The lowest useless nonterminal decides between refusal 6 and the index.
 use native.Mathlib.Omega.{arith}
 use borrow.Author.Needs.{needs}
-use Rattle.book.proofs.Index.{header-productions}
-use Rattle.book.proofs.Outcome.{header-indexed, judged-useless, judged-served}
-use Rattle.book.proofs.Written.{read-limits}
+use Rattle.book.proofs.Outcome.{header-counted, survey-decides, judged-useless, judged-served}
 use Rattle.book.proofs.judging.indexed.Statement.{statement}
 use Rattle.book.proofs.judging.indexed.Tie as tie
 
@@ -16,14 +14,38 @@ byte-at-requires-2 c κs = search needs
 byte-at-requires-3 : tie.Need-byte-at-requires-3
 byte-at-requires-3 c κs = search needs
 
-places-requires : tie.Need-places-requires
-places-requires c κs = search needs
+cells-for-requires : tie.Need-cells-for-requires
+cells-for-requires c κs = search needs
 
-slice-aggregate-useless : tie.Need-slice-aggregate-useless
-slice-aggregate-useless c = search needs
+slice-aggregate-survey : tie.Need-slice-aggregate-survey
+slice-aggregate-survey c = search needs
 
-useless-requires : tie.Need-useless-requires
-useless-requires c κs = omega (arith, c .before .before .byte-at3 .ensures, header-productions _ (c .before .before .before .before .before .before .pre .1), read-limits _ (c .before .before .before .before .before .before .pre .1) .productions-fit)
+slice-aggregate-survey-2 : tie.Need-slice-aggregate-survey-2
+slice-aggregate-survey-2 c = search needs
+
+slice-aggregate-survey-3 : tie.Need-slice-aggregate-survey-3
+slice-aggregate-survey-3 c = search needs
+
+survey-requires : tie.Need-survey-requires
+survey-requires c κs = (
+  record {
+    grammar = c .before .before .before .before .before .before .before .before .pre .0;
+    read = c .before .before .before .before .before .before .before .before .pre .1;
+    counted = header-counted _ (c .before .before .before .before .before .before .before .before .pre .1) (c .before .before .before .before .byte-at3 .ensures) (c .before .before .before .cells-for .ensures);
+  },
+  search needs,
+  search needs,
+  search needs,
+)
+
+slice-aggregate-first-useless : tie.Need-slice-aggregate-first-useless
+slice-aggregate-first-useless c = search needs
+
+slice-aggregate-first-useless-2 : tie.Need-slice-aggregate-first-useless-2
+slice-aggregate-first-useless-2 c = search needs
+
+first-useless-requires : tie.Need-first-useless-requires
+first-useless-requires c κs = (omega (arith, c .before .before .before .before .before .before .before .before .before .cells-for .ensures), c .before .before .before .before .before .survey .ensures .named .size)
 
 cast-refusal : tie.Need-cast-refusal
 cast-refusal c = search needs
@@ -36,8 +58,8 @@ refusing-requires c κs = search needs
 
 returns : tie.Need-returns
 returns c =
-    let index = header-indexed _ (c .before .before .before .before .before .before .before .before .before .before .pre .1) (c .before .before .before .before .before .before .before .before .byte-at .ensures) (c .before .before .before .before .before .before .before .byte-at2 .ensures) (c .before .before .before .before .before .before .byte-at3 .ensures) (c .before .before .before .before .before .places .ensures) in
-    rw (c .refusing .ensures, c .before .refusal .ensures) (judged-useless index (c .before .before .before .useless .ensures _ index) (c .before .before .if1 .taken))
+    let decided = survey-decides _ (c .before .before .before .before .before .before .before .before .before .before .before .before .before .before .before .before .before .before .before .pre .1) (c .before .before .before .before .before .before .before .before .before .before .before .before .before .before .before .before .before .byte-at .ensures) (c .before .before .before .before .before .before .before .before .before .before .before .before .before .before .before .before .byte-at2 .ensures) (c .before .before .before .before .before .before .before .before .before .before .before .before .before .before .before .byte-at3 .ensures) (c .before .before .before .before .before .before .before .before .before .before .before .before .before .before .cells-for .ensures) (c .before .before .before .before .before .before .before .before .before .before .survey .ensures) (c .before .before .before .before .first-useless .ensures) in
+    rw (c .refusing .ensures, c .before .refusal .ensures) (judged-useless (decided .0) (decided .1) (c .before .before .if1 .taken))
 
 done-requires : tie.Need-done-requires
 done-requires c κs = search needs
@@ -47,8 +69,8 @@ byte-at-requires-4 c κs = search needs
 
 returns-2 : tie.Need-returns-2
 returns-2 c =
-    let index = header-indexed _ (c .before .before .before .before .before .before .before .before .before .before .pre .1) (c .before .before .before .before .before .before .before .before .byte-at .ensures) (c .before .before .before .before .before .before .before .byte-at2 .ensures) (c .before .before .before .before .before .before .byte-at3 .ensures) (c .before .before .before .before .before .places .ensures) in
-    judged-served index (c .before .before .before .useless .ensures _ index) (c .before .before .if1 .left) (c .byte-at4 .ensures) (c .before .done .ensures)
+    let decided = survey-decides _ (c .before .before .before .before .before .before .before .before .before .before .before .before .before .before .before .before .before .before .before .pre .1) (c .before .before .before .before .before .before .before .before .before .before .before .before .before .before .before .before .before .byte-at .ensures) (c .before .before .before .before .before .before .before .before .before .before .before .before .before .before .before .before .byte-at2 .ensures) (c .before .before .before .before .before .before .before .before .before .before .before .before .before .before .before .byte-at3 .ensures) (c .before .before .before .before .before .before .before .before .before .before .before .before .before .before .cells-for .ensures) (c .before .before .before .before .before .before .before .before .before .before .survey .ensures) (c .before .before .before .before .first-useless .ensures) in
+    judged-served (decided .0) (decided .1) (c .before .before .if1 .left) (c .byte-at4 .ensures) (c .before .done .ensures)
 
 pub indexed-spec : {M : Type 1} → statement M
 indexed-spec =
@@ -57,9 +79,14 @@ indexed-spec =
     byte-at-requires
     byte-at-requires-2
     byte-at-requires-3
-    places-requires
-    slice-aggregate-useless
-    useless-requires
+    cells-for-requires
+    slice-aggregate-survey
+    slice-aggregate-survey-2
+    slice-aggregate-survey-3
+    survey-requires
+    slice-aggregate-first-useless
+    slice-aggregate-first-useless-2
+    first-useless-requires
     cast-refusal
     refusal-requires
     refusing-requires

@@ -1,39 +1,167 @@
--- The six bytes in order.
+-- The six bytes in order: the first that is missing or wrong decides.
+use mathlib.Core.Path.{sym, _∙_}
+use Prim.Native.Nat.{_+_}
+use native.Mathlib.Omega.{arith}
 use borrow.Author.Needs.{needs}
-use Rattle.book.specs.Positional.{headerFrom}
+use Rattle.book.proofs.Guards.{told-right, told-wrong, told-inside}
+use Rattle.book.proofs.Heads.{header-first, header-second, header-third, header-fourth, header-fifth, header-sixth, header-whole}
 use Rattle.book.proofs.spelling.header.Statement.{statement}
 use Rattle.book.proofs.spelling.header.Tie as tie
 
-marked-requires : tie.Need-marked-requires
-marked-requires c κs = search needs
+add-is-within : tie.Need-add-is-within
+add-is-within c = search needs
 
-want-requires : tie.Need-want-requires
-want-requires c κs = search needs
+is-within-requires : tie.Need-is-within-requires
+is-within-requires c κs = search needs
 
-want-requires-2 : tie.Need-want-requires-2
-want-requires-2 c κs = search needs
+refused-requires : tie.Need-refused-requires
+refused-requires c κs = search needs
+
+returns : tie.Need-returns
+returns c =
+    c .refused .ensures
+    ∙ sym
+    (header-first
+    (c .before .before .before .before .args .book .now)
+    (c .before .before .before .before .args .at)
+    (told-wrong (c .before .before .is-within .ensures) (c .before .if1 .taken)))
+
+add-is-within-2 : tie.Need-add-is-within-2
+add-is-within-2 c = search needs
+
+is-within-requires-2 : tie.Need-is-within-requires-2
+is-within-requires-2 c κs = search needs
+
+refused-requires-2 : tie.Need-refused-requires-2
+refused-requires-2 c κs = search needs
+
+returns-2 : tie.Need-returns-2
+returns-2 c =
+    c .refused2 .ensures
+    ∙ sym
+    (header-second
+    (c .before .before .before .before .before .before .args .book .now)
+    (c .before .before .before .before .before .before .args .at)
+    (told-right (c .before .before .before .before .is-within .ensures) (c .before .before .before .if1 .left))
+    (told-wrong (c .before .before .is-within2 .ensures) (c .before .if2 .taken)))
+
+is-within-requires-3 : tie.Need-is-within-requires-3
+is-within-requires-3 c κs = search needs
+
+refused-requires-3 : tie.Need-refused-requires-3
+refused-requires-3 c κs = search needs
+
+returns-3 : tie.Need-returns-3
+returns-3 c =
+    c .refused3 .ensures
+    ∙ sym
+    (header-third
+    (c .before .before .before .before .before .before .before .before .args .book .now)
+    (c .before .before .before .before .before .before .before .before .args .at)
+    (told-right (c .before .before .before .before .before .before .is-within .ensures) (c .before .before .before .before .before .if1 .left))
+    (told-right (c .before .before .before .before .is-within2 .ensures) (c .before .before .before .if2 .left))
+    (told-wrong (c .before .before .is-within3 .ensures) (c .before .if3 .taken)))
+
+is-within-requires-4 : tie.Need-is-within-requires-4
+is-within-requires-4 c κs = search needs
+
+refused-requires-4 : tie.Need-refused-requires-4
+refused-requires-4 c κs = search needs
+
+returns-4 : tie.Need-returns-4
+returns-4 c =
+    c .refused4 .ensures
+    ∙ sym
+    (header-fourth
+    (c .before .before .before .before .before .before .before .before .before .before .args .book .now)
+    (c .before .before .before .before .before .before .before .before .before .before .args .at)
+    (told-right (c .before .before .before .before .before .before .before .before .is-within .ensures) (c .before .before .before .before .before .before .before .if1 .left))
+    (told-right (c .before .before .before .before .before .before .is-within2 .ensures) (c .before .before .before .before .before .if2 .left))
+    (told-right (c .before .before .before .before .is-within3 .ensures) (c .before .before .before .if3 .left))
+    (told-wrong (c .before .before .is-within4 .ensures) (c .before .if4 .taken)))
 
 byte-at-requires : tie.Need-byte-at-requires
 byte-at-requires c κs = search needs
 
-want-requires-3 : tie.Need-want-requires-3
-want-requires-3 c κs = search needs
+is-within-requires-5 : tie.Need-is-within-requires-5
+is-within-requires-5 c κs = search needs
 
-want-requires-4 : tie.Need-want-requires-4
-want-requires-4 c κs = search needs
+refused-requires-5 : tie.Need-refused-requires-5
+refused-requires-5 c κs = search needs
 
-returns : tie.Need-returns
-unfolding headerFrom
-returns c = simp (c .want4 .ensures, c .before .want3 .ensures, c .before .before .byte-at .ensures, c .before .before .before .want2 .ensures, c .before .before .before .before .want .ensures, c .before .before .before .before .before .marked .ensures)
+returns-5 : tie.Need-returns-5
+returns-5 c =
+    c .refused5 .ensures
+    ∙ sym
+    (header-fifth
+    (c .before .before .before .before .before .before .before .before .before .before .before .before .before .args .book .now)
+    (c .before .before .before .before .before .before .before .before .before .before .before .before .before .args .at)
+    (told-right (c .before .before .before .before .before .before .before .before .before .before .before .is-within .ensures) (c .before .before .before .before .before .before .before .before .before .before .if1 .left))
+    (told-right (c .before .before .before .before .before .before .before .before .before .is-within2 .ensures) (c .before .before .before .before .before .before .before .before .if2 .left))
+    (told-right (c .before .before .before .before .before .before .before .is-within3 .ensures) (c .before .before .before .before .before .before .if3 .left))
+    (told-right (c .before .before .before .before .before .is-within4 .ensures) (c .before .before .before .before .if4 .left))
+    (rw (c .before .before .before .byte-at .ensures) at (told-wrong (c .before .before .is-within5 .ensures) (c .before .if5 .taken))))
+
+is-within-requires-6 : tie.Need-is-within-requires-6
+is-within-requires-6 c κs = search needs
+
+refused-requires-6 : tie.Need-refused-requires-6
+refused-requires-6 c κs = search needs
+
+returns-6 : tie.Need-returns-6
+returns-6 c =
+    c .refused6 .ensures
+    ∙ sym
+    (header-sixth
+    (c .before .before .before .before .before .before .before .before .before .before .before .before .before .before .before .args .book .now)
+    (c .before .before .before .before .before .before .before .before .before .before .before .before .before .before .before .args .at)
+    (told-right (c .before .before .before .before .before .before .before .before .before .before .before .before .before .is-within .ensures) (c .before .before .before .before .before .before .before .before .before .before .before .before .if1 .left))
+    (told-right (c .before .before .before .before .before .before .before .before .before .before .before .is-within2 .ensures) (c .before .before .before .before .before .before .before .before .before .before .if2 .left))
+    (told-right (c .before .before .before .before .before .before .before .before .before .is-within3 .ensures) (c .before .before .before .before .before .before .before .before .if3 .left))
+    (told-right (c .before .before .before .before .before .before .before .is-within4 .ensures) (c .before .before .before .before .before .before .if4 .left))
+    (rw (c .before .before .before .before .before .byte-at .ensures) at (told-right (c .before .before .before .before .is-within5 .ensures) (c .before .before .before .if5 .left)))
+    (told-wrong (c .before .before .is-within6 .ensures) (c .before .if6 .taken)))
+
+add-t6 : tie.Need-add-t6
+add-t6 c = omega (arith, told-inside (c .before .before .before .before .before .before .before .before .before .before .before .before .before .before .args .book .now) 1 129 (c .before .before .before .before .before .before .before .before .before .before .before .before .before .before .args .at + 5) (c .before .is-within6 .ensures) (c .if6 .left))
+
+returns-7 : tie.Need-returns-7
+returns-7 c =
+    sym
+    (header-whole
+    (c .before .before .before .before .before .before .before .before .before .before .before .before .before .before .args .book .now)
+    (c .before .before .before .before .before .before .before .before .before .before .before .before .before .before .args .at)
+    (told-right (c .before .before .before .before .before .before .before .before .before .before .before .before .is-within .ensures) (c .before .before .before .before .before .before .before .before .before .before .before .if1 .left))
+    (told-right (c .before .before .before .before .before .before .before .before .before .before .is-within2 .ensures) (c .before .before .before .before .before .before .before .before .before .if2 .left))
+    (told-right (c .before .before .before .before .before .before .before .before .is-within3 .ensures) (c .before .before .before .before .before .before .before .if3 .left))
+    (told-right (c .before .before .before .before .before .before .is-within4 .ensures) (c .before .before .before .before .before .if4 .left))
+    (rw (c .before .before .before .before .byte-at .ensures) at (told-right (c .before .before .before .is-within5 .ensures) (c .before .before .if5 .left)))
+    (told-right (c .before .is-within6 .ensures) (c .if6 .left)))
 
 pub header-spec : {M : Type 1} → statement M
 header-spec =
     tie.close
     (tie.spec
-    marked-requires
-    want-requires
-    want-requires-2
+    add-is-within
+    is-within-requires
+    refused-requires
+    returns
+    add-is-within-2
+    is-within-requires-2
+    refused-requires-2
+    returns-2
+    is-within-requires-3
+    refused-requires-3
+    returns-3
+    is-within-requires-4
+    refused-requires-4
+    returns-4
     byte-at-requires
-    want-requires-3
-    want-requires-4
-    returns)
+    is-within-requires-5
+    refused-requires-5
+    returns-5
+    is-within-requires-6
+    refused-requires-6
+    returns-6
+    add-t6
+    returns-7)

@@ -1,40 +1,63 @@
--- The invariant: what is left comes to what the whole comes to.
-use mathlib.Core.Path.{_≡_, sym, _∙_}
+-- The invariant: the bytes that are left come to what the whole comes to.
+use mathlib.Core.Path.{_≡_, refl, sym, _∙_}
 use Prim.Native.Nat.{_-_, _≤_}
-use native.Mathlib.Nat.{sub-zero}
+use borrow.Author.Tests.{not-true, not-false}
 use borrow.Author.Needs.{needs}
+use Rattle.book.specs.declared.Verdict.the-variants.{Next}
 use Rattle.book.specs.Positional.{symbolsFrom}
-use Rattle.book.proofs.Turns.{symbols-turn, symbols-over}
+use Rattle.book.proofs.Turns.{symbols-over}
+use Rattle.book.proofs.Guards.{symbols-go, symbols-stop}
 use Rattle.book.proofs.spelling.symbols.Statement.{statement}
 use Rattle.book.proofs.spelling.symbols.Tie as tie
 
 abbrev Inv-loop : tie.InvT-loop
-Inv-loop book t n length v₀ i₀ v i =
-    (i ≤ length) × (symbolsFrom book t n (length - i) v ≡ symbolsFrom book t n length v₀)
+Inv-loop book from last t n at₀ at =
+    (at ≤ last) × (symbolsFrom book t n (last - at) (Next at) ≡ symbolsFrom book t n (last - from) (Next from))
 
 abbrev μ-loop : tie.MeasureT-loop
-μ-loop book t n length v₀ i₀ v i = length - i
+μ-loop book from last t n at₀ at = last - at
 
 loop-holds : tie.Need-loop-holds Inv-loop μ-loop
-loop-holds c = (search needs, rw sub-zero)
+loop-holds c = (search needs, refl)
 
-symbol-requires : tie.Need-symbol-requires Inv-loop μ-loop
-symbol-requires c κs = search needs
+shared-slice-read-is-symbol : tie.Need-shared-slice-read-is-symbol Inv-loop μ-loop
+shared-slice-read-is-symbol c = search needs
 
-add-i : tie.Need-add-i Inv-loop μ-loop
-add-i c = search needs
+is-symbol-requires : tie.Need-is-symbol-requires Inv-loop μ-loop
+is-symbol-requires c κs = search needs
+
+returns : tie.Need-returns Inv-loop μ-loop
+returns c =
+    sym (symbols-stop _ _ _ _ _ (c .before .before .before .loop-test .taken) (c .before .before .before .before .before .before .pre .1) (sym (c .before .is-symbol .ensures) ∙ not-true _ (c .if1 .taken)))
+    ∙ c .before .before .before .before .loop .inv .1
+
+add-at : tie.Need-add-at Inv-loop μ-loop
+add-at c = search needs
 
 loop-less : tie.Need-loop-less Inv-loop μ-loop
 loop-less c = search needs
 
 loop-again : tie.Need-loop-again Inv-loop μ-loop
-loop-again c = (search needs, rw (c .symbol .ensures) (sym (symbols-turn _ _ _ _ _ _ (c .before .loop-test .taken)) ∙ c .before .before .loop .inv .1))
+loop-again c = (
+  search needs,
+  sym (symbols-go _ _ _ _ _ (c .before .before .before .loop-test .taken) (c .before .before .before .before .before .before .pre .1) (sym (c .before .is-symbol .ensures) ∙ not-false _ (c .if1 .left)))
+      ∙ c .before .before .before .before .loop .inv .1,
+)
 
-returns : tie.Need-returns Inv-loop μ-loop
-unfolding symbolsFrom
-returns c = sym (symbols-over _ _ _ _ _ _ (c .loop-test .left)) ∙ c .before .loop .inv .1
+returns-2 : tie.Need-returns-2 Inv-loop μ-loop
+returns-2 c = sym (symbols-over _ _ _ _ _ _ (c .loop-test .left)) ∙ c .before .loop .inv .1
 
 pub symbols-spec : {M : Type 1} → statement M
 symbols-spec =
     tie.close
-    (tie.spec Inv-loop μ-loop loop-holds symbol-requires add-i loop-less loop-again returns)
+    (tie.spec
+    Inv-loop
+    μ-loop
+    loop-holds
+    shared-slice-read-is-symbol
+    is-symbol-requires
+    returns
+    add-at
+    loop-less
+    loop-again
+    returns-2)

@@ -15,11 +15,8 @@ closure-requires c κs = search needs
 has-requires : tie.Need-has-requires
 has-requires c κs = search needs
 
-productive-names-requires : tie.Need-productive-names-requires
-productive-names-requires c κs = search needs
-
-slice-aggregate-closure : tie.Need-slice-aggregate-closure
-slice-aggregate-closure c = search needs
+keep-productive-requires : tie.Need-keep-productive-requires
+keep-productive-requires c κs = search needs
 
 single-requires : tie.Need-single-requires
 single-requires c κs = search needs
@@ -30,12 +27,18 @@ closure-requires-2 c κs = search needs
 lowest-missing-requires : tie.Need-lowest-missing-requires
 lowest-missing-requires c κs = search needs
 
+same-length : tie.Need-same-length
+same-length c = search needs
+
 returns : tie.Need-returns
 returns c = λ g sides numbered started.
-    let productive = productive-exactly sides (rw (none-is (c .before .before .before .before .before .before .before .before .none .ensures)) at (c .before .before .before .before .before .before .before .closure .ensures)) in
-    let starts = rw started at (sym (c .before .before .before .before .before .before .has .ensures) ∙ c .before .before .before .before .before .if1 .taken) in
+    let productive = productive-exactly sides (rw (none-is (c .before .before .before .before .before .before .before .before .before .before .before .none .ensures)) at (c .before .before .before .before .before .before .before .before .before .before .closure .ensures)) in
+    let starts = rw started at (sym (c .before .before .before .before .before .before .before .before .before .has .ensures) ∙ c .before .before .before .before .before .before .before .before .if1 .taken) in
     let one = rw started at (c .before .before .single .ensures) in
-    lowest-useless (useful-exactly sides productive (c .before .before .before .before .productive-names .ensures) one starts (c .before .closure2 .ensures)) (rw numbered at (c .lowest-missing .ensures))
+    lowest-useless (useful-exactly sides productive (c .before .before .before .before .before .before .keep-productive .ensures) one starts (c .before .closure2 .ensures)) (rw numbered at (c .lowest-missing .ensures))
+
+same-length-2 : tie.Need-same-length-2
+same-length-2 c = search needs
 
 returns-2 : tie.Need-returns-2
 returns-2 c = λ g sides numbered started.
@@ -49,10 +52,11 @@ first-useless-spec =
     none-requires
     closure-requires
     has-requires
-    productive-names-requires
-    slice-aggregate-closure
+    keep-productive-requires
     single-requires
     closure-requires-2
     lowest-missing-requires
+    same-length
     returns
+    same-length-2
     returns-2)
