@@ -11,11 +11,7 @@ use Rattle.book.proofs.Promise.{judged-unique}
 use Rattle.table.specs.declared.SetAnswer.{SetAnswer}
 use Rattle.table.specs.Calls.{over}
 use Rattle.table.proofs.Promise.{Unique}
-use Rattle.desk.specs.Desk.{answerBytes, Lent, LentCell, JudgeOutcome, SetOutcome, Called, short, answered}
-
-first-written : (cells : List ℕ) (n : ℕ) → 1 ≤ length cells → set cells 0 n ≡ over (n ∷ []) cells
-first-written [] n h = absurd (omega arith)
-first-written (x ∷ cells) n h = refl
+use Rattle.desk.specs.Desk.{answerBytes, LentCell, JudgeOutcome, SetOutcome, Called, short, answered}
 
 -- the answer whose number is returned and whose bytes are written
 pub record AnswerOf {Buffers : Type 0} (Outcome : Answer → Buffers → Type 0) (answer : List ℕ) (n : ℕ) (after : Buffers) (answer′ : List ℕ) : Type 0 where
@@ -43,12 +39,6 @@ module _ {Buffers Enough : Type 0} {Outcome : Answer → Buffers → Type 0} {be
   called-unique same (answered {a = a} {after = x} l o) (answered {a = b} {after = y} k p) =
       let e : _≡_ {A = Answer × Buffers} (a, x) (b, y) = same (a, x) (b, y) o p in
       (ap (λ (r : Answer × Buffers). r .0 .number) e, ap (λ (r : Answer × Buffers). r .1) e, ap (λ (r : Answer × Buffers). over (answerBytes (r .0)) answer) e)
-
--- a set is written into the first cell of its buffer, and the answer over the answer buffer
-pub set-call : {Told : SetAnswer → Type 0} (r : SetAnswer) (cells : List ℕ) {answer answer′ : List ℕ} → 1 ≤ length cells → Lent answer → Told r → answer′ ≡ over (answerBytes (r .answer)) answer
-    → Called (LentCell cells answer) (SetOutcome Told cells) cells answer (r .answer .number) (set cells 0 (number (r .set))) answer′
-set-call r cells cell bytes outcome written =
-    answered-call (r .answer) (record { cell = cell; bytes = bytes }) (record { told = r; outcome = outcome; answer = refl; written = first-written cells (number (r .set)) cell }) written
 
 -- the same of calls that lend two other buffers
 pub two-unique : {Enough : Type 0} (Outcome : Answer → List ℕ → List ℕ → Type 0) {before : List ℕ × List ℕ} {answer : List ℕ}
@@ -79,3 +69,13 @@ pub judge-outcome-unique : (book : List ℕ) → Unique (λ (x : Answer × Unit 
 judge-outcome-unique book x y o p =
     let same : x .0 ≡ y .0 = sym (o .answer) ∙ ap (λ (r : Reading). r .answer) (judged-unique (o .judged) (p .judged)) ∙ p .answer in
     λ i. (same i, tt)
+
+first-written : (cells : List ℕ) (n : ℕ) → 1 ≤ length cells → set cells 0 n ≡ over (n ∷ []) cells
+first-written [] n h = absurd (omega arith)
+first-written (x ∷ cells) n h = refl
+
+-- a set is written into the first cell of its buffer, and the answer over the answer buffer
+pub set-call : {Told : SetAnswer → Type 0} (r : SetAnswer) {cells answer answer′ : List ℕ} → LentCell cells answer → Told r → answer′ ≡ over (answerBytes (r .answer)) answer
+    → Called (LentCell cells answer) (SetOutcome Told cells) cells answer (r .answer .number) (set cells 0 (number (r .set))) answer′
+set-call r {cells} lent outcome written =
+    answered-call (r .answer) lent (record { told = r; outcome = outcome; answer = refl; written = first-written cells (number (r .set)) (lent .cell) }) written

@@ -28,7 +28,8 @@ same-length-2 : tie.Need-same-length-2
 same-length-2 c = search needs
 
 returns-2 : tie.Need-returns-2
-returns-2 c = record { call = set-call (c .before .before .before .before .before .before .first-of .result) (c .before .before .before .before .before .before .before .before .before .before .before .before .before .args .set .now) (omega arith) (omega (arith, answerSize-is, ltb-false)) (c .before .before .before .before .before .before .first-of .ensures) (c .before .before .write-answer .ensures) }
+returns-2 c =
+    record { call = set-call (c .before .before .before .before .before .before .first-of .result) (record { cell = omega arith; bytes = omega (arith, answerSize-is, ltb-false) }) (c .before .before .before .before .before .before .first-of .ensures) (c .before .before .write-answer .ensures) }
 
 pub desk-first-of-spec : {M : Type 1} → statement M
 desk-first-of-spec =

@@ -40,7 +40,7 @@ loop-again : tie.Need-loop-again Inv-loop μ-loop
 loop-again c = (
   search needs,
   simp length-set (c .before .loop .inv .1),
-  rw (littleEndian-next 8 (c .before .loop .i) (c .before .loop .out) (c .before .before .args .at) (c .before .loop .rest) (c .loop-test .taken)) at (c .before .loop .inv .2),
+  rw (littleEndian-next 8 (c .before .loop .i) (c .before .loop .out) (c .before .before .args .at) (c .before .loop .rest) (omega arith)) at (c .before .loop .inv .2),
 )
 
 same-length : tie.Need-same-length Inv-loop μ-loop
