@@ -9,6 +9,7 @@ use native.Mathlib.Nat.{div-lt-iff-lt-mul}
 use native.Mathlib.Omega.{arith}
 use lib.Dec.{eqb}
 use lib.ListN.{length, getD, getElem?}
+use borrow.Author.Count.{below-more}
 use borrow.Author.Tests.{eqb-true, eq-eqb}
 use Rattle.grammar.specs.Grammar.{Form, Production, Grammar, Rule}
 use Rattle.sets.proofs.Promise.{decided}
@@ -90,3 +91,7 @@ module _ {o : Outline} {g : Grammar} (sized : Outlines o g) {table tokens stack 
 
       pub check-done : length tokens ≤ k → length stack ≢ 0 → r ≡ done 0 → Checked g table tokens stack r
       check-done all other e = rw e (admitted (record { fits = fit-table (sizes ∙ size-of ∙ size-is sized) first over; short = short; known = λ j l. rw (sized .tokens) (above .earlier j (omega arith)); stacked = omega arith }))
+
+-- the highest of the tokens passed and the next one
+pub highest-turn : (tokens : List ℕ) {i m n : ℕ} → ((j : ℕ) → j < i → getD tokens j 0 ≤ m) → m ≤ n → getD tokens i 0 ≤ n → (j : ℕ) → j < i + 1 → getD tokens j 0 ≤ n
+highest-turn tokens {i} {m} {n} all more here = below-more (λ (j : ℕ). getD tokens j 0 ≤ n) i (λ j h. omega (arith, all j h)) here

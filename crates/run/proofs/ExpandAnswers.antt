@@ -18,7 +18,7 @@ use Rattle.book.specs.declared.Answer.{Answer}
 use Rattle.book.specs.declared.Reading.{Reading}
 use Rattle.run.specs.Expanding.{expansion, answeredBy, ExpandOutcome, refused, too-long, no-stack, ended, Counted}
 use Rattle.run.specs.Expansion.{Ending, complete, unfit, full-stack, full-output, Expanded}
-use Rattle.run.specs.Moves.{outlined}
+use Rattle.run.specs.Moves.{outlineIn, outlined}
 use Rattle.run.specs.Room.{rightOf, isOf}
 use Rattle.run.specs.Running.{counted, cleared}
 use Rattle.run.specs.Turns.{finaleOf, unfolded, Unfolds, closing, ExpandedOn}
@@ -26,7 +26,7 @@ use Rattle.run.specs.declared.Finale.the-variants.{Complete}
 use Rattle.run.specs.declared.Finale.{Finale}
 use Rattle.run.specs.declared.Unfolding.{Unfolding}
 use Rattle.run.proofs.ExpandTheorems.{expand-steps}
-use Rattle.run.proofs.Records.{outlineIn, reading-grammar}
+use Rattle.run.proofs.Records.{reading-grammar}
 
 -- each finale has its answer
 pub closing-done : {f : Finale} (used steps : ℕ) {r : Answer} → r ≡ done steps → f ≡ Complete → r ≡ closing f used steps

@@ -37,6 +37,7 @@ pub mod Idle
 pub mod Stacked
 pub mod Deciding
 pub mod Records
+pub mod Gathering
 pub mod Choosing
 pub mod Holding
 pub mod Turning

@@ -15,7 +15,7 @@ use Rattle.book.specs.Fields.{symbolAt}
 use Rattle.book.specs.Judging.{indexOf, Serves}
 use Rattle.book.specs.declared.Reading.{Reading}
 use Rattle.run.specs.Index.{symbolsFrom, productionAt, productionsFrom, grammarIn}
-use Rattle.run.specs.Moves.{outlined, Outlines}
+use Rattle.run.specs.Moves.{outlineIn, outlined, Outlines}
 use Rattle.run.specs.Room.{rightOf, isOf}
 use Rattle.run.specs.declared.Outline.{Outline}
 
@@ -86,10 +86,6 @@ index-grammar {book} {g} serves =
     let found : productionsFrom book (indexOf g .places) (indexOf g .productions) 0 ≡ g .productions = ap (λ (n : ℕ). productionsFrom book (indexOf g .places) n 0) (s .productions) ∙ productions-are book (indexOf g .places) (g .productions) 0 (λ k r e. ap (λ (j : ℕ). productionAt book (getD (indexOf g .places) j 0)) (zero-add k) ∙ entry-production r (s .entry (record { at = e }))) in
     let same-start : indexOf g .start % 128 ≡ g .start = ap (λ (n : ℕ). n % 128) (s .start) ∙ mod-eq-of-lt start-fits in
     λ i. record { tokens = s .tokens i; nonterminals = s .nonterminals i; start = same-start i; productions = found i }
-
--- the outline of a reading
-abbrev pub outlineIn : Reading → Outline
-outlineIn r = record { tokens = r .tokens; nonterminals = r .nonterminals; start = r .start; productions = r .productions }
 
 pub reading-grammar : {book : List ℕ} {g : Grammar} {r : Reading} → Serves book g → r ≡ indexOf g → outlined book (r .places) (outlineIn r) ≡ g
 unfolding outlined grammarIn

@@ -18,7 +18,7 @@ use Rattle.run.specs.Beside.{Shown}
 use Rattle.run.specs.Checking.{Checked, barred, admitted}
 use Rattle.run.specs.Judged.{JudgedRun, ended, Ran, AccountedOn, Accounted}
 use Rattle.run.specs.Machine.{State, Offered, taken, stopped}
-use Rattle.run.specs.Moves.{outlined, Outlines}
+use Rattle.run.specs.Moves.{outlineIn, outlined, Outlines}
 use Rattle.run.specs.Offering.{progressOf, reported, leaves}
 use Rattle.run.specs.Room.{rightOf}
 use Rattle.run.specs.Running.{counted, Barred, bad-table, too-long, strange, no-stack, Admits, expected, answered, matchedBy, ran, RunOutcome, wordsOf, BesideOutcome}
@@ -27,7 +27,7 @@ use Rattle.run.specs.declared.Outline.{Outline}
 use Rattle.run.specs.declared.Progress.{Progress}
 use Rattle.run.specs.declared.Reply.{Reply}
 use Rattle.run.proofs.Count.{Counted}
-use Rattle.run.proofs.Records.{outlineIn, reading-grammar}
+use Rattle.run.proofs.Records.{reading-grammar}
 use Rattle.run.proofs.RunTheorems.{run-steps, run-inside}
 use Rattle.run.proofs.Steps.{final-leaves}
 

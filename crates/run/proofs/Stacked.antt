@@ -3,14 +3,13 @@ use mathlib.Core.Path.{_≡_, refl, sym, _∙_, ap}
 use mathlib.Core.List.{List, [], _∷_, _++_, append-assoc}
 use Prim.Native.Nat.{ℕ, zero, suc, _+_, _-_, _≤_, _<_, max}
 use native.Mathlib.Decide.{decLt}
-use native.Mathlib.Nat.{add-zero, add-suc, zero-add, suc-add}
+use native.Mathlib.Nat.{add-zero, add-suc, suc-add}
 use native.Mathlib.Numerals.{add-one}
 use native.Mathlib.Omega.{arith}
 use lib.ListN.{length, getD, take, drop, set, replicate, take-append-drop, length-append, length-drop, length-replicate}
-use lib.Seq.{sets, set-at, getD-at, drop-cons, take-suc, drop-at}
+use lib.Seq.{sets, set-comm, set-at, getD-at, drop-cons, take-suc, drop-at}
 use borrow.Author.Tests.{lt-ltb, le-ltb}
 use Rattle.grammar.specs.Grammar.{Form, Every, nothing, each}
-use Rattle.grammar.specs.declared.Symbol.the-variants.{Token, Nonterminal}
 use Rattle.grammar.specs.declared.Symbol.{Symbol}
 use Rattle.book.specs.Fields.{symbolOfByte, symbolAt}
 use Rattle.run.specs.Index.{symbolsFrom}
@@ -25,18 +24,6 @@ byte-of-symbol b = go (decLt b 128)
     go : Dec (b < 128) → byteOf (symbolOfByte b) ≡ b
     go (yes h) = rw (lt-ltb b 128 h, symbolOfByte, byteOf)
     go (no n) = let h : 128 ≤ b = omega arith in rw (le-ltb b 128 h, symbolOfByte, byteOf) (omega arith)
-
-pub token-byte : {x y : Symbol} {t : ℕ} → x ≡ y → x ≡ Token t → t ≡ byteOf y
-unfolding byteOf
-token-byte e f = rw (sym e ∙ f)
-
-pub nonterminal-byte : {x y : Symbol} {A : ℕ} → x ≡ y → x ≡ Nonterminal A → 128 + A ≡ byteOf y
-unfolding byteOf
-nonterminal-byte e f = rw (sym e ∙ f)
-
--- a nonterminal that a byte spells has a byte
-pub nonterminal-fits : {x : Symbol} {A : ℕ} (b : ℕ) → b < 256 → x ≡ symbolOfByte b → x ≡ Nonterminal A → 128 + A < 256
-nonterminal-fits b h e f = omega (arith, nonterminal-byte e f, byte-of-symbol b)
 
 -- the symbol of a byte is spelled by it
 pub byte-spelled : (b : ℕ) → Spelled (symbolOfByte b)
@@ -77,26 +64,33 @@ unfolding spelledBy
 length-spelled cells zero = refl
 length-spelled cells (suc h) = ap suc (length-spelled cells h)
 
--- the last of so many symbols lies lowest
-pub bytes-turn : (book : List ℕ) (at n i : ℕ) → bytesOf (symbolsFrom book at (suc n) i) ≡ byteOf (symbolAt book at (i + n)) ∷ bytesOf (symbolsFrom book at n i)
-unfolding bytesOf symbolsFrom
-bytes-turn book at zero i = rw (add-zero i)
-bytes-turn book at (suc n) i = ap (λ (bs : List ℕ). bs ++ (byteOf (symbolAt book at i) ∷ [])) (bytes-turn book at n (suc i)) ∙ rw (add-suc i n, suc-add i n)
-
--- a loop that counts the symbols down puts them on the stack
-pub push-turn : (book : List ℕ) (at left : ℕ) (stack : List ℕ) (top v : ℕ) → 0 < left → v ≡ byteOf (symbolAt book at (left - 1)) → sets (set stack top v) (top + 1) (bytesOf (symbolsFrom book at (left - 1) 0)) ≡ sets stack top (bytesOf (symbolsFrom book at left 0))
-push-turn book at zero stack top v h e = absurd (omega arith)
-push-turn book at (suc n) stack top v h e =
-    let one : suc n - 1 ≡ n = omega arith in
-    rw (bytes-turn book at n 0, zero-add n) (rw (e, one, add-one))
-
-pub push-over : (book : List ℕ) (at left : ℕ) (stack : List ℕ) (top : ℕ) → left ≤ 0 → sets stack top (bytesOf (symbolsFrom book at left 0)) ≡ stack
-unfolding symbolsFrom bytesOf
-push-over book at left stack top h = let none : left ≡ 0 = omega arith in rw none
-
 sets-append : (us vs l : List ℕ) (i : ℕ) → sets l i (us ++ vs) ≡ sets (sets l i us) (i + length us) vs
 sets-append [] vs l i = rw (add-zero i)
 sets-append (u ∷ us) vs l i = sets-append us vs (set l i u) (suc i) ∙ rw (add-suc i (length us), suc-add i (length us))
+
+-- a cell above those that are written keeps what it is set to
+set-above : (us l : List ℕ) (i j v : ℕ) → i + length us ≤ j → sets (set l j v) i us ≡ set (sets l i us) j v
+set-above [] l i j v h = refl
+set-above (u ∷ us) l i j v h = ap (λ (m : List ℕ). sets m (suc i) us) (set-comm l j i v u (λ e. omega arith)) ∙ set-above us (set l i u) (suc i) j v (omega arith)
+
+pub push-start : (book : List ℕ) (at height count : ℕ) (stack : List ℕ) → sets stack height (bytesOf (symbolsFrom book at (height + count - height) 0)) ≡ sets stack height (bytesOf (symbolsFrom book at count 0))
+push-start book at height count stack = let same : height + count - height ≡ count = omega arith in rw same
+
+-- a loop that writes the symbols from the top down puts them on the stack
+pub push-turn : (book : List ℕ) (at height top i : ℕ) (stack : List ℕ) {v : ℕ} → height < top → v ≡ byteOf (symbolAt book at i)
+    → sets (set stack (top - 1) v) height (bytesOf (symbolsFrom book at (top - 1 - height) (i + 1))) ≡ sets stack height (bytesOf (symbolsFrom book at (top - height) i))
+unfolding bytesOf symbolsFrom
+push-turn book at height top i stack {v} h e =
+    let rest : List ℕ = bytesOf (symbolsFrom book at (top - 1 - height) (suc i)) in
+    let more : top - height ≡ suc (top - 1 - height) = omega arith in
+    let reach : height + length rest ≡ top - 1 = omega (arith, length-bytes (symbolsFrom book at (top - 1 - height) (suc i)), length-symbols book at (top - 1 - height) (suc i)) in
+    rw (add-one i, more, e)
+    (set-above rest stack height (top - 1) (byteOf (symbolAt book at i)) (omega arith)
+    ∙ sym (sets-append rest (byteOf (symbolAt book at i) ∷ []) stack height ∙ ap (λ (k : ℕ). set (sets stack height rest) k (byteOf (symbolAt book at i))) reach))
+
+pub push-over : (book : List ℕ) (at height top i : ℕ) (stack : List ℕ) → top ≤ height → sets stack height (bytesOf (symbolsFrom book at (top - height) i)) ≡ stack
+unfolding symbolsFrom bytesOf
+push-over book at height top i stack h = let none : top - height ≡ 0 = omega arith in rw none
 
 zeros : (m n : ℕ) → n < m → replicate {A = ℕ} (m - n) 0 ≡ 0 ∷ replicate (m - suc n) 0
 zeros m n h = let one : m - n ≡ suc (m - suc n) = omega arith in ap (λ (k : ℕ). replicate {A = ℕ} k 0) one

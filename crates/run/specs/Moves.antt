@@ -4,11 +4,12 @@ use mathlib.Core.Path.{_≡_}
 use mathlib.Core.Logic.{_≢_}
 use mathlib.Core.List.{List, [], _∷_, _++_}
 use mathlib.Core.Option.{Option, some, none}
-use Prim.Native.Nat.{ℕ, _≤_, _<_, _%_}
+use Prim.Native.Nat.{ℕ, _+_, _≤_, _<_, _%_}
 use lib.ListN.{length, getD}
 use Rattle.grammar.specs.Grammar.{Form, Grammar, Column, token, endmark}
 use Rattle.grammar.specs.declared.Symbol.the-variants.{Token, Nonterminal}
 use Rattle.grammar.specs.declared.Symbol.{Symbol}
+use Rattle.book.specs.declared.Reading.{Reading}
 use Rattle.run.specs.Index.{symbolsFrom, productionsFrom}
 use Rattle.run.specs.Room.{rightOf}
 use Rattle.run.specs.declared.Ahead.the-variants.{Next, End}
@@ -25,6 +26,10 @@ unfoldable pub columnIn : Ahead → Column
 columnIn (Next t) = token t
 columnIn End = endmark
 
+-- the outline of a reading
+abbrev pub outlineIn : Reading → Outline
+outlineIn r = record { tokens = r .tokens; nonterminals = r .nonterminals; start = r .start; productions = r .productions }
+
 -- the grammar of a book whose records stand at these places
 unfoldable pub outlined : (book places : List ℕ) → Outline → Grammar
 outlined book places o = record { tokens = o .tokens; nonterminals = o .nonterminals; start = o .start % 128; productions = productionsFrom book places (o .productions) 0 }
@@ -38,6 +43,18 @@ pub record Outlines (o : Outline) (g : Grammar) : Type 0 where
 pub record RightSide (book places : List ℕ) (o : Outline) (p count : ℕ) : Type 0 where
   pub symbols : rightOf (outlined book places o) p ≡ symbolsFrom book (getD places p 0) count 0
   pub few : count < 256
+
+-- the byte at a distance in the record of each of the first productions, by number, and 0 from there on
+pub record Gathered (book places : List ℕ) (more count : ℕ) (cells : List ℕ) : Type 0 where
+  pub inside : (p : ℕ) → p < count → getD cells p 0 ≡ getD book (getD places p 0 + more) 0
+  pub beyond : (p : ℕ) → count ≤ p → getD cells p 0 ≡ 0
+
+-- the left side of every production, and the length of its right side
+abbrev pub Lefts : (book places : List ℕ) → Outline → List ℕ → Type 0
+Lefts book places o = Gathered book places 2 (o .productions)
+
+abbrev pub Lengths : (book places : List ℕ) → Outline → List ℕ → Type 0
+Lengths book places o = Gathered book places 3 (o .productions)
 
 -- an empty stack faces the column
 pub data Bottom (c : Column) : Ending → Type 0 where

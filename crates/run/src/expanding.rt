@@ -1,15 +1,18 @@
 ghost use mathlib.Core.Path.{_≡_};
 ghost use Prim.Native.Nat.{_+_, _^_, _≤_, _<_};
 ghost use lib.ListN.{length};
-ghost use Rattle.run.specs.Moves.{outlined};
+ghost use Rattle.run.specs.Moves.{outlined, Lefts, Lengths};
 ghost use Rattle.run.specs.Turns.{Unfolds, closing, ExpandedOn};
 ghost use Rattle.run.specs.Expanding.{ExpandOutcome};
 use crate::Finale;
 use crate::Outline;
 use crate::Turn;
 use crate::Unfolding;
+use crate::moves::LEFT;
+use crate::moves::LENGTH;
 use crate::moves::counts;
-use crate::moves::place_at;
+use crate::moves::gather;
+use crate::moves::outline_of;
 use crate::moves::right_length;
 use crate::running::clear;
 use crate::stack::replace;
@@ -18,6 +21,7 @@ use book::Answer;
 use book::answers::done;
 use book::answers::refusal;
 use book::answers::stop;
+use book::fields::place_at;
 use book::judging::judge;
 use book::refusals::DONE;
 use book::refusals::LIMIT;
@@ -34,12 +38,14 @@ const MOST_PRODUCTIONS: usize = 65535;
 fn unfold_all(
     book: &[u8],
     places: &[u16],
+    lefts: &[u8],
+    lengths: &[u8],
     outline: Outline,
     list: &[u8],
     stack: &mut [u8],
     output: &mut [u8],
 ) -> Unfolding
-    requires { ⌜ 1 ≤ length (now stack) ⌝ }
+    requires { ⌜ (1 ≤ length (now stack)) × Lefts (now book) (now places) outline (now lefts) × Lengths (now book) (now places) outline (now lengths) ⌝ }
     ensures { λ r. ⌜ Unfolds (outlined (now (book .entry)) (now (places .entry)) outline) (now (list .entry)) (now (stack .entry)) (now (output .entry)) r (now (stack .exit)) (now (output .exit)) ⌝ }
 {
     stack[0] = 128 + outline.start % 128;
@@ -49,8 +55,8 @@ fn unfold_all(
     let mut written: usize = 0;
     loop {
         let turn = turn_at(
-            book,
-            places,
+            lefts,
+            lengths,
             outline,
             list,
             used,
@@ -67,9 +73,9 @@ fn unfold_all(
                 written += 1;
             }
             Turn::Apply(p) => {
-                let count = right_length(book, places, outline, p);
+                let count = right_length(lengths, p);
                 let below = height - 1;
-                replace(book, place_at(places, p), count, stack, below);
+                replace(book, place_at(places, p as usize), count, stack, below);
                 height = below + count;
                 used += 1;
             }
@@ -112,7 +118,9 @@ fn expand_on(
     requires { ⌜ 1 ≤ length (now stack) ⌝ }
     ensures { λ r. ⌜ ExpandedOn (outlined (now (book .entry)) (now (places .entry)) outline) (now (list .entry)) (now (stack .entry)) (now (output .entry)) r (now (stack .exit)) (now (output .exit)) ⌝ }
 {
-    let u = unfold_all(book, places, outline, list, stack, output);
+    let lefts = gather(book, places, outline.productions, LEFT);
+    let lengths = gather(book, places, outline.productions, LENGTH);
+    let u = unfold_all(book, places, &lefts, &lengths, outline, list, stack, output);
     clear(stack);
     answer_to(u)
 }
@@ -133,11 +141,6 @@ pub fn expand(book: &[u8], list: &[u8], stack: &mut [u8], output: &mut [u8]) -> 
         return refusal(ROOM, 0, STACK_ROOM);
     }
     let places = reading.places;
-    let outline = Outline {
-        tokens: reading.tokens,
-        nonterminals: reading.nonterminals,
-        start: reading.start,
-        productions: reading.productions,
-    };
+    let outline = outline_of(reading);
     expand_on(book, &places, outline, list, stack, output)
 }

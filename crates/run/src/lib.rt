@@ -12,7 +12,7 @@ mod stack;
 mod turns;
 
 // The numbers of a reading: T, N, the start symbol, P.
-pub struct Outline {
+pub(crate) struct Outline {
     pub tokens: u8,
     pub nonterminals: u8,
     pub start: u8,
@@ -20,13 +20,13 @@ pub struct Outline {
 }
 
 // What comes next: a token, or the end mark.
-pub enum Ahead {
+pub(crate) enum Ahead {
     Next(u8),
     End,
 }
 
 // A step: the symbol on top of the stack, and what it faces.
-pub struct Step {
+pub(crate) struct Step {
     pub symbol: Symbol,
     pub ahead: Ahead,
 }
@@ -41,14 +41,14 @@ pub enum Cause {
 }
 
 // How an offer ends: the end mark is taken, the token on top is matched, or the run stops.
-pub enum Ending {
+pub(crate) enum Ending {
     Accept,
     Match,
     Stop(Cause),
 }
 
 // What is done next: a production is used, or the offer ends.
-pub enum Move {
+pub(crate) enum Move {
     Use(u8),
     Finish(Ending),
 }
@@ -67,7 +67,7 @@ pub enum Reply {
 }
 
 // How an expansion ends: complete, by a list that does not fit, or for want of stack or output.
-pub enum Finale {
+pub(crate) enum Finale {
     Complete,
     Unfit,
     NoStack,
@@ -75,21 +75,21 @@ pub enum Finale {
 }
 
 // What an expansion does next: a token is written, a production is used, or it ends.
-pub enum Turn {
+pub(crate) enum Turn {
     Write(u8),
     Apply(u8),
     Close(Finale),
 }
 
 // An expansion that has ended, with the productions used and the tokens written.
-pub struct Unfolding {
+pub(crate) struct Unfolding {
     pub finale: Finale,
     pub used: usize,
     pub written: usize,
 }
 
 // The answer of a run, and how many tokens it matched.
-pub struct Account {
+pub(crate) struct Account {
     pub answer: Answer,
     pub matched: usize,
 }

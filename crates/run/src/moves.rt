@@ -1,21 +1,25 @@
 ghost use mathlib.Core.Path.{_≡_};
-ghost use Prim.Native.Nat.{_≤_, min};
+ghost use mathlib.Core.List.{List};
+ghost use Prim.Native.Nat.{ℕ, _≤_, _<_, min};
 ghost use lib.ListN.{length, getD};
 ghost use Rattle.grammar.specs.Grammar.{Grammar};
 ghost use Rattle.table.specs.Table.{held, cellOf};
 ghost use Rattle.run.specs.Machine.{meets};
-ghost use Rattle.run.specs.Moves.{columnIn, outlined, Outlines, RightSide, Bottom, Faces, Chosen};
+ghost use Rattle.run.specs.Moves.{columnIn, outlineIn, outlined, Outlines, RightSide, Gathered, Lengths, Bottom, Faces, Chosen};
 ghost use Rattle.run.specs.Room.{rightOf};
 ghost use Rattle.run.specs.Running.{counted};
 ghost use Rattle.run.specs.Stack.{spelledBy};
+ghost use Rattle.run.specs.declared.Outline.{Outline};
 use crate::Ahead;
 use crate::Cause;
 use crate::Ending;
 use crate::Move;
 use crate::Outline;
 use crate::Step;
-use crate::stack::symbol_of;
-use book::fields::length_at;
+use book::Reading;
+use book::fields::byte_at;
+use book::fields::place_at;
+use book::fields::symbol_of;
 use grammar::Symbol;
 
 // What a table cell holds where no production is.
@@ -23,6 +27,24 @@ pub(crate) const VACANT: u8 = 255;
 
 // How many cells of a lent buffer count.
 pub(crate) const MOST_CELLS: usize = 65535;
+
+// Where in a record its left side stands.
+pub(crate) const LEFT: usize = 2;
+
+// Where in a record the length of its right side stands.
+pub(crate) const LENGTH: usize = 3;
+
+// The numbers of a reading.
+pub(crate) fn outline_of(reading: Reading) -> Outline
+    ensures { λ r. ⌜ r ≡ outlineIn reading ⌝ }
+{
+    Outline {
+        tokens: reading.tokens,
+        nonterminals: reading.nonterminals,
+        start: reading.start,
+        productions: reading.productions,
+    }
+}
 
 pub(crate) fn lower(x: usize, y: usize) -> usize
     ensures { λ r. ⌜ r ≡ min x y ⌝ }
@@ -98,27 +120,34 @@ fn decide(step: Step, table: &[u8], outline: Outline) -> Move
     }
 }
 
-// The place of record p; 0 past the end.
-pub(crate) fn place_at(places: &[u16], p: u8) -> usize
-    ensures { λ r. ⌜ r ≡ getD (now (places .entry)) p 0 ⌝ }
+// The byte that stands at distance `more` in the record of each production, by the production's number; 0 from P on.
+pub(crate) fn gather(book: &[u8], places: &[u16], count: u8, more: usize) -> [u8; 256]
+    ensures { λ r. ⌜ Gathered (now (book .entry)) (now (places .entry)) more count r ⌝ }
+{
+    let last = count as usize;
+    let mut cells = [0u8; 256];
+    let mut p: usize = 0;
+    while p < last {
+        let place = place_at(places, p) as usize;
+        cells[p] = byte_at(book, place, more);
+        p += 1;
+    }
+    cells
+}
+
+// What was gathered for production p; 0 past the end.
+pub(crate) fn gathered(cells: &[u8], p: u8) -> u8
+    ensures { λ r. ⌜ r ≡ getD (now (cells .entry)) p 0 ⌝ }
 {
     let i = p as usize;
-    if i < places.len() {
-        places[i] as usize
-    } else {
-        0
-    }
+    if i < cells.len() { cells[i] } else { 0 }
 }
 
 // How many symbols the right side of production p has.
-pub(crate) fn right_length(book: &[u8], places: &[u16], outline: Outline, p: u8) -> usize
-    ensures { λ r. ⌜ RightSide (now (book .entry)) (now (places .entry)) outline p r ⌝ }
+pub(crate) fn right_length(lengths: &[u8], p: u8) -> usize
+    ensures { λ r. ⌜ (r < 256) × ((book places : List ℕ) (o : Outline) → Lengths book places o (now (lengths .entry)) → RightSide book places o p r) ⌝ }
 {
-    if p < outline.productions {
-        length_at(book, place_at(places, p)) as usize
-    } else {
-        0
-    }
+    gathered(lengths, p) as usize
 }
 
 // How the offer ends where the stack is empty.
@@ -133,8 +162,7 @@ fn at_bottom(ahead: Ahead) -> Ending
 
 // What is done next with the first `height` cells of the stack in use and `listed` of the list's `cells`.
 pub(crate) fn choose(
-    book: &[u8],
-    places: &[u16],
+    lengths: &[u8],
     outline: Outline,
     table: &[u8],
     ahead: Ahead,
@@ -144,7 +172,7 @@ pub(crate) fn choose(
     listed: usize,
 ) -> Move
     requires { ⌜ height ≤ length (now stack) ⌝ }
-    ensures { λ r. ⌜ Chosen (rightOf (outlined (now (book .entry)) (now (places .entry)) outline)) (cellOf (outlined (now (book .entry)) (now (places .entry)) outline) (now (table .entry))) (counted (now (stack .entry))) cells (columnIn ahead) (spelledBy (now (stack .entry)) height) listed r ⌝ }
+    ensures { λ r. ⌜ ((book places : List ℕ) → Lengths book places outline (now (lengths .entry)) → Chosen (rightOf (outlined book places outline)) (cellOf (outlined book places outline) (now (table .entry))) (counted (now (stack .entry))) cells (columnIn ahead) (spelledBy (now (stack .entry)) height) listed r) ⌝ }
 {
     if height == 0 {
         return Move::Finish(at_bottom(ahead));
@@ -158,7 +186,7 @@ pub(crate) fn choose(
     if cells <= listed {
         return Move::Finish(Ending::Stop(Cause::FullList));
     }
-    if counts(stack.len()) < below + right_length(book, places, outline, p) {
+    if counts(stack.len()) < below + right_length(lengths, p) {
         return Move::Finish(Ending::Stop(Cause::FullStack));
     }
     choice

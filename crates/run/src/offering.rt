@@ -7,7 +7,7 @@ ghost use Rattle.run.specs.declared.Ending.the-variants as endings;
 ghost use Rattle.run.specs.Index.{grammarIn};
 ghost use Rattle.run.specs.Machine as machine;
 ghost use Rattle.run.specs.Machine.{State};
-ghost use Rattle.run.specs.Moves.{columnIn, outlined};
+ghost use Rattle.run.specs.Moves.{columnIn, outlined, Lengths};
 ghost use Rattle.run.specs.Offering.{finished, finishedStack, Holds, Ready, Offering};
 ghost use Rattle.run.specs.Resuming.{clamped, OfferOutcome};
 ghost use Rattle.run.specs.Room.{rightOf};
@@ -18,14 +18,17 @@ use crate::Move;
 use crate::Outline;
 use crate::Progress;
 use crate::Reply;
+use crate::moves::LENGTH;
 use crate::moves::MOST_CELLS;
 use crate::moves::choose;
 use crate::moves::counts;
+use crate::moves::gather;
 use crate::moves::lower;
-use crate::moves::place_at;
+use crate::moves::outline_of;
 use crate::moves::right_length;
 use crate::stack::replace;
 use book::Reading;
+use book::fields::place_at;
 
 // The offer ends: a token that is matched is popped.
 fn finish(ending: Ending, stack: &mut [u8], at: Progress) -> Reply
@@ -51,6 +54,7 @@ fn finish(ending: Ending, stack: &mut [u8], at: Progress) -> Reply
 pub(crate) fn offer_at(
     book: &[u8],
     places: &[u16],
+    lengths: &[u8],
     outline: Outline,
     table: &[u8],
     ahead: Ahead,
@@ -58,31 +62,21 @@ pub(crate) fn offer_at(
     list: &mut [u8],
     at: Progress,
 ) -> Reply
-    requires { ⌜ Ready at (now stack) (now list) ⌝ }
+    requires { ⌜ Ready at (now stack) (now list) × Lengths (now book) (now places) outline (now lengths) ⌝ }
     ensures { λ r. ⌜ ((s : State) → Holds s at (now (stack .entry)) (now (list .entry)) (now (stack .entry)) (now (list .entry)) → Offering (machine.offer (rightOf (outlined (now (book .entry)) (now (places .entry)) outline)) (cellOf (outlined (now (book .entry)) (now (places .entry)) outline) (now (table .entry))) (counted (now (stack .entry))) (counted (now (list .entry))) (counted (now (list .entry)) - at .listed) (columnIn ahead) s) (now (stack .entry)) (now (list .entry)) r (now (stack .exit)) (now (list .exit))) ⌝ }
 {
     let cells = counts(list.len());
     let mut height = at.height;
     let mut listed = at.listed;
     loop {
-        let choice = choose(
-            book,
-            places,
-            outline,
-            table,
-            ahead,
-            stack,
-            height,
-            cells,
-            listed,
-        );
+        let choice = choose(lengths, outline, table, ahead, stack, height, cells, listed);
         match choice {
             Move::Use(p) => {
-                let count = right_length(book, places, outline, p);
+                let count = right_length(lengths, p);
                 let below = height - 1;
                 list[listed] = p;
                 listed += 1;
-                replace(book, place_at(places, p), count, stack, below);
+                replace(book, place_at(places, p as usize), count, stack, below);
                 height = below + count;
             }
             Move::Finish(ending) => {
@@ -135,13 +129,19 @@ pub fn offer(
     ensures { λ r. ⌜ OfferOutcome (grammarIn (now (book .entry)) reading) (now (table .entry)) column at (now (stack .entry)) (now (list .entry)) r (now (stack .exit)) (now (list .exit)) ⌝ }
 {
     let places = reading.places;
-    let outline = Outline {
-        tokens: reading.tokens,
-        nonterminals: reading.nonterminals,
-        start: reading.start,
-        productions: reading.productions,
-    };
+    let lengths = gather(book, &places, reading.productions, LENGTH);
+    let outline = outline_of(reading);
     let ahead = column_ahead(column, reading.tokens);
     let from = clamp(at, stack.len(), list.len());
-    offer_at(book, &places, outline, table, ahead, stack, list, from)
+    offer_at(
+        book,
+        &places,
+        &lengths,
+        outline,
+        table,
+        ahead,
+        stack,
+        list,
+        from,
+    )
 }

@@ -4,7 +4,7 @@ ghost use lib.ListN.{length, drop};
 ghost use Rattle.grammar.specs.Machine.{front};
 ghost use Rattle.run.specs.Index.{grammarIn};
 ghost use Rattle.run.specs.Judged.{JudgedRun, Stepped, Ran, AccountedOn, Accounted};
-ghost use Rattle.run.specs.Moves.{columnIn, outlined};
+ghost use Rattle.run.specs.Moves.{columnIn, outlined, Lengths};
 ghost use Rattle.run.specs.Running.{cleared, RunOutcome};
 use crate::Account;
 use crate::Ahead;
@@ -14,6 +14,9 @@ use crate::Reply;
 use crate::answering::answer_of;
 use crate::answering::progress_of;
 use crate::checking::check;
+use crate::moves::LENGTH;
+use crate::moves::gather;
+use crate::moves::outline_of;
 use crate::offering::offer_at;
 use book::Answer;
 use book::Reading;
@@ -49,13 +52,14 @@ pub(crate) fn clear(stack: &mut [u8])
 fn offer_all(
     book: &[u8],
     places: &[u16],
+    lengths: &[u8],
     outline: Outline,
     table: &[u8],
     tokens: &[u8],
     stack: &mut [u8],
     list: &mut [u8],
 ) -> Reply
-    requires { ⌜ 1 ≤ length (now stack) ⌝ }
+    requires { ⌜ (1 ≤ length (now stack)) × Lengths (now book) (now places) outline (now lengths) ⌝ }
     ensures { λ r. ⌜ Stepped (outlined (now (book .entry)) (now (places .entry)) outline) (now (table .entry)) (now (tokens .entry)) (now (stack .entry)) (now (list .entry)) r (now (stack .exit)) (now (list .exit)) ⌝ }
 {
     stack[0] = 128 + outline.start % 128;
@@ -67,7 +71,17 @@ fn offer_all(
     loop {
         let i = at.matched;
         let ahead = ahead_of(tokens, i);
-        let reply = offer_at(book, places, outline, table, ahead, stack, list, at);
+        let reply = offer_at(
+            book,
+            places,
+            lengths,
+            outline,
+            table,
+            ahead,
+            stack,
+            list,
+            at,
+        );
         let Reply::Taken(next) = reply else {
             return reply;
         };
@@ -91,7 +105,8 @@ pub(crate) fn run_on(
     requires { ⌜ 1 ≤ length (now stack) ⌝ }
     ensures { λ r. ⌜ Ran (outlined (now (book .entry)) (now (places .entry)) outline) (now (table .entry)) (now (tokens .entry)) (now (stack .entry)) (now (list .entry)) r (now (stack .exit)) (now (list .exit)) ⌝ }
 {
-    let reply = offer_all(book, places, outline, table, tokens, stack, list);
+    let lengths = gather(book, places, outline.productions, LENGTH);
+    let reply = offer_all(book, places, &lengths, outline, table, tokens, stack, list);
     clear(stack);
     reply
 }
@@ -111,12 +126,7 @@ pub fn run_judged(
         return refusal(ROOM, 0, STACK_ROOM);
     }
     let places = reading.places;
-    let outline = Outline {
-        tokens: reading.tokens,
-        nonterminals: reading.nonterminals,
-        start: reading.start,
-        productions: reading.productions,
-    };
+    let outline = outline_of(reading);
     let reply = run_on(book, &places, outline, table, tokens, stack, list);
     answer_of(table, outline, reply)
 }
@@ -167,12 +177,7 @@ pub(crate) fn account(
         };
     }
     let places = reading.places;
-    let outline = Outline {
-        tokens: reading.tokens,
-        nonterminals: reading.nonterminals,
-        start: reading.start,
-        productions: reading.productions,
-    };
+    let outline = outline_of(reading);
     account_on(book, &places, outline, table, tokens, stack, list)
 }
 

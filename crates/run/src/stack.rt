@@ -1,51 +1,36 @@
 ghost use mathlib.Core.Path.{_≡_};
-ghost use Prim.Native.Nat.{_+_, _-_, _≤_};
+ghost use Prim.Native.Nat.{_+_, _^_, _≤_, _<_};
 ghost use lib.ListN.{length, set};
 ghost use lib.Seq.{sets};
-ghost use Rattle.book.specs.Fields.{symbolAt, symbolOfByte};
+ghost use Rattle.book.specs.Fields.{symbolAt};
 ghost use Rattle.run.specs.Index.{symbolsFrom};
 ghost use Rattle.run.specs.Stack.{byteOf, bytesOf};
-use book::fields::symbol_at;
-use grammar::Symbol;
-
-// The symbol that a stack cell holds.
-pub(crate) fn symbol_of(byte: u8) -> Symbol
-    ensures { λ r. ⌜ r ≡ symbolOfByte byte ⌝ }
-{
-    if byte < 128 {
-        Symbol::Token(byte)
-    } else {
-        Symbol::Nonterminal(byte - 128)
-    }
-}
 
 // The byte of symbol `i` of the record at `at`.
-fn symbol_byte(book: &[u8], at: usize, i: usize) -> u8
+fn symbol_byte(book: &[u8], at: u16, i: usize) -> u8
+    requires { ⌜ i < 2 ^ 63 ⌝ }
     ensures { λ r. ⌜ r ≡ byteOf (symbolAt (now (book .entry)) at i) ⌝ }
 {
-    let symbol = symbol_at(book, at, i);
-    match symbol {
-        Symbol::Token(t) => t,
-        Symbol::Nonterminal(n) => 128 + n,
-    }
+    let place = at as usize + 4 + i;
+    if place < book.len() { book[place] } else { 0 }
 }
 
 // The right side of the record at `at` is put on the stack, its leftmost symbol on top.
-fn push(book: &[u8], at: usize, count: usize, stack: &mut [u8], height: usize)
+fn push(book: &[u8], at: u16, count: usize, stack: &mut [u8], height: usize)
     requires { ⌜ height + count ≤ length (now stack) ⌝ }
     ensures { λ r. ⌜ now (stack .exit) ≡ sets (now (stack .entry)) height (bytesOf (symbolsFrom (now (book .entry)) at count 0)) ⌝ }
 {
-    let mut top = height;
-    let mut left = count;
-    while 0 < left {
-        left -= 1;
-        stack[top] = symbol_byte(book, at, left);
-        top += 1;
+    let mut top = height + count;
+    let mut i: usize = 0;
+    while height < top {
+        top -= 1;
+        stack[top] = symbol_byte(book, at, i);
+        i += 1;
     }
 }
 
 // The symbol on top gives way to the right side of the record at `at`; a cell that is in use no more is 0.
-pub(crate) fn replace(book: &[u8], at: usize, count: usize, stack: &mut [u8], below: usize)
+pub(crate) fn replace(book: &[u8], at: u16, count: usize, stack: &mut [u8], below: usize)
     requires { ⌜ (below + 1 ≤ length (now stack)) × (below + count ≤ length (now stack)) ⌝ }
     ensures { λ r. ⌜ now (stack .exit) ≡ sets (set (now (stack .entry)) below 0) below (bytesOf (symbolsFrom (now (book .entry)) at count 0)) ⌝ }
 {

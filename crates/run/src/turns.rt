@@ -1,7 +1,8 @@
 ghost use mathlib.Core.Path.{_≡_};
-ghost use Prim.Native.Nat.{_≤_};
+ghost use mathlib.Core.List.{List};
+ghost use Prim.Native.Nat.{ℕ, _≤_};
 ghost use lib.ListN.{length, drop};
-ghost use Rattle.run.specs.Moves.{outlined};
+ghost use Rattle.run.specs.Moves.{outlined, Lefts, Lengths};
 ghost use Rattle.run.specs.Room.{isOf, rightOf};
 ghost use Rattle.run.specs.Running.{counted};
 ghost use Rattle.run.specs.Stack.{spelledBy};
@@ -11,19 +12,18 @@ use crate::Finale;
 use crate::Outline;
 use crate::Turn;
 use crate::moves::counts;
-use crate::moves::place_at;
+use crate::moves::gathered;
 use crate::moves::right_length;
 use crate::running::ahead_of;
-use crate::stack::symbol_of;
-use book::fields::left_at;
+use book::fields::symbol_of;
 use grammar::Symbol;
 
 // Whether p is a production of nonterminal n.
-pub(crate) fn is_of(book: &[u8], places: &[u16], outline: Outline, n: u8, p: u8) -> bool
-    ensures { λ r. ⌜ r ≡ isOf (outlined (now (book .entry)) (now (places .entry)) outline) n p ⌝ }
+pub(crate) fn is_of(lefts: &[u8], outline: Outline, n: u8, p: u8) -> bool
+    ensures { λ r. ⌜ ((book places : List ℕ) → Lefts book places outline (now (lefts .entry)) → r ≡ isOf (outlined book places outline) n p) ⌝ }
 {
     if p < outline.productions {
-        left_at(book, place_at(places, p)) == n
+        gathered(lefts, p) == n
     } else {
         false
     }
@@ -41,8 +41,8 @@ fn at_bottom(ahead: Ahead) -> Finale
 
 // What is done next with the first `height` cells of the stack in use, `used` productions of the list and `written` of the output's `cells`.
 pub(crate) fn turn_at(
-    book: &[u8],
-    places: &[u16],
+    lefts: &[u8],
+    lengths: &[u8],
     outline: Outline,
     list: &[u8],
     used: usize,
@@ -52,11 +52,10 @@ pub(crate) fn turn_at(
     cells: usize,
 ) -> Turn
     requires { ⌜ height ≤ length (now stack) ⌝ }
-    ensures { λ r. ⌜ Turns (isOf (outlined (now (book .entry)) (now (places .entry)) outline)) (rightOf (outlined (now (book .entry)) (now (places .entry)) outline)) (counted (now (stack .entry))) cells (drop used (now (list .entry))) (spelledBy (now (stack .entry)) height) written r ⌝ }
+    ensures { λ r. ⌜ ((book places : List ℕ) → Lefts book places outline (now (lefts .entry)) → Lengths book places outline (now (lengths .entry)) → Turns (isOf (outlined book places outline)) (rightOf (outlined book places outline)) (counted (now (stack .entry))) cells (drop used (now (list .entry))) (spelledBy (now (stack .entry)) height) written r) ⌝ }
 {
-    let ahead = ahead_of(list, used);
     if height == 0 {
-        return Turn::Close(at_bottom(ahead));
+        return Turn::Close(at_bottom(ahead_of(list, used)));
     }
     let below = height - 1;
     let symbol = symbol_of(stack[below]);
@@ -68,17 +67,20 @@ pub(crate) fn turn_at(
                 Turn::Close(Finale::NoOutput)
             }
         }
-        Symbol::Nonterminal(n) => match ahead {
-            Ahead::Next(p) => {
-                if !is_of(book, places, outline, n, p) {
-                    Turn::Close(Finale::Unfit)
-                } else if counts(stack.len()) < below + right_length(book, places, outline, p) {
-                    Turn::Close(Finale::NoStack)
-                } else {
-                    Turn::Apply(p)
+        Symbol::Nonterminal(n) => {
+            let ahead = ahead_of(list, used);
+            match ahead {
+                Ahead::Next(p) => {
+                    if !is_of(lefts, outline, n, p) {
+                        Turn::Close(Finale::Unfit)
+                    } else if counts(stack.len()) < below + right_length(lengths, p) {
+                        Turn::Close(Finale::NoStack)
+                    } else {
+                        Turn::Apply(p)
+                    }
                 }
+                Ahead::End => Turn::Close(Finale::Unfit),
             }
-            Ahead::End => Turn::Close(Finale::Unfit),
-        },
+        }
     }
 }

@@ -1,5 +1,6 @@
 -- `listing::list` meets its contract: what building answers says which lines are the listing.
 use borrow.Author.Needs.{needs}
+use native.Mathlib.Omega.{arith}
 use Rattle.text.proofs.Promise.{put-length}
 use Rattle.book.specs.Judging.{indexOf}
 use Rattle.listing.proofs.Built.{Filled, enough, listing-refused, listing-filled}
@@ -42,7 +43,7 @@ served-requires : tie.Need-served-requires
 unfolding indexOf
 served-requires c κs =
     let f = filled c in
-    rw (f .index) (f .first-fits, f .follow-fits, f .table-fits)
+    rw (f .index) (omega arith, omega arith, f .table-fits)
 
 refused-line-requires : tie.Need-refused-line-requires
 refused-line-requires c κs = search needs

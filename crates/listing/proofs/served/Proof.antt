@@ -20,9 +20,7 @@ slice-aggregate-set-lines : tie.Need-slice-aggregate-set-lines
 slice-aggregate-set-lines c = search needs
 
 slice-aggregate-set-lines-2 : tie.Need-slice-aggregate-set-lines-2
-slice-aggregate-set-lines-2 c =
-    let args = c .before .before .before .before .before .before .before .before .before .before .before .before .args in
-    omega (arith, length-take (args .reading .nonterminals) (args .first .now))
+slice-aggregate-set-lines-2 c = simp length-take (omega arith)
 
 set-lines-requires : tie.Need-set-lines-requires
 set-lines-requires c κs = search needs
@@ -31,9 +29,7 @@ slice-aggregate-set-lines-3 : tie.Need-slice-aggregate-set-lines-3
 slice-aggregate-set-lines-3 c = search needs
 
 slice-aggregate-set-lines-4 : tie.Need-slice-aggregate-set-lines-4
-slice-aggregate-set-lines-4 c =
-    let args = c .before .before .before .before .before .before .before .before .before .before .before .before .before .before .before .before .before .before .args in
-    omega (arith, length-take (args .reading .nonterminals) (args .follow .now))
+slice-aggregate-set-lines-4 c = simp length-take (omega arith)
 
 set-lines-requires-2 : tie.Need-set-lines-requires-2
 set-lines-requires-2 c κs = search needs

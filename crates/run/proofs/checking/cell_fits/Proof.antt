@@ -11,7 +11,7 @@ cell-at-requires : tie.Need-cell-at-requires
 cell-at-requires c κs = search needs
 
 returns : tie.Need-returns
-returns c = vacant-fits _ _ _ (c .before .cell-at .ensures) (c .if1 .taken)
+returns c = λ book places sides. vacant-fits _ _ _ (c .before .cell-at .ensures) (c .if1 .taken)
 
 cast-row : tie.Need-cast-row
 cast-row c = search needs
@@ -23,14 +23,14 @@ div-row : tie.Need-div-row
 div-row c = search needs
 
 cast-is-of : tie.Need-cast-is-of
-cast-is-of c = omega (arith, row-below (c .before .before .before .before .before .before .args .i) (c .before .before .before .before .before .before .args .outline .nonterminals) (c .before .before .before .before .before .before .args .outline .tokens) (c .before .before .before .before .before .before .pre))
+cast-is-of c = omega (arith, row-below (c .before .before .before .before .before .args .i) (c .before .before .before .before .before .args .outline .nonterminals) (c .before .before .before .before .before .args .outline .tokens) (c .before .before .before .before .before .pre))
 
 is-of-requires : tie.Need-is-of-requires
 is-of-requires c κs = search needs
 
 returns-2 : tie.Need-returns-2
 unfolding outlined
-returns-2 c = filled-fits _ _ _ (c .before .before .before .cell-at .ensures) _ (c .before .before .if1 .left) (c .is-of .ensures) refl
+returns-2 c = λ book places sides. filled-fits _ _ _ (c .before .before .before .cell-at .ensures) _ (c .before .before .if1 .left) (c .is-of .ensures _ _ sides) refl
 
 pub cell-fits-spec : {M : Type 1} → statement M
 cell-fits-spec =

@@ -12,20 +12,26 @@ use Rattle.run.proofs.checking.first_misfit.Statement.{statement}
 use Rattle.run.proofs.checking.first_misfit.Tie as tie
 
 abbrev Inv-loop : tie.InvT-loop
-Inv-loop book places outline table i₀ i =
+Inv-loop book places outline table lefts i₀ i =
     (i ≤ length table) × ((j : ℕ) → j < i → Fits (outlined book places outline) table j)
 
 abbrev μ-loop : tie.MeasureT-loop
-μ-loop book places outline table i₀ i = length table - i
+μ-loop book places outline table lefts i₀ i = length table - i
+
+gather-requires : tie.Need-gather-requires Inv-loop μ-loop
+gather-requires c κs = search needs
 
 loop-holds : tie.Need-loop-holds Inv-loop μ-loop
 loop-holds c = (search needs, below-none _)
 
+slice-aggregate-cell-fits : tie.Need-slice-aggregate-cell-fits Inv-loop μ-loop
+slice-aggregate-cell-fits c = search needs
+
 cell-fits-requires : tie.Need-cell-fits-requires Inv-loop μ-loop
-cell-fits-requires c κs = omega (arith, c .loop-test .taken, c .before .before .before .before .before .pre)
+cell-fits-requires c κs = omega (arith, c .before .loop-test .taken, c .before .before .before .before .before .before .before .pre)
 
 returns : tie.Need-returns Inv-loop μ-loop
-returns c = record { inside = search needs; earlier = c .before .before .before .loop .inv .1; misfit = λ h. decides-false _ (c .before .cell-fits .result) (c .before .cell-fits .ensures) (not-true _ (c .if1 .taken)) }
+returns c = record { inside = search needs; earlier = c .before .before .before .before .loop .inv .1; misfit = λ h. decides-false _ (c .before .cell-fits .result) (c .before .cell-fits .ensures _ _ (c .before .before .before .before .before .gather .ensures)) (not-true _ (c .if1 .taken)) }
 
 add-i : tie.Need-add-i Inv-loop μ-loop
 add-i c = search needs
@@ -34,7 +40,7 @@ loop-less : tie.Need-loop-less Inv-loop μ-loop
 loop-less c = search needs
 
 loop-again : tie.Need-loop-again Inv-loop μ-loop
-loop-again c = (search needs, below-more _ _ (c .before .before .before .loop .inv .1) (decides-true _ (c .before .cell-fits .result) (c .before .cell-fits .ensures) (not-false _ (c .if1 .left))))
+loop-again c = (search needs, below-more _ _ (c .before .before .before .before .loop .inv .1) (decides-true _ (c .before .cell-fits .result) (c .before .cell-fits .ensures _ _ (c .before .before .before .before .before .gather .ensures)) (not-false _ (c .if1 .left))))
 
 returns-2 : tie.Need-returns-2 Inv-loop μ-loop
 returns-2 c = record { inside = c .before .loop .inv .0; earlier = c .before .loop .inv .1; misfit = λ h. absurd (omega (arith, c .loop-test .left)) }
@@ -45,7 +51,9 @@ first-misfit-spec =
     (tie.spec
     Inv-loop
     μ-loop
+    gather-requires
     loop-holds
+    slice-aggregate-cell-fits
     cell-fits-requires
     returns
     add-i

@@ -23,6 +23,9 @@ refusal-requires-2 c κs = search needs
 returns-3 : tie.Need-returns-3
 returns-3 c = expand-no-stack (c .before .before .before .before .before .before .judge .ensures) (c .before .before .before .if1 .left) (c .before .before .if2 .left) (c .before .if3 .taken) (c .refusal2 .ensures)
 
+outline-of-requires : tie.Need-outline-of-requires
+outline-of-requires c κs = search needs
+
 slice-aggregate-expand-on : tie.Need-slice-aggregate-expand-on
 slice-aggregate-expand-on c = search needs
 
@@ -36,7 +39,7 @@ same-length-2 : tie.Need-same-length-2
 same-length-2 c = search needs
 
 returns-4 : tie.Need-returns-4
-returns-4 c = expand-ended (c .before .before .before .before .before .before .before .before .before .before .before .before .before .before .judge .ensures) (c .before .before .before .before .before .before .before .before .before .before .before .if1 .left) (c .before .before .before .before .before .before .before .before .before .before .if2 .left) (omega (arith, c .before .before .before .before .before .before .before .before .before .if3 .left)) (c .before .before .before .before .expand-on .ensures)
+returns-4 c = expand-ended (c .before .before .before .before .before .before .before .before .before .before .before .before .before .before .before .judge .ensures) (c .before .before .before .before .before .before .before .before .before .before .before .before .if1 .left) (c .before .before .before .before .before .before .before .before .before .before .before .if2 .left) (omega (arith, c .before .before .before .before .before .before .before .before .before .before .if3 .left)) (rw (c .before .before .before .before .before .before .before .before .outline-of .ensures) at (c .before .before .before .before .expand-on .ensures))
 
 pub expand-spec : {M : Type 1} → statement M
 expand-spec =
@@ -48,6 +51,7 @@ expand-spec =
     returns-2
     refusal-requires-2
     returns-3
+    outline-of-requires
     slice-aggregate-expand-on
     expand-on-requires
     same-length

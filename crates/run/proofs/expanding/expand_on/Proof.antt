@@ -1,17 +1,30 @@
 -- The steps, their answer, and the cleared stack.
+use native.Mathlib.Omega.{arith}
 use borrow.Author.Needs.{needs}
 use Rattle.run.proofs.ExpandAnswers.{unfolds-countable, unfolds-answered}
 use Rattle.run.proofs.expanding.expand_on.Statement.{statement}
 use Rattle.run.proofs.expanding.expand_on.Tie as tie
 
+gather-requires : tie.Need-gather-requires
+gather-requires c κs = search needs
+
+gather-requires-2 : tie.Need-gather-requires-2
+gather-requires-2 c κs = search needs
+
+slice-aggregate-unfold-all : tie.Need-slice-aggregate-unfold-all
+slice-aggregate-unfold-all c = search needs
+
+slice-aggregate-unfold-all-2 : tie.Need-slice-aggregate-unfold-all-2
+slice-aggregate-unfold-all-2 c = search needs
+
 unfold-all-requires : tie.Need-unfold-all-requires
-unfold-all-requires c κs = search needs
+unfold-all-requires c κs = (search needs, c .before .before .before .before .before .gather .ensures, c .before .before .before .before .gather2 .ensures)
 
 clear-requires : tie.Need-clear-requires
 clear-requires c κs = search needs
 
 answer-to-requires : tie.Need-answer-to-requires
-answer-to-requires c κs = unfolds-countable (c .before .before .before .before .before .before .before .before .unfold-all .ensures) (search needs)
+answer-to-requires c κs = unfolds-countable (c .before .before .before .before .before .before .before .before .unfold-all .ensures) (omega (arith, c .before .before .before .before .before .before .before .before .before .before .before .before .before .before .before .before .before .before .before .before .good))
 
 same-length : tie.Need-same-length
 same-length c = search needs
@@ -26,6 +39,10 @@ pub expand-on-spec : {M : Type 1} → statement M
 expand-on-spec =
     tie.close
     (tie.spec
+    gather-requires
+    gather-requires-2
+    slice-aggregate-unfold-all
+    slice-aggregate-unfold-all-2
     unfold-all-requires
     clear-requires
     answer-to-requires

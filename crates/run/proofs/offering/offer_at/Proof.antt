@@ -11,17 +11,17 @@ use Rattle.run.proofs.offering.offer_at.Statement.{statement}
 use Rattle.run.proofs.offering.offer_at.Tie as tie
 
 abbrev Inv-loop : tie.InvT-loop
-Inv-loop book places outline table ahead stack₀ list₀ at cells height₀ listed₀ stack list height listed =
+Inv-loop book places lengths outline table ahead stack₀ list₀ at cells height₀ listed₀ stack list height listed =
     Turning book places outline table (columnIn ahead) at stack₀ list₀ stack list height listed
 
 abbrev μ-loop : tie.MeasureT-loop
-μ-loop book places outline table ahead stack₀ list₀ at cells height₀ listed₀ stack list height listed = counted list₀ - listed
+μ-loop book places lengths outline table ahead stack₀ list₀ at cells height₀ listed₀ stack list height listed = counted list₀ - listed
 
 counts-requires : tie.Need-counts-requires Inv-loop μ-loop
 counts-requires c κs = search needs
 
 loop-holds : tie.Need-loop-holds Inv-loop μ-loop
-loop-holds c = turning-start _ _ _ _ _ _ _ _ (c .before .before .before .before .before .before .pre)
+loop-holds c = turning-start _ _ _ _ _ _ _ _ (c .before .before .before .before .before .before .before .pre .0)
 
 choose-requires : tie.Need-choose-requires Inv-loop μ-loop
 choose-requires c κs = omega (arith, c .before .loop .inv .height-fits, c .before .loop .inv .stack-length)
@@ -33,34 +33,37 @@ right-length-requires : tie.Need-right-length-requires Inv-loop μ-loop
 right-length-requires c κs = search needs
 
 sub-below : tie.Need-sub-below Inv-loop μ-loop
-sub-below c = use-fits _ _ _ _ _ _ _ _ (c .before .before .before .before .before .before .loop .inv) (c .before .before .before .before .before .before .before .counts .ensures) (c .right-length .ensures) (c .before .before .before .before .choose .ensures) (c .before .before .choice .given .1) .some-symbol
+sub-below c = use-fits _ _ _ _ _ _ _ _ (c .before .before .before .before .before .before .loop .inv) (c .before .before .before .before .before .before .before .counts .ensures) (c .right-length .ensures .1 _ _ _ (c .before .before .before .before .before .before .before .before .before .before .before .before .before .before .pre .1)) (c .before .before .before .before .choose .ensures _ _ (c .before .before .before .before .before .before .before .before .before .before .before .before .before .before .pre .1)) (c .before .before .choice .given .1) .some-symbol
 
 slice-write-list : tie.Need-slice-write-list Inv-loop μ-loop
-slice-write-list c = omega (arith, use-fits _ _ _ _ _ _ _ _ (c .before .before .before .before .before .before .loop .inv) (c .before .before .before .before .before .before .before .counts .ensures) (c .right-length .ensures) (c .before .before .before .before .choose .ensures) (c .before .before .choice .given .1) .list-left, c .before .before .before .before .before .before .loop .inv .list-length)
+slice-write-list c = omega (arith, use-fits _ _ _ _ _ _ _ _ (c .before .before .before .before .before .before .loop .inv) (c .before .before .before .before .before .before .before .counts .ensures) (c .right-length .ensures .1 _ _ _ (c .before .before .before .before .before .before .before .before .before .before .before .before .before .before .pre .1)) (c .before .before .before .before .choose .ensures _ _ (c .before .before .before .before .before .before .before .before .before .before .before .before .before .before .pre .1)) (c .before .before .choice .given .1) .list-left, c .before .before .before .before .before .before .loop .inv .list-length)
 
 add-listed : tie.Need-add-listed Inv-loop μ-loop
-add-listed c = omega (arith, use-fits _ _ _ _ _ _ _ _ (c .before .before .before .before .before .before .loop .inv) (c .before .before .before .before .before .before .before .counts .ensures) (c .right-length .ensures) (c .before .before .before .before .choose .ensures) (c .before .before .choice .given .1) .list-left)
+add-listed c = omega (arith, use-fits _ _ _ _ _ _ _ _ (c .before .before .before .before .before .before .loop .inv) (c .before .before .before .before .before .before .before .counts .ensures) (c .right-length .ensures .1 _ _ _ (c .before .before .before .before .before .before .before .before .before .before .before .before .before .before .pre .1)) (c .before .before .before .before .choose .ensures _ _ (c .before .before .before .before .before .before .before .before .before .before .before .before .before .before .pre .1)) (c .before .before .choice .given .1) .list-left)
+
+cast-place-at : tie.Need-cast-place-at Inv-loop μ-loop
+cast-place-at c = search needs
 
 place-at-requires : tie.Need-place-at-requires Inv-loop μ-loop
 place-at-requires c κs = search needs
 
 replace-requires : tie.Need-replace-requires Inv-loop μ-loop
-replace-requires c κs = let fits = use-fits _ _ _ _ _ _ _ _ (c .before .before .before .before .before .before .before .before .loop .inv) (c .before .before .before .before .before .before .before .before .before .counts .ensures) (c .before .before .right-length .ensures) (c .before .before .before .before .before .before .choose .ensures) (c .before .before .before .before .choice .given .1) in (omega (arith, fits .some-symbol, c .before .before .before .before .before .before .before .before .loop .inv .height-fits, c .before .before .before .before .before .before .before .before .loop .inv .stack-length), omega (arith, fits .stack-left, c .before .before .before .before .before .before .before .before .loop .inv .stack-length))
+replace-requires c κs = let fits = use-fits _ _ _ _ _ _ _ _ (c .before .before .before .before .before .before .before .before .loop .inv) (c .before .before .before .before .before .before .before .before .before .counts .ensures) (c .before .before .right-length .ensures .1 _ _ _ (c .before .before .before .before .before .before .before .before .before .before .before .before .before .before .before .before .pre .1)) (c .before .before .before .before .before .before .choose .ensures _ _ (c .before .before .before .before .before .before .before .before .before .before .before .before .before .before .before .before .pre .1)) (c .before .before .before .before .choice .given .1) in (omega (arith, fits .some-symbol, c .before .before .before .before .before .before .before .before .loop .inv .height-fits, c .before .before .before .before .before .before .before .before .loop .inv .stack-length), omega (arith, fits .stack-left, c .before .before .before .before .before .before .before .before .loop .inv .stack-length))
 
 add-height : tie.Need-add-height Inv-loop μ-loop
-add-height c = omega (arith, use-fits _ _ _ _ _ _ _ _ (c .before .before .before .before .before .before .before .before .before .before .before .loop .inv) (c .before .before .before .before .before .before .before .before .before .before .before .before .counts .ensures) (c .before .before .before .before .before .right-length .ensures) (c .before .before .before .before .before .before .before .before .before .choose .ensures) (c .before .before .before .before .before .before .before .choice .given .1) .stack-left)
+add-height c = omega (arith, use-fits _ _ _ _ _ _ _ _ (c .before .before .before .before .before .before .before .before .before .before .before .loop .inv) (c .before .before .before .before .before .before .before .before .before .before .before .before .counts .ensures) (c .before .before .before .before .before .right-length .ensures .1 _ _ _ (c .before .before .before .before .before .before .before .before .before .before .before .before .before .before .before .before .before .before .before .pre .1)) (c .before .before .before .before .before .before .before .before .before .choose .ensures _ _ (c .before .before .before .before .before .before .before .before .before .before .before .before .before .before .before .before .before .before .before .pre .1)) (c .before .before .before .before .before .before .before .choice .given .1) .stack-left)
 
 loop-less : tie.Need-loop-less Inv-loop μ-loop
-loop-less c = omega (arith, use-fits _ _ _ _ _ _ _ _ (c .before .before .before .before .before .before .before .before .before .before .before .loop .inv) (c .before .before .before .before .before .before .before .before .before .before .before .before .counts .ensures) (c .before .before .before .before .before .right-length .ensures) (c .before .before .before .before .before .before .before .before .before .choose .ensures) (c .before .before .before .before .before .before .before .choice .given .1) .list-left)
+loop-less c = omega (arith, use-fits _ _ _ _ _ _ _ _ (c .before .before .before .before .before .before .before .before .before .before .before .loop .inv) (c .before .before .before .before .before .before .before .before .before .before .before .before .counts .ensures) (c .before .before .before .before .before .right-length .ensures .1 _ _ _ (c .before .before .before .before .before .before .before .before .before .before .before .before .before .before .before .before .before .before .before .pre .1)) (c .before .before .before .before .before .before .before .before .before .choose .ensures _ _ (c .before .before .before .before .before .before .before .before .before .before .before .before .before .before .before .before .before .before .before .pre .1)) (c .before .before .before .before .before .before .before .choice .given .1) .list-left)
 
 loop-again : tie.Need-loop-again Inv-loop μ-loop
-loop-again c = turning-use _ _ _ _ _ _ _ _ (c .before .before .before .before .before .before .before .before .before .before .before .loop .inv) (c .before .before .before .before .before .before .before .before .before .before .before .before .counts .ensures) (c .before .before .before .before .before .right-length .ensures) (c .before .before .before .before .before .before .before .before .before .choose .ensures) (c .before .before .before .before .before .before .before .choice .given .1) (c .before .before .before .before .place-at .ensures) (c .before .before .replace .ensures)
+loop-again c = turning-use _ _ _ _ _ _ _ _ (c .before .before .before .before .before .before .before .before .before .before .before .loop .inv) (c .before .before .before .before .before .before .before .before .before .before .before .before .counts .ensures) (c .before .before .before .before .before .right-length .ensures .1 _ _ _ (c .before .before .before .before .before .before .before .before .before .before .before .before .before .before .before .before .before .before .before .pre .1)) (c .before .before .before .before .before .before .before .before .before .choose .ensures _ _ (c .before .before .before .before .before .before .before .before .before .before .before .before .before .before .before .before .before .before .before .pre .1)) (c .before .before .before .before .before .before .before .choice .given .1) (c .before .before .before .before .place-at .ensures) (c .before .before .replace .ensures)
 
 enum-known-choice-2 : tie.Need-enum-known-choice-2 Inv-loop μ-loop
 enum-known-choice-2 c = search needs
 
 finish-requires : tie.Need-finish-requires Inv-loop μ-loop
-finish-requires c κs = (match-some _ _ _ _ _ _ _ _ (c .before .before .before .before .before .before .loop .inv) (c .before .before .before .before .before .before .before .counts .ensures) (c .before .before .before .before .choose .ensures) (c .before .before .choice2 .given .1), omega (arith, c .before .before .before .before .before .before .loop .inv .height-fits, c .before .before .before .before .before .before .loop .inv .stack-length), c .before .before .before .before .before .before .before .before .before .before .before .before .before .pre .matched)
+finish-requires c κs = (match-some _ _ _ _ _ _ _ _ (c .before .before .before .before .before .before .loop .inv) (c .before .before .before .before .before .before .before .counts .ensures) (c .before .before .before .before .choose .ensures _ _ (c .before .before .before .before .before .before .before .before .before .before .before .before .before .before .pre .1)) (c .before .before .choice2 .given .1), omega (arith, c .before .before .before .before .before .before .loop .inv .height-fits, c .before .before .before .before .before .before .loop .inv .stack-length), c .before .before .before .before .before .before .before .before .before .before .before .before .before .before .pre .0 .matched)
 
 same-length : tie.Need-same-length Inv-loop μ-loop
 same-length c = ap length (c .before .before .finish .ensures .1) ∙ finished-length (c .before .before .before .before .before .choice2 .given .0 .0) _ _ ∙ c .before .before .before .before .before .before .before .before .before .loop .inv .stack-length
@@ -69,7 +72,7 @@ same-length-2 : tie.Need-same-length-2 Inv-loop μ-loop
 same-length-2 c = c .before .before .before .before .before .before .before .before .before .loop .inv .list-length
 
 returns : tie.Need-returns Inv-loop μ-loop
-returns c = turning-finish _ _ _ _ _ _ _ _ (c .before .before .before .before .before .before .before .before .before .loop .inv) (c .before .before .before .before .before .before .before .before .before .before .counts .ensures) (c .before .before .before .before .before .before .before .choose .ensures) (c .before .before .before .before .before .choice2 .given .1) (c .before .before .finish .ensures .0) (c .before .before .finish .ensures .1)
+returns c = turning-finish _ _ _ _ _ _ _ _ (c .before .before .before .before .before .before .before .before .before .loop .inv) (c .before .before .before .before .before .before .before .before .before .before .counts .ensures) (c .before .before .before .before .before .before .before .choose .ensures _ _ (c .before .before .before .before .before .before .before .before .before .before .before .before .before .before .before .before .before .pre .1)) (c .before .before .before .before .before .choice2 .given .1) (c .before .before .finish .ensures .0) (c .before .before .finish .ensures .1)
 
 pub offer-at-spec : {M : Type 1} → statement M
 offer-at-spec =
@@ -85,6 +88,7 @@ offer-at-spec =
     sub-below
     slice-write-list
     add-listed
+    cast-place-at
     place-at-requires
     replace-requires
     add-height

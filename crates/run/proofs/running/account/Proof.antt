@@ -10,6 +10,9 @@ judge-requires c κs = search needs
 returns : tie.Need-returns
 returns c = account-refused (c .before .before .before .judge .ensures) (c .if1 .taken)
 
+outline-of-requires : tie.Need-outline-of-requires
+outline-of-requires c κs = search needs
+
 slice-aggregate-account-on : tie.Need-slice-aggregate-account-on
 slice-aggregate-account-on c = search needs
 
@@ -23,7 +26,7 @@ same-length-2 : tie.Need-same-length-2
 same-length-2 c = search needs
 
 returns-2 : tie.Need-returns-2
-returns-2 c = account-served (c .before .before .before .before .before .before .before .before .before .before .before .before .judge .ensures) (c .before .before .before .before .before .before .before .before .before .if1 .left) (c .before .before .before .before .account-on .ensures)
+returns-2 c = account-served (c .before .before .before .before .before .before .before .before .before .before .before .before .before .judge .ensures) (c .before .before .before .before .before .before .before .before .before .before .if1 .left) (rw (c .before .before .before .before .before .before .before .before .outline-of .ensures) at (c .before .before .before .before .account-on .ensures))
 
 pub account-spec : {M : Type 1} → statement M
 account-spec =
@@ -31,6 +34,7 @@ account-spec =
     (tie.spec
     judge-requires
     returns
+    outline-of-requires
     slice-aggregate-account-on
     account-on-requires
     same-length

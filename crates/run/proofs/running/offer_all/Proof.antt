@@ -9,11 +9,11 @@ use Rattle.run.proofs.running.offer_all.Statement.{statement}
 use Rattle.run.proofs.running.offer_all.Tie as tie
 
 abbrev Inv-loop : tie.InvT-loop
-Inv-loop book places outline table tokens stack₀ list₀ at₀ stack list at =
+Inv-loop book places lengths outline table tokens stack₀ list₀ at₀ stack list at =
     Running book places outline table tokens stack₀ list₀ at stack list
 
 abbrev μ-loop : tie.MeasureT-loop
-μ-loop book places outline table tokens stack₀ list₀ at₀ stack list at = length tokens - at .matched
+μ-loop book places lengths outline table tokens stack₀ list₀ at₀ stack list at = length tokens - at .matched
 
 add-stack : tie.Need-add-stack Inv-loop μ-loop
 add-stack c = search needs
@@ -22,13 +22,13 @@ slice-write-stack : tie.Need-slice-write-stack Inv-loop μ-loop
 slice-write-stack c = search needs
 
 loop-holds : tie.Need-loop-holds Inv-loop μ-loop
-loop-holds c = running-start _ _ _ _ _ _ _ (c .before .before .before .before .before .before .before .args .stack .now) (c .before .before .before .before .before .before .before .pre) refl
+loop-holds c = running-start _ _ _ _ _ _ _ (c .before .before .before .before .before .before .before .before .args .stack .now) (c .before .before .before .before .before .before .before .before .pre .0) refl
 
 ahead-of-requires : tie.Need-ahead-of-requires Inv-loop μ-loop
 ahead-of-requires c κs = search needs
 
 offer-at-requires : tie.Need-offer-at-requires Inv-loop μ-loop
-offer-at-requires c κs = running-ready _ _ _ _ _ _ _ (c .before .before .before .loop .inv) (search needs)
+offer-at-requires c κs = (running-ready _ _ _ _ _ _ _ (c .before .before .before .loop .inv) (search needs), c .before .before .before .before .before .before .before .before .before .before .before .before .pre .1)
 
 enum-known-reply : tie.Need-enum-known-reply Inv-loop μ-loop
 enum-known-reply c = search needs
@@ -37,22 +37,22 @@ enum-told : tie.Need-enum-told Inv-loop μ-loop
 enum-told c = search needs
 
 same-length : tie.Need-same-length Inv-loop μ-loop
-same-length c = stepped-from (c .before .before .before .before .before .before .before .before .before .before .before .before .before .before .before .before .before .before .args .stack .now) _ (running-stopped _ _ _ _ _ _ _ (c .before .before .before .before .before .before .before .before .before .before .loop .inv) (c .before .before .before .before .before .before .before .before .before .ahead-of .ensures) (c .before .before .before .before .before .before .offer-at .ensures) (c .enum-told .given .1)) .stack-length
+same-length c = stepped-from (c .before .before .before .before .before .before .before .before .before .before .before .before .before .before .before .before .before .before .before .args .stack .now) _ (running-stopped _ _ _ _ _ _ _ (c .before .before .before .before .before .before .before .before .before .before .loop .inv) (c .before .before .before .before .before .before .before .before .before .ahead-of .ensures) (c .before .before .before .before .before .before .offer-at .ensures) (c .enum-told .given .1)) .stack-length
 
 same-length-2 : tie.Need-same-length-2 Inv-loop μ-loop
-same-length-2 c = stepped-from (c .before .before .before .before .before .before .before .before .before .before .before .before .before .before .before .before .before .before .args .stack .now) _ (running-stopped _ _ _ _ _ _ _ (c .before .before .before .before .before .before .before .before .before .before .loop .inv) (c .before .before .before .before .before .before .before .before .before .ahead-of .ensures) (c .before .before .before .before .before .before .offer-at .ensures) (c .enum-told .given .1)) .list-length
+same-length-2 c = stepped-from (c .before .before .before .before .before .before .before .before .before .before .before .before .before .before .before .before .before .before .before .args .stack .now) _ (running-stopped _ _ _ _ _ _ _ (c .before .before .before .before .before .before .before .before .before .before .loop .inv) (c .before .before .before .before .before .before .before .before .before .ahead-of .ensures) (c .before .before .before .before .before .before .offer-at .ensures) (c .enum-told .given .1)) .list-length
 
 returns : tie.Need-returns Inv-loop μ-loop
-returns c = stepped-from (c .before .before .before .before .before .before .before .before .before .before .before .before .before .before .before .before .before .before .args .stack .now) _ (running-stopped _ _ _ _ _ _ _ (c .before .before .before .before .before .before .before .before .before .before .loop .inv) (c .before .before .before .before .before .before .before .before .before .ahead-of .ensures) (c .before .before .before .before .before .before .offer-at .ensures) (c .enum-told .given .1))
+returns c = stepped-from (c .before .before .before .before .before .before .before .before .before .before .before .before .before .before .before .before .before .before .before .args .stack .now) _ (running-stopped _ _ _ _ _ _ _ (c .before .before .before .before .before .before .before .before .before .before .loop .inv) (c .before .before .before .before .before .before .before .before .before .ahead-of .ensures) (c .before .before .before .before .before .before .offer-at .ensures) (c .enum-told .given .1))
 
 same-length-3 : tie.Need-same-length-3 Inv-loop μ-loop
-same-length-3 c = stepped-from (c .before .before .before .before .before .before .before .before .before .before .before .before .before .before .before .before .before .before .before .before .args .stack .now) _ (running-over _ _ _ _ _ _ _ (c .before .before .before .before .before .before .before .before .before .before .before .before .loop .inv) (c .before .before .before .before .before .before .before .before .before .before .before .ahead-of .ensures) (c .before .before .before .before .before .before .before .before .offer-at .ensures) (c .before .before .reply .given .1) (c .if1 .taken)) .stack-length
+same-length-3 c = stepped-from (c .before .before .before .before .before .before .before .before .before .before .before .before .before .before .before .before .before .before .before .before .before .args .stack .now) _ (running-over _ _ _ _ _ _ _ (c .before .before .before .before .before .before .before .before .before .before .before .before .loop .inv) (c .before .before .before .before .before .before .before .before .before .before .before .ahead-of .ensures) (c .before .before .before .before .before .before .before .before .offer-at .ensures) (c .before .before .reply .given .1) (c .if1 .taken)) .stack-length
 
 same-length-4 : tie.Need-same-length-4 Inv-loop μ-loop
-same-length-4 c = stepped-from (c .before .before .before .before .before .before .before .before .before .before .before .before .before .before .before .before .before .before .before .before .args .stack .now) _ (running-over _ _ _ _ _ _ _ (c .before .before .before .before .before .before .before .before .before .before .before .before .loop .inv) (c .before .before .before .before .before .before .before .before .before .before .before .ahead-of .ensures) (c .before .before .before .before .before .before .before .before .offer-at .ensures) (c .before .before .reply .given .1) (c .if1 .taken)) .list-length
+same-length-4 c = stepped-from (c .before .before .before .before .before .before .before .before .before .before .before .before .before .before .before .before .before .before .before .before .before .args .stack .now) _ (running-over _ _ _ _ _ _ _ (c .before .before .before .before .before .before .before .before .before .before .before .before .loop .inv) (c .before .before .before .before .before .before .before .before .before .before .before .ahead-of .ensures) (c .before .before .before .before .before .before .before .before .offer-at .ensures) (c .before .before .reply .given .1) (c .if1 .taken)) .list-length
 
 returns-2 : tie.Need-returns-2 Inv-loop μ-loop
-returns-2 c = stepped-from (c .before .before .before .before .before .before .before .before .before .before .before .before .before .before .before .before .before .before .before .before .args .stack .now) _ (running-over _ _ _ _ _ _ _ (c .before .before .before .before .before .before .before .before .before .before .before .before .loop .inv) (c .before .before .before .before .before .before .before .before .before .before .before .ahead-of .ensures) (c .before .before .before .before .before .before .before .before .offer-at .ensures) (c .before .before .reply .given .1) (c .if1 .taken))
+returns-2 c = stepped-from (c .before .before .before .before .before .before .before .before .before .before .before .before .before .before .before .before .before .before .before .before .before .args .stack .now) _ (running-over _ _ _ _ _ _ _ (c .before .before .before .before .before .before .before .before .before .before .before .before .loop .inv) (c .before .before .before .before .before .before .before .before .before .before .before .ahead-of .ensures) (c .before .before .before .before .before .before .before .before .offer-at .ensures) (c .before .before .reply .given .1) (c .if1 .taken))
 
 loop-less : tie.Need-loop-less Inv-loop μ-loop
 loop-less c = omega (arith, running-next _ _ _ _ _ _ _ (c .before .before .before .before .before .before .before .before .before .before .before .before .loop .inv) (c .before .before .before .before .before .before .before .before .before .before .before .ahead-of .ensures) (c .before .before .before .before .before .before .before .before .offer-at .ensures) (c .before .before .reply .given .1) (c .if1 .left) .1)

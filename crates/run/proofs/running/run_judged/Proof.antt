@@ -15,6 +15,9 @@ refusal-requires c κs = search needs
 returns : tie.Need-returns
 returns c = rw (c .refusal .ensures) (no-stack (c .before .if1 .taken))
 
+outline-of-requires : tie.Need-outline-of-requires
+outline-of-requires c κs = search needs
+
 slice-aggregate-run-on : tie.Need-slice-aggregate-run-on
 slice-aggregate-run-on c = search needs
 
@@ -32,7 +35,7 @@ same-length-2 c = search needs
 
 returns-2 : tie.Need-returns-2
 unfolding outlined grammarIn
-returns-2 c = judged-ended (omega (arith, c .before .before .before .before .before .before .before .before .before .before .if1 .left)) (outlined-sized _ _ _) (c .before .before .before .before .before .run-on .ensures) (c .answer-of .ensures)
+returns-2 c = judged-ended (omega (arith, c .before .before .before .before .before .before .before .before .before .before .before .if1 .left)) (outlined-sized _ _ _) (rw (c .before .before .before .before .before .before .before .before .before .outline-of .ensures) at (c .before .before .before .before .before .run-on .ensures)) (rw (c .before .before .before .before .before .before .before .before .before .outline-of .ensures) at (c .answer-of .ensures))
 
 pub run-judged-spec : {M : Type 1} → statement M
 run-judged-spec =
@@ -40,6 +43,7 @@ run-judged-spec =
     (tie.spec
     refusal-requires
     returns
+    outline-of-requires
     slice-aggregate-run-on
     run-on-requires
     answer-of-requires

@@ -6,8 +6,14 @@ use borrow.Author.Needs.{needs}
 use Rattle.run.proofs.running.run_on.Statement.{statement}
 use Rattle.run.proofs.running.run_on.Tie as tie
 
+gather-requires : tie.Need-gather-requires
+gather-requires c κs = search needs
+
+slice-aggregate-offer-all : tie.Need-slice-aggregate-offer-all
+slice-aggregate-offer-all c = search needs
+
 offer-all-requires : tie.Need-offer-all-requires
-offer-all-requires c κs = search needs
+offer-all-requires c κs = (search needs, c .before .before .before .gather .ensures)
 
 clear-requires : tie.Need-clear-requires
 clear-requires c κs = search needs
@@ -23,4 +29,12 @@ returns c = record { answer = c .before .before .before .before .before .before 
 
 pub run-on-spec : {M : Type 1} → statement M
 run-on-spec =
-    tie.close (tie.spec offer-all-requires clear-requires same-length same-length-2 returns)
+    tie.close
+    (tie.spec
+    gather-requires
+    slice-aggregate-offer-all
+    offer-all-requires
+    clear-requires
+    same-length
+    same-length-2
+    returns)

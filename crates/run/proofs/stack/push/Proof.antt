@@ -1,28 +1,31 @@
 -- The invariant: with what is left put on top, the stack is the whole answer.
-use mathlib.Core.Path.{_≡_, sym, _∙_}
-use Prim.Native.Nat.{_+_, _≤_}
+use mathlib.Core.Path.{_≡_, ap, sym, _∙_}
+use Prim.Native.Nat.{_+_, _-_, _≤_}
 use native.Mathlib.Omega.{arith}
 use lib.ListN.{length, length-set}
 use lib.Seq.{sets}
 use borrow.Author.Needs.{needs}
 use Rattle.run.specs.Index.{symbolsFrom}
 use Rattle.run.specs.Stack.{bytesOf}
-use Rattle.run.proofs.Stacked.{push-turn, push-over}
+use Rattle.run.proofs.Stacked.{push-start, push-turn, push-over}
 use Rattle.run.proofs.stack.push.Statement.{statement}
 use Rattle.run.proofs.stack.push.Tie as tie
 
 abbrev Inv-loop : tie.InvT-loop
-Inv-loop book at count stack₀ height top₀ left₀ stack top left =
-    (top + left ≤ length stack) × (length stack ≡ length stack₀) × (sets stack top (bytesOf (symbolsFrom book at left 0)) ≡ sets stack₀ height (bytesOf (symbolsFrom book at count 0)))
+Inv-loop book at count stack₀ height top₀ i₀ stack top i =
+    (height ≤ top) × (top + i ≡ height + count) × (length stack ≡ length stack₀) × (sets stack height (bytesOf (symbolsFrom book at (top - height) i)) ≡ sets stack₀ height (bytesOf (symbolsFrom book at count 0)))
 
 abbrev μ-loop : tie.MeasureT-loop
-μ-loop book at count stack₀ height top₀ left₀ stack top left = left
+μ-loop book at count stack₀ height top₀ i₀ stack top i = top
+
+add-top : tie.Need-add-top Inv-loop μ-loop
+add-top c = search needs
 
 loop-holds : tie.Need-loop-holds Inv-loop μ-loop
-loop-holds c = search needs
+loop-holds c = (search needs, search needs, search needs, push-start _ _ _ _ _)
 
-sub-left : tie.Need-sub-left Inv-loop μ-loop
-sub-left c = search needs
+sub-top : tie.Need-sub-top Inv-loop μ-loop
+sub-top c = search needs
 
 symbol-byte-requires : tie.Need-symbol-byte-requires Inv-loop μ-loop
 symbol-byte-requires c κs = search needs
@@ -30,20 +33,20 @@ symbol-byte-requires c κs = search needs
 slice-write-stack : tie.Need-slice-write-stack Inv-loop μ-loop
 slice-write-stack c = search needs
 
-add-top : tie.Need-add-top Inv-loop μ-loop
-add-top c = search needs
+add-i : tie.Need-add-i Inv-loop μ-loop
+add-i c = search needs
 
 loop-less : tie.Need-loop-less Inv-loop μ-loop
 loop-less c = search needs
 
 loop-again : tie.Need-loop-again Inv-loop μ-loop
-loop-again c = (simp length-set (omega arith), search needs, push-turn _ _ _ _ _ _ (c .before .loop-test .taken) (c .symbol-byte .ensures) ∙ c .before .before .loop .inv .2)
+loop-again c = (search needs, search needs, search needs, push-turn _ _ _ _ _ _ (c .before .loop-test .taken) (c .symbol-byte .ensures) ∙ c .before .before .loop .inv .3)
 
 same-length : tie.Need-same-length Inv-loop μ-loop
 same-length c = search needs
 
 returns : tie.Need-returns Inv-loop μ-loop
-returns c = sym (push-over _ _ _ _ _ (c .loop-test .left)) ∙ c .before .loop .inv .2
+returns c = sym (push-over _ _ _ _ _ _ (c .loop-test .left)) ∙ c .before .loop .inv .3
 
 pub push-spec : {M : Type 1} → statement M
 push-spec =
@@ -51,11 +54,12 @@ push-spec =
     (tie.spec
     Inv-loop
     μ-loop
+    add-top
     loop-holds
-    sub-left
+    sub-top
     symbol-byte-requires
     slice-write-stack
-    add-top
+    add-i
     loop-less
     loop-again
     same-length

@@ -1,20 +1,18 @@
 -- Past the last production there is no left side.
 use borrow.Author.Needs.{needs}
-use Rattle.run.proofs.Records.{left-found, left-missing}
+use Rattle.run.proofs.Gathering.{left-gathered}
+use Rattle.run.proofs.Records.{left-missing}
 use Rattle.run.proofs.turns.is_of.Statement.{statement}
 use Rattle.run.proofs.turns.is_of.Tie as tie
 
-place-at-requires : tie.Need-place-at-requires
-place-at-requires c κs = search needs
-
-left-at-requires : tie.Need-left-at-requires
-left-at-requires c κs = search needs
+gathered-requires : tie.Need-gathered-requires
+gathered-requires c κs = search needs
 
 returns : tie.Need-returns
-returns c = left-found _ _ _ _ (c .before .before .if1 .taken) (rw (c .before .place-at .ensures) at (c .left-at .ensures))
+returns c = λ book places sides. left-gathered _ _ sides (c .before .if1 .taken) (c .gathered .ensures)
 
 returns-2 : tie.Need-returns-2
-returns-2 c = left-missing _ _ _ _ (c .if1 .left)
+returns-2 c = λ book places sides. left-missing _ _ _ _ (c .if1 .left)
 
 pub is-of-spec : {M : Type 1} → statement M
-is-of-spec = tie.close (tie.spec place-at-requires left-at-requires returns returns-2)
+is-of-spec = tie.close (tie.spec gathered-requires returns returns-2)

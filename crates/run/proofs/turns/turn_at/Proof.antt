@@ -16,7 +16,7 @@ at-bottom-requires : tie.Need-at-bottom-requires
 at-bottom-requires c κs = search needs
 
 returns : tie.Need-returns
-returns c = turn-bottom _ (c .before .before .ahead-of .ensures) (spelled-none _ (c .before .if1 .taken)) (c .at-bottom .ensures)
+returns c = λ book places lefts lengths. turn-bottom _ (c .before .ahead-of .ensures) (spelled-none _ (c .before .before .if1 .taken)) (c .at-bottom .ensures)
 
 sub-below : tie.Need-sub-below
 sub-below c = search needs
@@ -32,6 +32,9 @@ enum-known-symbol c = search needs
 
 enum-known-symbol-2 : tie.Need-enum-known-symbol-2
 enum-known-symbol-2 c = search needs
+
+ahead-of-requires-2 : tie.Need-ahead-of-requires-2
+ahead-of-requires-2 c κs = search needs
 
 enum-known-ahead : tie.Need-enum-known-ahead
 enum-known-ahead c = search needs
@@ -52,22 +55,22 @@ enum-told : tie.Need-enum-told
 enum-told c = search needs
 
 returns-2 : tie.Need-returns-2
-returns-2 c = turn-write (spelled-top _ _ (c .before .before .before .before .before .before .if1 .left) (c .before .before .before .before .symbol-of .ensures)) (c .before .before .symbol .given .1) (c .if2 .taken)
+returns-2 c = λ book places lefts lengths. turn-write (spelled-top _ _ (c .before .before .before .before .before .before .if1 .left) (c .before .before .before .before .symbol-of .ensures)) (c .before .before .symbol .given .1) (c .if2 .taken)
 
 returns-3 : tie.Need-returns-3
-returns-3 c = turn-no-output (spelled-top _ _ (c .before .before .before .before .before .before .if1 .left) (c .before .before .before .before .symbol-of .ensures)) (c .before .before .symbol .given .1) (c .if2 .left)
+returns-3 c = λ book places lefts lengths. turn-no-output (spelled-top _ _ (c .before .before .before .before .before .before .if1 .left) (c .before .before .before .before .symbol-of .ensures)) (c .before .before .symbol .given .1) (c .if2 .left)
 
 returns-4 : tie.Need-returns-4
-returns-4 c = turn-misfit (spelled-top _ _ (c .before .before .before .before .before .before .before .before .before .before .if1 .left) (c .before .before .before .before .before .before .before .before .symbol-of .ensures)) (c .before .before .before .before .before .before .symbol2 .given .1) (c .before .before .before .before .before .before .before .before .before .before .before .ahead-of .ensures) (c .before .before .before .ahead .given .1) (sym (c .before .is-of .ensures) ∙ not-true _ (c .if3 .taken))
+returns-4 c = λ book places lefts lengths. turn-misfit (spelled-top _ _ (c .before .before .before .before .before .before .before .before .before .before .before .if1 .left) (c .before .before .before .before .before .before .before .before .before .symbol-of .ensures)) (c .before .before .before .before .before .before .before .symbol2 .given .1) (c .before .before .before .before .before .ahead-of2 .ensures) (c .before .before .before .ahead .given .1) (sym (c .before .is-of .ensures _ _ lefts) ∙ not-true _ (c .if3 .taken))
 
 returns-5 : tie.Need-returns-5
-returns-5 c = turn-no-stack (spelled-top _ _ (c .before .before .before .before .before .before .before .before .before .before .before .before .before .if1 .left) (c .before .before .before .before .before .before .before .before .before .before .before .symbol-of .ensures)) (c .before .before .before .before .before .before .before .before .before .symbol2 .given .1) (c .before .before .before .before .before .before .before .before .before .before .before .before .before .before .ahead-of .ensures) (c .before .before .before .before .before .before .ahead .given .1) (sym (c .before .before .before .before .is-of .ensures) ∙ not-false _ (c .before .before .before .if3 .left)) (omega (arith, replaced-length (c .before .right-length .ensures) (c .before .before .before .before .before .before .before .before .before .before .before .before .before .before .before .before .before .before .before .args .stack .now) (c .before .before .before .before .before .before .before .before .before .before .before .before .before .before .before .before .before .before .before .args .height - 1)))
+returns-5 c = λ book places lefts lengths. turn-no-stack (spelled-top _ _ (c .before .before .before .before .before .before .before .before .before .before .before .before .before .before .if1 .left) (c .before .before .before .before .before .before .before .before .before .before .before .before .symbol-of .ensures)) (c .before .before .before .before .before .before .before .before .before .before .symbol2 .given .1) (c .before .before .before .before .before .before .before .before .ahead-of2 .ensures) (c .before .before .before .before .before .before .ahead .given .1) (sym (c .before .before .before .before .is-of .ensures _ _ lefts) ∙ not-false _ (c .before .before .before .if3 .left)) (omega (arith, replaced-length (c .before .right-length .ensures .1 _ _ (c .before .before .before .before .before .before .before .before .before .before .before .before .before .before .before .before .before .before .before .args .outline) lengths) (c .before .before .before .before .before .before .before .before .before .before .before .before .before .before .before .before .before .before .before .args .stack .now) (c .before .before .before .before .before .before .before .before .before .before .before .before .before .before .before .before .before .before .before .args .height - 1)))
 
 returns-6 : tie.Need-returns-6
-returns-6 c = turn-apply (spelled-top _ _ (c .before .before .before .before .before .before .before .before .before .before .before .before .before .if1 .left) (c .before .before .before .before .before .before .before .before .before .before .before .symbol-of .ensures)) (c .before .before .before .before .before .before .before .before .before .symbol2 .given .1) (c .before .before .before .before .before .before .before .before .before .before .before .before .before .before .ahead-of .ensures) (c .before .before .before .before .before .before .ahead .given .1) (sym (c .before .before .before .before .is-of .ensures) ∙ not-false _ (c .before .before .before .if3 .left)) (omega (arith, replaced-length (c .before .right-length .ensures) (c .before .before .before .before .before .before .before .before .before .before .before .before .before .before .before .before .before .before .before .args .stack .now) (c .before .before .before .before .before .before .before .before .before .before .before .before .before .before .before .before .before .before .before .args .height - 1)))
+returns-6 c = λ book places lefts lengths. turn-apply (spelled-top _ _ (c .before .before .before .before .before .before .before .before .before .before .before .before .before .before .if1 .left) (c .before .before .before .before .before .before .before .before .before .before .before .before .symbol-of .ensures)) (c .before .before .before .before .before .before .before .before .before .before .symbol2 .given .1) (c .before .before .before .before .before .before .before .before .ahead-of2 .ensures) (c .before .before .before .before .before .before .ahead .given .1) (sym (c .before .before .before .before .is-of .ensures _ _ lefts) ∙ not-false _ (c .before .before .before .if3 .left)) (omega (arith, replaced-length (c .before .right-length .ensures .1 _ _ (c .before .before .before .before .before .before .before .before .before .before .before .before .before .before .before .before .before .before .before .args .outline) lengths) (c .before .before .before .before .before .before .before .before .before .before .before .before .before .before .before .before .before .before .before .args .stack .now) (c .before .before .before .before .before .before .before .before .before .before .before .before .before .before .before .before .before .before .before .args .height - 1)))
 
 returns-7 : tie.Need-returns-7
-returns-7 c = turn-too-short (spelled-top _ _ (c .before .before .before .before .before .before .before .if1 .left) (c .before .before .before .before .before .symbol-of .ensures)) (c .before .before .before .symbol2 .given .1) (c .before .before .before .before .before .before .before .before .ahead-of .ensures) (c .enum-told .given .1)
+returns-7 c = λ book places lefts lengths. turn-too-short (spelled-top _ _ (c .before .before .before .before .before .before .before .before .if1 .left) (c .before .before .before .before .before .before .symbol-of .ensures)) (c .before .before .before .before .symbol2 .given .1) (c .before .before .ahead-of2 .ensures) (c .enum-told .given .1)
 
 pub turn-at-spec : {M : Type 1} → statement M
 turn-at-spec =
@@ -81,6 +84,7 @@ turn-at-spec =
     symbol-of-requires
     enum-known-symbol
     enum-known-symbol-2
+    ahead-of-requires-2
     enum-known-ahead
     is-of-requires
     counts-requires
