@@ -2,13 +2,12 @@
 -- nonterminal on its right side, adds only members that have their reason.
 use mathlib.Core.Path.{_≡_, refl, sym, _∙_}
 use mathlib.Core.Bool.{false≢true}
-use mathlib.Core.Logic.{⊎-elim}
+use mathlib.Core.Logic.{_⊎_, inl, inr, ⊎-elim}
 use mathlib.Core.List.{List, [], _∷_}
-use mathlib.Core.Option.{some, Option·none-ne-some}
 use Prim.Native.Nat.{ℕ, zero, suc, _<_}
 use native.Mathlib.Decide.{ℕ-discrete, decLt}
 use native.Mathlib.Omega.{arith}
-use lib.ListN.{length, drop, getD, getElem?, replicate}
+use lib.ListN.{length, drop, getD, replicate}
 use lib.Seq.{getD-set-same, getD-set-other, set-out}
 use Rattle.grammar.specs.declared.Symbol.the-variants.{Nonterminal}
 use Rattle.grammar.specs.Grammar.{Form, Grammar, Member, column, Every, each, Rule, itself, last, First, Follow, Known, known-nonterminal, Reachable, endmark}
@@ -20,7 +19,8 @@ use Rattle.sets.specs.Calls.{setAt, stored}
 use Rattle.sets.proofs.Promise.{member-none, or-cases}
 use Rattle.book.specs.Book.{Limits}
 use Rattle.book.specs.Judging.{AllUseful}
-use Rattle.table.specs.Trail.{trail, Inside, Sound, FirstSound, FollowSound}
+use Rattle.table.specs.Trail.{trail, Halts, Inside, Sound, FirstSound, FollowSound}
+use Rattle.table.proofs.Trail.{halts-dropped}
 use Rattle.table.proofs.Joins.{Reasons, only-one, trail-reasons}
 use Rattle.table.proofs.Members.{reasons-inside, first-reasons, follow-reasons, first-proper, end-reasons}
 
@@ -33,16 +33,16 @@ pub behind-below : {g : Grammar} {A : ℕ} {v β : Form} → Behind A v β → E
 behind-below first (each (known-nonterminal h) rest) = h
 behind-below (later b) (each p h) = behind-below b h
 
--- the occurrence at position j, with what lies behind it
-pub behind-position : (β : Form) (j : ℕ) {A : ℕ} → getElem? β j ≡ some (Nonterminal A) → Behind A (drop (suc j) β) β
-behind-position [] j {A} e = absurd (Option·none-ne-some (Nonterminal A) e)
-behind-position (s ∷ β) zero {A} e = let same : s ≡ Nonterminal A = cc in rw same first
-behind-position (s ∷ β) (suc j) e = later (behind-position β j e)
+-- an occurrence in a form from a position on is one in the form; an occurrence before that position has the rest of the form behind it
+pub behind-dropped : {A : ℕ} {v : Form} (n : ℕ) (β : Form) → Behind A v (drop n β) → Behind A v β
+behind-dropped zero β b = b
+behind-dropped (suc n) [] b = b
+behind-dropped (suc n) (s ∷ β) b = later (behind-dropped n β b)
 
--- and every occurrence stands at some position
-pub position-behind : {A : ℕ} {v β : Form} → Behind A v β → (j : ℕ) × (getElem? β j ≡ some (Nonterminal A)) × (drop (suc j) β ≡ v)
-position-behind first = (zero, refl, refl)
-position-behind (later b) = let (j, e, d) = position-behind b in (suc j, e, d)
+pub behind-tail : {fs : List ℕ} {A : ℕ} {v β : Form} (n : ℕ) → Halts fs (drop n β) → Behind A v β → Behind A v (drop n β) ⊎ Halts fs v
+behind-tail zero h b = inl b
+behind-tail {v = v} (suc n) h first = inr (halts-dropped n v h)
+behind-tail (suc n) h (later b) = behind-tail n h b
 
 pub inside-united : {P : Member → Type 0} {x y : ℕ} → Inside P x → Inside P y → Inside P (united x y)
 inside-united {x = x} {y = y} h i = record { reason = λ k m. ⊎-elim (h .reason k) (i .reason k) (or-cases k x y m) }

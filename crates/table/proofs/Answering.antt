@@ -1,11 +1,12 @@
 -- From what the functions find to the outcomes that they promise: a judged book, the checks on it, and what is written.
-use mathlib.Core.Path.{_≡_, refl, ap, subst}
+use mathlib.Core.Path.{_≡_, refl, ap, _∙_, subst}
 use mathlib.Core.Logic.{_≢_}
 use mathlib.Core.List.{List}
 use Prim.Native.Nat.{ℕ, _+_, _*_, _^_, _≤_, _<_}
-use native.Mathlib.Nat.{mul-le-mul-left}
+use native.Mathlib.Nat.{mul-le-mul, mul-le-mul-left, mul-le-mul-right}
 use native.Mathlib.Omega.{arith}
-use lib.ListN.{length, take}
+use lib.ListN.{length, take, getD}
+use lib.Seq.{length-take-le, getD-take}
 use Rattle.grammar.specs.Grammar.{Grammar}
 use Rattle.book.specs.declared.Answer.{Answer}
 use Rattle.book.specs.declared.Reading.{Reading}
@@ -18,16 +19,16 @@ use Rattle.table.specs.Numbers.{FirstSets, FollowSets}
 use Rattle.table.specs.Trail.{FirstAt, FollowAt}
 use Rattle.table.specs.Table.{size}
 use Rattle.table.specs.Forms.{Readable, Indexes}
-use Rattle.table.specs.Steps.{FirstFound, FollowFound, leftOf, lookaheadOf, Tabulated}
-use Rattle.table.specs.Claims.{claims, Contest, contested, uncontested, Written}
+use Rattle.table.specs.Steps.{FirstFound, FollowFound, leftOf}
+use Rattle.table.specs.Claims.{bookClaims, Laid, Vacancy, Claimable, Tabulated, disputed, written}
 use Rattle.table.specs.Checks.{passes, stops, goes, because, Roomed, SetsRoomed}
 use Rattle.table.specs.Filling.{Given, Fillable, Enterable, Entered, clash, entered}
 use Rattle.table.specs.Calls.{over, SetsRoom, no-first, no-follow, SetsFit, SetsOutcome, BuildOutcome}
 use Rattle.table.specs.Calls as calls
 use Rattle.book.proofs.Promise.{refuses-number, serves-unique}
 use Rattle.table.proofs.Closed.{at-taken}
-use Rattle.table.proofs.Spelled.{indexes-readable}
-use Rattle.table.proofs.Claimed.{rivals-conflict, written-table, written-over}
+use Rattle.table.proofs.Spelled.{indexes-readable, left-is, rule-at}
+use Rattle.table.proofs.Claimed.{contest-conflict, ledger-table}
 
 module _ {book : List ℕ} {reading : Reading} where
   -- a judged book that is not refused gives its grammar
@@ -62,6 +63,12 @@ module _ {book : List ℕ} {reading : Reading} where
     -- the number of cells
     pub given-size : reading .nonterminals * (reading .tokens + 1) ≡ size (given .grammar)
     given-size = rw (given-served .nonterminals, given-served .tokens)
+
+    -- no table is larger than 64 rows of 63 columns
+    pub given-most : reading .nonterminals * (reading .tokens + 1) ≤ 4032
+    given-most =
+        rw (given-served .nonterminals, given-served .tokens)
+        (mul-le-mul {n₁ = given .grammar .nonterminals} {m₁ = given .grammar .tokens + 1} {n₂ = 64} {m₂ = 63} (given-limits .nonterminals-fit) (omega (arith, given-limits .tokens-fit)))
 
 -- the number of cells fits, whatever the two bytes are
 pub cells-fit : (n t : ℕ) → n < 256 → t < 256 → n * (t + 1) < 2 ^ 64
@@ -151,30 +158,42 @@ module _ {book : List ℕ} {reading : Reading} (given : Given book reading) {fir
       → first′ ≡ over (take (reading .nonterminals) firsts) first → follow′ ≡ over (take (reading .nonterminals) follows) follow → SetsOutcome book first follow a first′ follow′
   sets-served fit is p q = rw (is, p, q) (calls.served (given .serves) fit given-first-sets given-follow-sets)
 
--- a contest is the first conflict; cells written without one are the table
-module _ {book : List ℕ} {reading : Reading} {firsts follows table : List ℕ} (x : Enterable book reading firsts follows table) {lefts ahead : List ℕ}
-    (sided : Tabulated (leftOf book (reading .places)) (reading .productions) lefts) (looked : Tabulated (lookaheadOf book (reading .places) firsts follows) (reading .productions) ahead)
-    {a : Answer} (contest : Contest (claims lefts ahead (reading .tokens)) (reading .productions) (reading .nonterminals * (reading .tokens + 1)) a) where
-  pub enter-refused : a .number ≢ 0 → (g : Grammar) → Serves book g → Entered g table a table
-  unfolding done
-  enter-refused d g serves = subst (λ (h : Grammar). Entered h table a table) (serves-unique (x .given .serves) serves) (go contest d)
+-- a contest is the first conflict; cells without one are the table
+module _ {book : List ℕ} {reading : Reading} {firsts follows table : List ℕ} (x : Enterable book reading firsts follows table) where
+  -- there are cells for the table, and each production has its row among them
+  pub enter-claimable : {cells : List ℕ} → Vacancy cells
+      → Claimable book (reading .places) (reading .productions) (reading .tokens) (take (reading .nonterminals * (reading .tokens + 1)) cells)
+  enter-claimable {cells} vacancy = record { readable = given-readable (x .given); numbered = given-count (x .given); rows = rows; blank = blank }
     where
-      go : {b : Answer} → Contest (claims lefts ahead (reading .tokens)) (reading .productions) (reading .nonterminals * (reading .tokens + 1)) b → b .number ≢ 0 → Entered (x .given .grammar) table b table
-      go (contested inside rivals earlier) d =
-          clash (rivals-conflict (given-indexes (x .given)) (given-served (x .given) .tokens) (x .first) (x .follow) sided looked (rw (given-size (x .given)) at inside) rivals earlier)
-      go (uncontested one) d = absurd (d refl)
+      n : ℕ
+      n = reading .nonterminals * (reading .tokens + 1)
 
-  pub enter-served : {table′ : List ℕ} → a .number ≡ 0 → Written (claims lefts ahead (reading .tokens)) (reading .productions) (reading .nonterminals * (reading .tokens + 1)) table table′
+      sized : length (take n cells) ≡ n
+      sized = length-take-le n cells (omega (arith, given-most (x .given), vacancy .sized))
+
+      rows : (p : ℕ) → p < reading .productions → (leftOf book (reading .places) p + 1) * (reading .tokens + 1) ≤ length (take n cells)
+      rows p h =
+          let index = given-indexes (x .given) in
+          let (A, α, rule) = rule-at index p h in
+          let below : A + 1 ≤ reading .nonterminals = omega (arith, given-served (x .given) .nonterminals, given-limits (x .given) .well-formed .left-known rule) in
+          rw (left-is index rule, sized) (mul-le-mul-right (reading .tokens + 1) below)
+
+      blank : (i : ℕ) → i < length (take n cells) → getD (take n cells) i 0 ≡ 255
+      blank i h =
+          let inside : i < n = omega (arith, sized) in
+          getD-take n cells i 0 inside ∙ vacancy .blank i (omega (arith, given-most (x .given)))
+
+  pub enter-tabulated : {n : ℕ} {a : Answer} {table′ : List ℕ} → n ≡ reading .nonterminals * (reading .tokens + 1)
+      → Tabulated (Laid (bookClaims book (reading .places) firsts follows (reading .tokens)) (reading .productions) 0) n table a table′
       → (g : Grammar) → Serves book g → Entered g table a table′
-  unfolding refusal
-  enter-served {table′} e w g serves = subst (λ (h : Grammar). Entered h table a table′) (serves-unique (x .given .serves) serves) (go contest e)
+  enter-tabulated {n} {a} {table′} sized drawn g serves = subst (λ (h : Grammar). Entered h table a table′) (serves-unique (x .given .serves) serves) (go drawn)
     where
-      go : {b : Answer} → Contest (claims lefts ahead (reading .tokens)) (reading .productions) (reading .nonterminals * (reading .tokens + 1)) b → b .number ≡ 0 → Entered (x .given .grammar) table b table′
-      go (contested inside rivals earlier) e = absurd (omega arith)
-      go (uncontested one) e =
-          let written = rw (given-size (x .given)) at w in
-          rw (written-over (x .room) written)
-          (entered (written-table (given-indexes (x .given)) (given-served (x .given) .tokens) (x .first) (x .follow) sided looked (x .room) (rw (given-size (x .given)) at one) written))
+      whole : n ≡ size (x .given .grammar)
+      whole = sized ∙ given-size (x .given)
+
+      go : {b : Answer} {after : List ℕ} → Tabulated (Laid (bookClaims book (reading .places) firsts follows (reading .tokens)) (reading .productions) 0) n table b after → Entered (x .given .grammar) table b after
+      go (disputed filled ledger inside) = clash (contest-conflict (given-indexes (x .given)) (given-served (x .given) .tokens) (x .first) (x .follow) ledger (filled ∙ whole) (omega (arith, whole)))
+      go (written filled ledger past) = entered (ledger-table (given-indexes (x .given)) (given-served (x .given) .tokens) (x .first) (x .follow) ledger (filled ∙ whole) (omega (arith, whole)))
 
 module _ {book : List ℕ} {reading : Reading} {first follow table : List ℕ} where
   pub build-refused : {middle a : Answer} → SetsChecked book reading first follow middle → Roomed middle (length table) (reading .nonterminals * (reading .tokens + 1)) refusals.tableRoom a

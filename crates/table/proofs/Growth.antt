@@ -1,20 +1,38 @@
 -- Families of sets that grow: two that lie in each other are the same, steps that only add, passes of such steps and where one
 -- changes nothing, and that a pass which changes something makes the sum of the sets larger.
 use mathlib.Core.Path.{_≡_, refl, sym, ap, _∙_, subst}
+use mathlib.Core.Bool.{true}
 use mathlib.Core.Logic.{_≢_, _⊎_, inl, inr}
 use mathlib.Core.List.{List, [], _∷_, _++_}
 use Prim.Native.Nat.{ℕ, zero, suc, _+_, _*_, _≤_, _<_}
-use native.Mathlib.Decide.{ℕ-discrete}
+use native.Mathlib.Decide.{ℕ-discrete, decLt}
 use native.Mathlib.Nat.{suc-mul}
 use native.Mathlib.Omega.{arith}
 use lib.ListN.{length, getD, set, take, drop, length-set}
-use lib.Seq.{ext-getD, getD-set-same}
-use Rattle.sets.specs.Sets.{Subset, united}
-use Rattle.sets.specs.Calls.{setAt}
-use Rattle.sets.proofs.Promise.{subset-le, or-right}
+use lib.Seq.{ext-getD, getD-set-same, getD-set-other, set-out}
+use Rattle.sets.specs.Sets.{member, Subset, united}
+use Rattle.sets.specs.Calls.{setAt, stored}
+use Rattle.sets.proofs.Promise.{subset-le, or-left, or-right}
 use Rattle.table.specs.Trail.{Grown}
 use Rattle.table.specs.Steps.{unitedAt, passed}
-use Rattle.table.proofs.Passes.{grown-same, grown-further, grown-united}
+
+pub grown-same : {fs : List ℕ} → Grown fs fs
+grown-same = record { keeps = λ A k m. m }
+
+pub grown-further : {fs gs hs : List ℕ} → Grown fs gs → Grown gs hs → Grown fs hs
+grown-further f h = record { keeps = λ A k m. h .keeps A k (f .keeps A k m) }
+
+-- a set united with more has lost nothing
+pub grown-united : (fs : List ℕ) (B x : ℕ) → Grown fs (stored fs B (united (setAt fs B) x))
+grown-united fs B x = record { keeps = λ A k m. go A k m (ℕ-discrete A B) (decLt B (length fs)) }
+  where
+    y : ℕ
+    y = united (setAt fs B) x
+
+    go : (A k : ℕ) → member k (getD fs A 0) ≡ true → Dec (A ≡ B) → Dec (B < length fs) → member k (getD (stored fs B y) A 0) ≡ true
+    go A k m (no d) inside = rw (getD-set-other fs B A y 0 d) m
+    go A k m (yes e) (yes i) = rw (e, getD-set-same fs B y 0 i) (or-left k (setAt fs B) x (rw e at m))
+    go A k m (yes e) (no o) = rw (set-out fs B y (omega arith)) m
 
 -- the next of the sets that are copied
 pub copied-next : (cells buffer : List ℕ) (n : ℕ) → n < length cells → n < length buffer → set (take n cells ++ drop n buffer) n (getD cells n 0) ≡ take (suc n) cells ++ drop (suc n) buffer
@@ -32,6 +50,10 @@ pub united-nothing : (cells : List ℕ) (n x : ℕ) → n < length cells → uni
 united-nothing cells n x inside e k m =
     let there : united (setAt cells n) x ≡ getD cells n 0 = sym (getD-set-same cells n (united (setAt cells n) x) 0 inside) ∙ ap (λ (xs : List ℕ). getD xs n 0) e in
     rw there at (or-right k (setAt cells n) x m)
+
+-- and where it is inside, it is there afterwards
+pub united-there : (cells : List ℕ) (n x : ℕ) → n < length cells → Subset x (getD (unitedAt cells n x) n 0)
+united-there cells n x inside k m = rw (getD-set-same cells n (united (setAt cells n) x) 0 inside) (or-right k (setAt cells n) x m)
 
 -- a step that only adds
 pub record Expands (f : List ℕ → List ℕ) : Type 0 where
@@ -63,6 +85,17 @@ module _ {step : ℕ → List ℕ → List ℕ} where
     unfolding passed
     passed-expands zero = record { grows = λ cells. grown-same; keeps = λ cells. refl }
     passed-expands (suc n) = expands-then (passed-expands n) (expands n)
+
+    -- what holds after a step, and of whatever grows from there, holds after the pass
+    pub passed-fires : {Q : ℕ → List ℕ → Type 0} → ((p : ℕ) (xs ys : List ℕ) → Grown xs ys → Q p xs → Q p ys)
+        → (n : ℕ) (cells : List ℕ) → ((p : ℕ) → p < n → (xs : List ℕ) → length xs ≡ length cells → Q p (step p xs)) → (p : ℕ) → p < n → Q p (passed step n cells)
+    unfolding passed
+    passed-fires grows zero cells fires p h = absurd (omega arith)
+    passed-fires grows (suc n) cells fires p h =
+        elim (ℕ-discrete p n) [
+          | yes e ↦ rw e (fires n (omega arith) (passed step n cells) (passed-expands n .keeps cells))
+          | no d ↦ grows p (passed step n cells) (step n (passed step n cells)) (expands n .grows (passed step n cells)) (passed-fires grows n cells (λ q b. fires q (omega arith)) p (omega arith))
+        ]
 
     -- a pass that changes nothing is one of which no step changes anything
     pub passed-nothing : (n : ℕ) (cells : List ℕ) → passed step n cells ≡ cells → (p : ℕ) → p < n → step p cells ≡ cells

@@ -7,7 +7,7 @@ use Prim.Native.Nat.{ℕ, zero, suc, _<_}
 use native.Mathlib.Omega.{arith}
 use lib.ListN.{length, getElem?}
 use Rattle.grammar.specs.declared.Symbol.the-variants.{Token, Nonterminal}
-use Rattle.grammar.specs.Grammar.{Form, Grammar, Column, token, endmark, column, Every, each, Rule, replace, Derives, itself, step, First, starts, Follow, before, Lookahead, first, follow, Claims, Known, known-token, known-nonterminal, WellFormed}
+use Rattle.grammar.specs.Grammar.{Form, Grammar, Column, token, endmark, column, Every, each, Rule, replace, Derives, itself, step, First, starts, Follow, before, Lookahead, first, follow, Claims, Known, known-token, WellFormed}
 use Rattle.grammar.proofs.Every.{every-append, every-left, every-right}
 use Rattle.grammar.proofs.Useful.{sentential-known}
 
@@ -31,9 +31,6 @@ module _ {g : Grammar} where
 
   pub known-head : {t : ℕ} {α : Form} → Every (Known g) (Token t ∷ α) → t < g .tokens
   known-head (each (known-token h) rest) = h
-
-  pub known-name : {A : ℕ} {α : Form} → Every (Known g) (Nonterminal A ∷ α) → A < g .nonterminals
-  known-name (each (known-nonterminal h) rest) = h
 
   module _ (well : WellFormed g) where
     -- what a form of known symbols derives is of known symbols

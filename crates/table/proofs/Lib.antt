@@ -3,7 +3,6 @@ pub mod Trail
 pub mod Joins
 pub mod Members
 pub mod Additions
-pub mod Passes
 pub mod Closed
 pub mod Cells
 pub mod Unique
@@ -14,7 +13,10 @@ pub mod Spelled
 pub mod Growth
 pub mod Rounds
 pub mod Found
+pub mod Following
 pub mod Seeking
+pub mod Ledgers
+pub mod Rows
 pub mod Claimed
 pub mod Answering
 pub mod SymbolStrings

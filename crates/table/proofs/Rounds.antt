@@ -84,5 +84,5 @@ united-at-fits cells n x fits small = stored-fits cells n (united (setAt cells n
 pub trail-narrow : (fs : List ℕ) → Fits fs → (k : ℕ) → k < 2 ^ width → {α : Form} → Every Narrow α → trail fs k α < 2 ^ width
 unfolding trail symbolSet
 trail-narrow fs fits k small nothing = small
-trail-narrow fs fits k small (each {xs = α} (narrow-token {t = t} h) rest) = joined-fits width emptyString (only t) (trail fs k α) (only-fits width t h) (trail-narrow fs fits k small rest)
+trail-narrow fs fits k small (each {xs = α} (narrow-token {t = t} h) rest) = joined-fits width emptyString (only t) (trail fs k α) (only-fits width t (omega arith)) (trail-narrow fs fits k small rest)
 trail-narrow fs fits k small (each {xs = α} (narrow-nonterminal {A = A}) rest) = joined-fits width emptyString (getD fs A 0) (trail fs k α) (fits .each A) (trail-narrow fs fits k small rest)

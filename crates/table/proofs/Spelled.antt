@@ -1,39 +1,54 @@
 -- Forms as bytes spell them: from the right symbol by symbol, by position, and as the right sides of an index's productions.
-use mathlib.Core.Path.{_≡_, refl}
+use mathlib.Core.Path.{_≡_, refl, ap, _∙_}
 use mathlib.Core.List.{List, [], _∷_}
 use mathlib.Core.Option.{some}
 use Prim.Native.Nat.{ℕ, zero, suc, _+_, _-_, _≤_, _<_}
-use native.Mathlib.Nat.{add-zero, sub-self, sub-zero}
+use native.Mathlib.Decide.{decLt}
+use native.Mathlib.Nat.{add-zero, sub-self, sub-zero, zero-sub, suc-sub-suc}
 use native.Mathlib.Omega.{arith}
 use borrow.Author.Tests.{lt-ltb, le-ltb}
-use lib.ListN.{length, getD, getElem?}
+use lib.ListN.{length, drop, getD, getElem?}
 use Rattle.grammar.specs.declared.Symbol.{Symbol}
 use Rattle.grammar.specs.declared.Symbol.the-variants.{Token, Nonterminal}
 use Rattle.grammar.specs.Grammar.{Form, Grammar, Every, nothing, each, Rule, Known, known-token, known-nonterminal}
-use Rattle.sets.specs.Sets.{width}
+use Rattle.sets.specs.Sets.{endMark}
 use Rattle.book.specs.Fields.{symbolOfByte, symbolAt}
 use Rattle.book.specs.Book.{Limits}
 use Rattle.book.specs.Judging.{indexOf}
 use Rattle.book.proofs.Promise.{Entry, serves-limits, served, rule-below}
-use Rattle.table.specs.Forms.{formIn, leftAt, rightAt, Narrow, narrow-token, narrow-nonterminal, Readable, Indexes}
+use Rattle.table.specs.Forms.{formIn, leftAt, rightAt, tailAt, Narrow, narrow-token, narrow-nonterminal, Readable, Indexes}
 
 module _ (bytes : List ℕ) where
+  -- one symbol, and what lies behind it
+  pub form-next : (from count j : ℕ) → j < count → formIn bytes (from + j) (count - j) ≡ symbolOfByte (getD bytes (from + j) 0) ∷ formIn bytes (from + (j + 1)) (count - (j + 1))
+  unfolding formIn
+  form-next from count j inside =
+      let left : count - j ≡ suc (count - (j + 1)) = omega arith in
+      let next : suc (from + j) ≡ from + (j + 1) = omega arith in
+      rw (left, ← next)
+
   -- one symbol more, from the right
   pub form-turn : (from count j : ℕ) → 0 < j → j ≤ count → formIn bytes (from + (j - 1)) (count - (j - 1)) ≡ symbolOfByte (getD bytes (from + (j - 1)) 0) ∷ formIn bytes (from + j) (count - j)
-  unfolding formIn
   form-turn from count j positive inside =
-      let left : count - (j - 1) ≡ suc (count - j) = omega arith in
-      let next : suc (from + (j - 1)) ≡ from + j = omega arith in
-      rw (left, ← next)
+      let next : j - 1 + 1 ≡ j = omega arith in
+      rw next at (form-next from count (j - 1) (omega arith))
+
+  -- nothing lies behind the last
+  pub form-past : (from count j : ℕ) → count ≤ j → formIn bytes (from + j) (count - j) ≡ []
+  unfolding formIn
+  form-past from count j h = let none : count - j ≡ 0 = omega arith in rw none
 
   -- none yet
   pub form-none : (from count : ℕ) → formIn bytes (from + count) (count - count) ≡ []
   unfolding formIn
   form-none from count = rw sub-self
 
-  -- all of it
-  pub form-all : (from count j : ℕ) → j ≤ 0 → formIn bytes (from + j) (count - j) ≡ formIn bytes from count
-  form-all from count j h = let none : j ≡ 0 = omega arith in rw (none, add-zero, sub-zero)
+  -- from a position on it is what is left when so many symbols are dropped
+  pub form-dropped : (from count n : ℕ) → formIn bytes (from + n) (count - n) ≡ drop n (formIn bytes from count)
+  unfolding formIn
+  form-dropped from count zero = rw (add-zero, sub-zero)
+  form-dropped from zero (suc n) = rw zero-sub
+  form-dropped from (suc count) (suc n) = let next : from + suc n ≡ suc from + n = omega arith in rw (next, suc-sub-suc) (form-dropped (suc from) count n)
 
   pub every-in : {P : Symbol → Type 0} (from count : ℕ) → Every P (formIn bytes from count) → (j : ℕ) → j < count → P (symbolOfByte (getD bytes (from + j) 0))
   unfolding formIn
@@ -59,8 +74,16 @@ module _ (byte : ℕ) where
   unfolding symbolOfByte
   symbol-nonterminal h = rw (le-ltb byte 128 h, symbolOfByte)
 
-pub narrow-below : {t : ℕ} → Narrow (Token t) → t < width
+pub narrow-below : {t : ℕ} → Narrow (Token t) → t < endMark
 narrow-below (narrow-token h) = h
+
+-- a byte that is no token's place is a nonterminal
+pub narrow-high : {byte : ℕ} → Narrow (symbolOfByte byte) → endMark ≤ byte → 128 ≤ byte
+narrow-high {byte} narrow past = go (decLt byte 128)
+  where
+    go : Dec (byte < 128) → 128 ≤ byte
+    go (yes h) = absurd (omega (arith, narrow-below (rw (symbol-token byte h) at narrow)))
+    go (no n) = omega arith
 
 -- the symbols of a grammar within the limits have sets
 pub known-narrow : {g : Grammar} → Limits g → {α : Form} → Every (Known g) α → Every Narrow α
@@ -84,6 +107,9 @@ module _ {book places : List ℕ} {count : ℕ} {g : Grammar} (index : Indexes b
     pub right-is : rightAt book (getD places p 0) ≡ β
     unfolding symbolAt
     right-is = rw (entry .size) (form-spelled book (getD places p 0 + 4) β (λ i s e. entry .symbols i e))
+
+    pub tail-is : (n : ℕ) → tailAt book (getD places p 0) n ≡ drop n β
+    tail-is n = form-dropped book (getD places p 0 + 4) _ n ∙ ap (drop n) right-is
 
   -- each record below the count is a production
   pub rule-at : (p : ℕ) → p < count → (A : ℕ) × (β : Form) × Rule g p A β

@@ -1,30 +1,37 @@
--- The trail of a form as a number: position by position from the right, within the width, and larger for larger sets.
-use mathlib.Core.Path.{_≡_, refl, ap}
+-- The trail of a form as a number: where it halts, within the width, and larger for larger sets.
+use mathlib.Core.Path.{_≡_, refl, sym, ap, _∙_}
+use mathlib.Core.Bool.{false}
 use mathlib.Core.List.{List, [], _∷_}
-use mathlib.Core.Option.{some, Option·none-ne-some}
 use Prim.Native.Nat.{ℕ, zero, suc, _^_, _<_}
 use native.Mathlib.Omega.{arith}
-use lib.ListN.{length, take, drop, getD, getElem?}
-use lib.Seq.{drop-length, getD-take}
-use Rattle.grammar.specs.declared.Symbol.{Symbol}
+use borrow.Author.Tests.{ne-eqb}
+use lib.ListN.{take, drop, getD}
+use lib.Seq.{getD-take}
 use Rattle.grammar.specs.declared.Symbol.the-variants.{Token, Nonterminal}
 use Rattle.grammar.specs.Grammar.{Form, Grammar, Every, nothing, each, Known, known-token, known-nonterminal}
 use Rattle.book.specs.Book.{Limits}
-use Rattle.sets.specs.Sets.{width, emptyString, only, joined, Subset}
-use Rattle.sets.proofs.Promise.{only-fits, joined-fits, join-monotone}
-use Rattle.table.specs.Trail.{trail, symbolSet, Grown}
+use Rattle.sets.specs.Sets.{width, endMark, emptyString, member, only, joined, Subset}
+use Rattle.sets.proofs.Promise.{member-only, only-fits, joined-fits, join-monotone}
+use Rattle.table.specs.Trail.{trail, symbolSet, Halts, halts-here, halts-later, Grown}
 
-module _ (fs : List ℕ) (k : ℕ) where
-  -- a loop over the positions of a form, from the right, has the trail of what lies behind each
-  pub trail-behind-all : (β : Form) → trail fs k (drop (length β) β) ≡ k
-  unfolding trail
-  trail-behind-all β = rw drop-length
+-- nothing is joined to a set without the empty string, such as a token's
+pub join-stops : (x y : ℕ) → member emptyString x ≡ false → joined emptyString x y ≡ x
+unfolding joined
+join-stops x y e = rw e
 
-  pub trail-before : (β : Form) (j : ℕ) {s : Symbol} → getElem? β j ≡ some s → trail fs k (drop j β) ≡ joined emptyString (symbolSet fs s) (trail fs k (drop (suc j) β))
-  unfolding trail
-  trail-before [] j {s} e = absurd (Option·none-ne-some s e)
-  trail-before (x ∷ β) zero {s} e = let same : x ≡ s = cc in rw same
-  trail-before (x ∷ β) (suc j) e = trail-before β j e
+pub join-token : {t : ℕ} → t < endMark → (y : ℕ) → joined emptyString (only t) y ≡ only t
+join-token {t} h y = join-stops (only t) y (member-only emptyString t ∙ ne-eqb emptyString t (λ same. omega arith))
+
+-- nothing behind a form that halts counts
+pub halts-same : {fs : List ℕ} {v : Form} → Halts fs v → (k l : ℕ) → trail fs k v ≡ trail fs l v
+unfolding trail
+halts-same {fs} (halts-here {s = s} {α = α} e) k l = join-stops (symbolSet fs s) (trail fs k α) e ∙ sym (join-stops (symbolSet fs s) (trail fs l α) e)
+halts-same {fs} (halts-later {s = s} h) k l = ap (joined emptyString (symbolSet fs s)) (halts-same h k l)
+
+pub halts-dropped : {fs : List ℕ} (n : ℕ) (β : Form) → Halts fs (drop n β) → Halts fs β
+halts-dropped zero β h = h
+halts-dropped (suc n) [] h = h
+halts-dropped (suc n) (s ∷ β) h = halts-later (halts-dropped n β h)
 
 -- a trail of sets that fit their width fits it
 pub trail-fits : {g : Grammar} → Limits g → (fs : List ℕ) → ((A : ℕ) → A < g .nonterminals → getD fs A 0 < 2 ^ width) → {k : ℕ} → k < 2 ^ width

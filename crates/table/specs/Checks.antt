@@ -11,7 +11,6 @@ use Rattle.book.specs.declared.Answer.{Answer}
 use Rattle.book.specs.Answers.{refusal}
 use Rattle.book.specs.Book.{symbolOf}
 use Rattle.book.specs.Refusals as refusals
-use Rattle.table.specs.Claims.{Sought}
 
 -- an earlier refusal passes through; otherwise the check stops with its own, or goes on
 pub data Checked (before : Answer) (Bad : Answer → Type 0) (Good : Type 0) : Answer → Type 0 where
@@ -40,6 +39,13 @@ Numbered before production productions = Checked before (Because (productions �
 -- a byte is a symbol of a grammar with T tokens and N nonterminals
 abbrev pub IsSymbol : (T N : ℕ) → ℕ → Type 0
 IsSymbol T N byte = (s : Symbol) × (symbolOf T N byte ≡ some s)
+
+-- r is the lowest number from `from` on of which C holds; from `count` on nothing is sought
+pub record Sought (C : ℕ → Type 0) (from count r : ℕ) : Type 0 where
+  pub beyond : from ≤ r
+  pub inside : from ≤ count → r ≤ count
+  pub passed : (p : ℕ) → p < r → from ≤ p → ¬ C p
+  pub found : r < count → C r
 
 -- the first byte that is no symbol, or the length
 abbrev pub Stranger : (T N : ℕ) → List ℕ → ℕ → Type 0

@@ -1,63 +1,93 @@
--- What building goes by: which productions claim a cell by their left sides and lookaheads, the lowest number of which a claim
--- holds, the first cell with two claimants, and the cells written. Document 01, "Sets and table" and refusal 8.
+-- What building goes by: which productions claim a cell by their left sides and lookaheads, and what is kept of the claims laid so
+-- far: the lowest claimant of each cell, and the first cell with two. Document 01, "Sets and table" and refusal 8.
 -- Only contracts inside the crate cite what stands here.
 use mathlib.Core.Path.{_≡_}
-use mathlib.Core.Bool.{true}
-use mathlib.Core.Logic.{_⊎_}
+use mathlib.Core.Bool.{Bool, true, false}
+use mathlib.Core.Logic.{_⊎_, _≢_}
 use mathlib.Core.List.{List}
 use Prim.Native.Nat.{ℕ, _+_, _*_, _/_, _%_, _≤_, _<_}
-use lib.ListN.{length, getD, drop}
+use lib.ListN.{length, getD, set}
 use Rattle.sets.specs.Sets.{member, columnPlace}
-use Rattle.sets.specs.Calls.{setAt}
 use Rattle.book.specs.declared.Answer.{Answer}
 use Rattle.book.specs.Answers.{done, refusal}
 use Rattle.book.specs.Refusals as refusals
+use Rattle.table.specs.declared.claims.Contest.{Contest}
+use Rattle.table.specs.Calls.{over}
+use Rattle.table.specs.Forms.{Readable}
+use Rattle.table.specs.Steps.{leftOf, lookaheadOf}
 
 -- production p is of this row, and its lookahead has this bit
-pub record ClaimsAt (lefts ahead : List ℕ) (row bit p : ℕ) : Type 0 where
-  pub of-row : getD lefts p 0 ≡ row
-  pub has-bit : member bit (setAt ahead p) ≡ true
+pub record ClaimsAt (left look : ℕ → ℕ) (row bit p : ℕ) : Type 0 where
+  pub of-row : left p ≡ row
+  pub has-bit : member bit (look p) ≡ true
 
 -- the claims on each cell of a table with so many tokens
-abbrev pub claims : List ℕ → List ℕ → (tokens cell : ℕ) → ℕ → Type 0
-claims lefts ahead tokens cell = ClaimsAt lefts ahead (cell / (tokens + 1)) (columnPlace (cell % (tokens + 1)) tokens)
+abbrev pub claims : (left look : ℕ → ℕ) (tokens cell : ℕ) → ℕ → Type 0
+claims left look tokens cell = ClaimsAt left look (cell / (tokens + 1)) (columnPlace (cell % (tokens + 1)) tokens)
 
--- r is the lowest number from `from` on of which C holds; from `count` on nothing is sought
-pub record Sought (C : ℕ → Type 0) (from count r : ℕ) : Type 0 where
-  pub beyond : from ≤ r
-  pub inside : from ≤ count → r ≤ count
-  pub passed : (p : ℕ) → p < r → from ≤ p → ¬ C p
-  pub found : r < count → C r
+-- the claims by the left sides and the lookaheads of the records that an index lists
+abbrev pub bookClaims : (book places first follow : List ℕ) (tokens cell : ℕ) → ℕ → Type 0
+bookClaims book places first follow = claims (leftOf book places) (lookaheadOf book places first follow)
+
+-- the claims of the productions before p, and of p those on the cells before f
+pub record Laid (C : ℕ → ℕ → Type 0) (p f : ℕ) (cell q : ℕ) : Type 0 where
+  pub claim : C cell q
+  pub turn : (q < p) ⊎ ((q ≡ p) × (cell < f))
 
 -- p and q are the two lowest numbers of which C holds
-pub record Rivals (C : ℕ → Type 0) (count p q : ℕ) : Type 0 where
+pub record Rivals (C : ℕ → Type 0) (p q : ℕ) : Type 0 where
   pub lowest : C p
   pub next : C q
   pub order : p < q
-  pub below : q < count
-  pub others : (r : ℕ) → r < count → C r → (r ≡ p) ⊎ (q ≤ r)
+  pub others : (r : ℕ) → C r → (r ≡ p) ⊎ (q ≤ r)
 
 -- C holds of one number at most
-abbrev pub AtMostOne : (ℕ → Type 0) → ℕ → Type 0
-AtMostOne C count = (r s : ℕ) → r < count → s < count → C r → C s → r ≡ s
-
--- the first cell with rivals is refused, in cell order
-pub data Contest (C : ℕ → ℕ → Type 0) (count cells : ℕ) : Answer → Type 0 where
-  contested : {i p q : ℕ} → i < cells → Rivals (C i) count p q → ((j : ℕ) → j < i → AtMostOne (C j) count) → Contest C count cells (refusal refusals.conflict i (p * 256 + q))
-  uncontested : ((j : ℕ) → j < cells → AtMostOne (C j) count) → Contest C count cells (done 0)
+abbrev pub AtMostOne : (ℕ → Type 0) → Type 0
+AtMostOne C = (r s : ℕ) → C r → C s → r ≡ s
 
 -- the byte of a cell: the lowest claimant, or 255 where there is none
-pub data Holds (C : ℕ → Type 0) (count : ℕ) : ℕ → Type 0 where
-  lowest : {p : ℕ} → p < count → C p → ((q : ℕ) → q < p → ¬ C q) → Holds C count p
-  vacant : ((p : ℕ) → p < count → ¬ C p) → Holds C count 255
+pub data Holds (C : ℕ → Type 0) : ℕ → Type 0 where
+  lowest : {p : ℕ} → C p → ((q : ℕ) → q < p → ¬ C q) → Holds C p
+  vacant : ((p : ℕ) → ¬ C p) → Holds C 255
 
--- the byte for what was sought below the count
-pub record CellByte (r count byte : ℕ) : Type 0 where
-  pub there : r < count → byte ≡ r
-  pub none : count ≤ r → byte ≡ 255
+-- each cell holds its lowest claimant, and the contest is the first cell with rivals
+pub record Ledger (C : ℕ → ℕ → Type 0) (table : List ℕ) (known : Contest) : Type 0 where
+  pub held : (i : ℕ) → i < length table → Holds (C i) (getD table i 0)
+  pub inside : known .cell ≤ length table
+  pub rivals : known .cell < length table → Rivals (C (known .cell)) (known .lowest) (known .next)
+  pub earlier : (j : ℕ) → j < known .cell → AtMostOne (C j)
 
--- so many cells are written, and what stood beyond stays
-pub record Written (C : ℕ → ℕ → Type 0) (count cells : ℕ) (before after : List ℕ) : Type 0 where
-  pub sized : length after ≡ length before
-  pub each : (i : ℕ) → i < cells → Holds (C i) count (getD after i 255)
-  pub beyond : drop cells after ≡ drop cells before
+-- cells for the largest table, 64 rows of 63 columns, and none of them is claimed
+pub record Vacancy (cells : List ℕ) : Type 0 where
+  pub sized : length cells ≡ 4032
+  pub blank : (i : ℕ) → i < 4032 → getD cells i 0 ≡ 255
+
+-- p claims a cell or not: a vacant one is entered, and one that is held is contested, which counts if no cell up to it is known to be
+pub data Claimed (table : List ℕ) (cell p : ℕ) (known : Contest) : Bool → Contest → List ℕ → Type 0 where
+  passes : Claimed table cell p known false known table
+  enters : getD table cell 0 ≡ 255 → Claimed table cell p known true known (set table cell p)
+  contests : getD table cell 0 ≢ 255 → cell < known .cell → Claimed table cell p known true (record { cell = cell; lowest = getD table cell 0; next = p }) table
+  follows : getD table cell 0 ≢ 255 → known .cell ≤ cell → Claimed table cell p known true known table
+
+-- whatever else is claimed, the claims of a production of this row and with this lookahead are laid
+pub record RowClaimed (row ahead tokens p : ℕ) (table : List ℕ) (known : Contest) (table′ : List ℕ) (known′ : Contest) : Type 0 where
+  pub laid : (left look : ℕ → ℕ) → left p ≡ row → look p ≡ ahead
+      → Ledger (Laid (claims left look tokens) p 0) table known
+      → Ledger (Laid (claims left look tokens) (p + 1) 0) table′ known′
+
+-- so many records are read, each has its row in the table, and every cell is vacant
+pub record Claimable (book places : List ℕ) (count tokens : ℕ) (table : List ℕ) : Type 0 where
+  pub readable : Readable book places count
+  pub numbered : count ≤ 128
+  pub rows : (p : ℕ) → p < count → (leftOf book places p + 1) * (tokens + 1) ≤ length table
+  pub blank : (i : ℕ) → i < length table → getD table i 0 ≡ 255
+
+-- the answer to a contest, which is past the last cell where there is none
+pub data Settled (contest : Contest) (cells : ℕ) : Answer → Type 0 where
+  contested : contest .cell < cells → Settled contest cells (refusal refusals.conflict (contest .cell) (contest .lowest * 256 + contest .next))
+  uncontested : cells ≤ contest .cell → Settled contest cells (done 0)
+
+-- every claim C is laid on so many cells: the first that is contested is refused and the table kept, or they are written
+pub data Tabulated (C : ℕ → ℕ → Type 0) (n : ℕ) (table : List ℕ) : Answer → List ℕ → Type 0 where
+  disputed : {cells : List ℕ} {contest : Contest} → length cells ≡ n → Ledger C cells contest → contest .cell < n → Tabulated C n table (refusal refusals.conflict (contest .cell) (contest .lowest * 256 + contest .next)) table
+  written : {cells : List ℕ} {contest : Contest} → length cells ≡ n → Ledger C cells contest → n ≤ contest .cell → Tabulated C n table (done 0) (over cells table)

@@ -2,12 +2,12 @@
 -- Document 01, "The book": a symbol is a token, or 128 + n for nonterminal n; a record is its mark, left side, length, symbols.
 use mathlib.Core.Path.{_≡_}
 use mathlib.Core.List.{List, [], _∷_}
-use Prim.Native.Nat.{ℕ, zero, suc, _+_, _<_}
+use Prim.Native.Nat.{ℕ, zero, suc, _+_, _-_, _<_}
 use lib.ListN.{length, getD}
 use Rattle.grammar.specs.declared.Symbol.{Symbol}
 use Rattle.grammar.specs.declared.Symbol.the-variants.{Token, Nonterminal}
 use Rattle.grammar.specs.Grammar.{Form, Grammar, Every}
-use Rattle.sets.specs.Sets.{width}
+use Rattle.sets.specs.Sets.{endMark}
 use Rattle.book.specs.Fields.{symbolOfByte}
 use Rattle.book.specs.Judging.{placesIn, Serves}
 
@@ -23,9 +23,13 @@ leftAt book place = getD book (place + 2) 0
 abbrev pub rightAt : List ℕ → ℕ → Form
 rightAt book place = formIn book (place + 4) (getD book (place + 3) 0)
 
--- a symbol whose number has a place in a set
+-- the right side from a position on
+abbrev pub tailAt : List ℕ → (place from : ℕ) → Form
+tailAt book place from = formIn book (place + 4 + from) (getD book (place + 3) 0 - from)
+
+-- a symbol whose number, if it is a token, is a token's place in a set
 pub data Narrow : Symbol → Type 0 where
-  narrow-token : {t : ℕ} → t < width → Narrow (Token t)
+  narrow-token : {t : ℕ} → t < endMark → Narrow (Token t)
   narrow-nonterminal : {A : ℕ} → Narrow (Nonterminal A)
 
 -- the right sides of so many records have sets

@@ -2,15 +2,15 @@
 -- Document 01, "Sets and table". Only contracts inside the crate cite what stands here.
 use mathlib.Core.Path.{_≡_}
 use mathlib.Core.List.{List, [], _∷_}
-use Prim.Native.Nat.{ℕ, zero, suc, _<_}
+use Prim.Native.Nat.{ℕ, zero, suc, _+_, _≤_, _<_}
 use lib.ListN.{length, getD}
 use Rattle.grammar.specs.declared.Symbol.{Symbol}
 use Rattle.grammar.specs.declared.Symbol.the-variants.{Token, Nonterminal}
 use Rattle.grammar.specs.Grammar.{Form, Grammar}
-use Rattle.sets.specs.Sets.{emptyString, only, united}
+use Rattle.sets.specs.Sets.{emptyString, only, united, joined}
 use Rattle.sets.specs.Calls.{setAt, stored}
-use Rattle.table.specs.Trail.{trail, FirstAt, FollowAt}
-use Rattle.table.specs.Forms.{leftAt, rightAt, Indexes}
+use Rattle.table.specs.Trail.{symbolSet, trail, Halts, FirstAt, FollowAt}
+use Rattle.table.specs.Forms.{leftAt, rightAt, tailAt, Readable, Indexes}
 
 -- set number n united with x
 abbrev pub unitedAt : List ℕ → ℕ → ℕ → List ℕ
@@ -25,31 +25,46 @@ unfoldable pub spread : Symbol → ℕ → List ℕ → List ℕ
 spread (Token t) x ys = ys
 spread (Nonterminal A) x ys = unitedAt ys A x
 
+-- one symbol with k behind it: k adds to its FOLLOW, and r is its set joined with k
+pub record PassedOver (fs : List ℕ) (s : Symbol) (k : ℕ) (ys : List ℕ) (r : ℕ) (after : List ℕ) : Type 0 where
+  pub added : after ≡ spread s k ys
+  pub ahead : r ≡ joined emptyString (symbolSet fs s) k
+
 -- each symbol of a form, from the right, with the trail of what lies behind it
 unfoldable pub walked : List ℕ → ℕ → Form → List ℕ → List ℕ
 walked fs k [] ys = ys
 walked fs k (s ∷ α) ys = spread s (trail fs k α) (walked fs k α ys)
 
--- FOLLOW: the record at a place, going on with FOLLOW of its left side
-unfoldable pub followStep : List ℕ → List ℕ → ℕ → List ℕ → List ℕ
-followStep book fs place ys = walked fs (setAt ys (leftAt book place)) (rightAt book place) ys
+-- FOLLOW: the record at a place, going on with FOLLOW of its left side; of its right side, only from a position on
+unfoldable pub followStep : List ℕ → List ℕ → (place from : ℕ) → List ℕ → List ℕ
+followStep book fs place from ys = walked fs (setAt ys (leftAt book place)) (tailAt book place from) ys
+
+-- a position of the right side: 0, or from there on some symbol cannot vanish, so that before it FOLLOW of the left side does not count
+pub record TailAt (book fs : List ℕ) (place from : ℕ) : Type 0 where
+  pub inside : from ≤ getD book (place + 3) 0
+  pub halts : 0 < from → Halts fs (tailAt book place from)
 
 -- the steps below n, one after the other
 unfoldable pub passed : (ℕ → List ℕ → List ℕ) → ℕ → List ℕ → List ℕ
 passed step zero cells = cells
 passed step (suc n) cells = step n (passed step n cells)
 
--- 128 cells, of which each number p below the count holds what f gives
-pub record Tabulated (f : ℕ → ℕ) (count : ℕ) (cells : List ℕ) : Type 0 where
-  pub sized : length cells ≡ 128
-  pub each : (p : ℕ) → p < count → getD cells p 0 ≡ f p
-
 module _ (book places : List ℕ) where
   abbrev pub firstSteps : ℕ → List ℕ → List ℕ
   firstSteps p = firstStep book (getD places p 0)
 
-  abbrev pub followSteps : List ℕ → ℕ → List ℕ → List ℕ
-  followSteps fs p = followStep book fs (getD places p 0)
+  abbrev pub followSteps : (fs from : List ℕ) → ℕ → List ℕ → List ℕ
+  followSteps fs from p = followStep book fs (getD places p 0) (getD from p 0)
+
+  -- so many records can be walked, each from its position on
+  pub record Walkable (count : ℕ) (from : List ℕ) : Type 0 where
+    pub readable : Readable book places count
+    pub listed : count ≤ length from
+    pub inside : (p : ℕ) → p < count → getD from p 0 ≤ getD book (getD places p 0 + 3) 0
+
+  -- the position from which each record has to be walked again
+  pub record Tails (count : ℕ) (fs from : List ℕ) : Type 0 where
+    pub each : (p : ℕ) → p < count → TailAt book fs (getD places p 0) (getD from p 0)
 
   -- the FIRST sets of the grammar that the index lists
   pub record FirstFound (count : ℕ) (cells : List ℕ) : Type 0 where

@@ -1,7 +1,7 @@
 -- What a form can begin with, as a number, going on with another set where all of it vanishes; and what the passes that work out
 -- FIRST and FOLLOW carry. Document 01, "Sets and table": FIRST and the join of its symbols' sets.
 use mathlib.Core.Path.{_≡_}
-use mathlib.Core.Bool.{true}
+use mathlib.Core.Bool.{true, false}
 use mathlib.Core.List.{List, [], _∷_}
 use Prim.Native.Nat.{ℕ, _<_}
 use lib.ListN.{getD}
@@ -21,6 +21,11 @@ symbolSet fs (Nonterminal A) = getD fs A 0
 unfoldable pub trail : List ℕ → ℕ → Form → ℕ
 trail fs k [] = k
 trail fs k (s ∷ α) = joined emptyString (symbolSet fs s) (trail fs k α)
+
+-- some symbol of the form cannot vanish, so that nothing behind the form counts
+pub data Halts (fs : List ℕ) : Form → Type 0 where
+  halts-here : {s : Symbol} {α : Form} → member emptyString (symbolSet fs s) ≡ false → Halts fs (s ∷ α)
+  halts-later : {s : Symbol} {α : Form} → Halts fs α → Halts fs (s ∷ α)
 
 -- every member of the number is in the set
 pub record Inside (P : Member → Type 0) (x : ℕ) : Type 0 where

@@ -1,104 +1,156 @@
 ghost use mathlib.Core.Path.{_≡_};
-ghost use Prim.Native.Nat.{_≤_};
-ghost use lib.ListN.{length, getD};
+ghost use Prim.Native.Nat.{_+_, _*_, _≤_, _<_};
+ghost use lib.ListN.{length};
 ghost use Rattle.grammar.specs.Grammar.{Grammar};
-ghost use Rattle.sets.specs.Calls.{Decides};
+ghost use Rattle.sets.specs.Sets.{member};
+ghost use Rattle.sets.specs.Calls.{number};
 ghost use Rattle.book.specs.Judging.{Serves};
-ghost use Rattle.table.specs.Claims.{ClaimsAt, claims, Sought, Contest, CellByte, Written};
+ghost use Rattle.table.specs.Calls.{over};
+ghost use Rattle.table.specs.Claims.{bookClaims, Laid, Ledger, Vacancy, Claimed, RowClaimed, Claimable, Settled, Tabulated};
 ghost use Rattle.table.specs.Filling.{Enterable, Entered};
-use crate::ahead::lefts;
-use crate::ahead::lookaheads;
+use crate::ahead::lookahead_at;
 use book::Answer;
 use book::Reading;
 use book::answers::done;
 use book::answers::refusal;
+use book::fields::left_at;
+use book::fields::place_at;
 use book::refusals::CONFLICT;
 use book::refusals::DONE;
-use sets::column_bit;
+use sets::END_MARK;
+use sets::Set;
 use sets::has;
-use sets::load;
 
 // The byte of a cell that no production claims.
 const VACANT: u8 = 255;
 
-// The left side of production p; 0 past the end.
-fn left_of(lefts: &[u8], p: usize) -> u8
-    ensures { λ r. ⌜ r ≡ getD (now (lefts .entry)) p 0 ⌝ }
-{
-    if p < lefts.len() { lefts[p] } else { 0 }
+// The first cell known to have two claimants, in cell order, and its two lowest; past the last cell where none is known.
+pub(crate) struct Contest {
+    pub(crate) cell: usize,
+    pub(crate) lowest: u32,
+    pub(crate) next: u32,
 }
 
-// Whether production p is of the row, and its lookahead has the bit.
-fn claims_at(lefts: &[u8], ahead: &[u64], row: usize, bit: u8, p: usize) -> bool
-    ensures { λ r. ⌜ Decides r (ClaimsAt (now (lefts .entry)) (now (ahead .entry)) row bit p) ⌝ }
+// Cells for the largest table, all of them vacant.
+fn vacant() -> [u8; 4032]
+    ensures { λ r. ⌜ Vacancy r ⌝ }
 {
-    if left_of(lefts, p) as usize == row {
-        has(load(ahead, p), bit)
+    [VACANT; 4032]
+}
+
+// Production p claims a cell if its lookahead has the bit of the cell's column: a vacant cell it gets, and one that is held is contested.
+fn claim(ahead: Set, bit: u8, cell: usize, p: u8, table: &mut [u8], known: Contest) -> Contest
+    requires { ⌜ cell < length (now table) ⌝ }
+    ensures { λ r. ⌜ Claimed (now (table .entry)) cell p known (member bit (number ahead)) r (now (table .exit)) ⌝ }
+{
+    if !has(ahead, bit) {
+        return known;
+    }
+    let holder = table[cell];
+    if holder == VACANT {
+        table[cell] = p;
+        return known;
+    }
+    if cell < known.cell {
+        let lowest = holder as u32;
+        let next = p as u32;
+        Contest { cell, lowest, next }
     } else {
-        false
+        known
     }
 }
 
-// The lowest production from `from` on that claims the cell.
-fn seek(lefts: &[u8], ahead: &[u64], count: usize, tokens: u8, cell: usize, from: usize) -> usize
-    ensures { λ r. ⌜ Sought (claims (now (lefts .entry)) (now (ahead .entry)) tokens cell) from count r ⌝ }
+// Production p claims the cells of its row: a column for each token, and then the end mark's.
+fn claim_row(row: u8, ahead: Set, tokens: u8, p: u8, table: &mut [u8], known: Contest) -> Contest
+    requires { ⌜ ((row + 1) * (tokens + 1) ≤ length (now table)) × (p < 255) ⌝ }
+    ensures { λ r. ⌜ RowClaimed row (number ahead) tokens p (now (table .entry)) known (now (table .exit)) r ⌝ }
 {
-    let columns = tokens as usize + 1;
-    let row = cell / columns;
-    let bit = column_bit((cell % columns) as u8, tokens);
-    let mut p = from;
-    while p < count {
-        if claims_at(lefts, ahead, row, bit, p) {
-            return p;
-        }
-        p += 1;
+    let from = row as usize * (tokens as usize + 1);
+    let mut contest = known;
+    let mut column: u8 = 0;
+    while column < tokens {
+        contest = claim(ahead, column, from + column as usize, p, table, contest);
+        column += 1;
     }
-    p
+    claim(ahead, END_MARK, from + tokens as usize, p, table, contest)
 }
 
-// The first cell with two claimants, in cell order, is refused.
-fn first_conflict(lefts: &[u8], ahead: &[u64], count: usize, tokens: u8, cells: usize) -> Answer
-    requires { ⌜ count ≤ 128 ⌝ }
-    ensures { λ r. ⌜ Contest (claims (now (lefts .entry)) (now (ahead .entry)) tokens) count cells r ⌝ }
-{
-    let mut cell: usize = 0;
-    while cell < cells {
-        let lowest = seek(lefts, ahead, count, tokens, cell, 0);
-        let next = seek(lefts, ahead, count, tokens, cell, lowest + 1);
-        if next < count {
-            return refusal(CONFLICT, cell as u64, (lowest * 256 + next) as u64);
-        }
-        cell += 1;
-    }
-    done(0)
-}
-
-// The byte of a cell whose lowest claimant was sought.
-fn cell_byte(lowest: usize, count: usize) -> u8
-    requires { ⌜ count ≤ 128 ⌝ }
-    ensures { λ r. ⌜ CellByte lowest count r ⌝ }
-{
-    if lowest < count { lowest as u8 } else { VACANT }
-}
-
-// Each cell's claimant into the front of a lent buffer.
-fn write_table(
-    lefts: &[u8],
-    ahead: &[u64],
+// The claims of every production, in order, on a table whose cells are all vacant.
+fn claim_all(
+    book: &[u8],
+    places: &[u16],
     count: usize,
     tokens: u8,
-    cells: usize,
+    first: &[u64],
+    follow: &[u64],
     table: &mut [u8],
-)
-    requires { ⌜ (count ≤ 128) × (cells ≤ length (now table)) ⌝ }
-    ensures { λ r. ⌜ Written (claims (now (lefts .entry)) (now (ahead .entry)) tokens) count cells (now (table .entry)) (now (table .exit)) ⌝ }
+) -> Contest
+    requires { ⌜ Claimable (now book) (now places) count tokens (now table) ⌝ }
+    ensures { λ r. ⌜ Ledger (Laid (bookClaims (now (book .entry)) (now (places .entry)) (now (first .entry)) (now (follow .entry)) tokens) count 0) (now (table .exit)) r ⌝ }
+{
+    let mut contest = Contest {
+        cell: table.len(),
+        lowest: 0,
+        next: 0,
+    };
+    let mut p: usize = 0;
+    while p < count {
+        let place = place_at(places, p);
+        let row = left_at(book, place as usize);
+        let ahead = lookahead_at(book, place, first, follow);
+        contest = claim_row(row, ahead, tokens, p as u8, table, contest);
+        p += 1;
+    }
+    contest
+}
+
+// A contested cell is refused.
+fn settle(contest: Contest, cells: usize) -> Answer
+    ensures { λ r. ⌜ Settled contest cells r ⌝ }
+{
+    if contest.cell < cells {
+        refusal(
+            CONFLICT,
+            contest.cell as u64,
+            contest.lowest as u64 * 256 + contest.next as u64,
+        )
+    } else {
+        done(0)
+    }
+}
+
+// Cells into the front of a lent buffer.
+fn write_table(cells: &[u8], table: &mut [u8])
+    requires { ⌜ length (now cells) ≤ length (now table) ⌝ }
+    ensures { λ r. ⌜ now (table .exit) ≡ over (now (cells .entry)) (now (table .entry)) ⌝ }
 {
     let mut cell: usize = 0;
-    while cell < cells {
-        let claimant = seek(lefts, ahead, count, tokens, cell, 0);
-        table[cell] = cell_byte(claimant, count);
+    while cell < cells.len() {
+        table[cell] = cells[cell];
         cell += 1;
     }
+}
+
+// Every claim is laid on vacant cells, which are written if none is contested.
+fn tabulate(
+    book: &[u8],
+    places: &[u16],
+    count: usize,
+    tokens: u8,
+    first: &[u64],
+    follow: &[u64],
+    cells: &mut [u8],
+    table: &mut [u8],
+) -> Answer
+    requires { ⌜ Claimable (now book) (now places) count tokens (now cells) × (length (now cells) ≤ length (now table)) ⌝ }
+    ensures { λ r. ⌜ Tabulated (Laid (bookClaims (now (book .entry)) (now (places .entry)) (now (first .entry)) (now (follow .entry)) tokens) count 0) (length (now (cells .entry))) (now (table .entry)) r (now (table .exit)) ⌝ }
+{
+    let contest = claim_all(book, places, count, tokens, first, follow, cells);
+    let answer = settle(contest, cells.len());
+    if answer.number == DONE {
+        write_table(cells, table);
+    }
+    answer
 }
 
 // The table of a book whose sets are known, unless two productions claim one cell: that is known before anything is written.
@@ -116,11 +168,15 @@ pub(crate) fn enter(
     let count = reading.productions as usize;
     let tokens = reading.tokens;
     let cells = reading.nonterminals as usize * (tokens as usize + 1);
-    let rows = lefts(book, &places, count);
-    let ahead = lookaheads(book, &places, count, first, follow);
-    let answer = first_conflict(&rows, &ahead, count, tokens, cells);
-    if answer.number == DONE {
-        write_table(&rows, &ahead, count, tokens, cells, table);
-    }
-    answer
+    let mut claimed = vacant();
+    tabulate(
+        book,
+        &places,
+        count,
+        tokens,
+        first,
+        follow,
+        &mut claimed[..cells],
+        table,
+    )
 }

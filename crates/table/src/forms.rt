@@ -6,7 +6,9 @@ ghost use Rattle.table.specs.Forms.{formIn, Narrow};
 ghost use Rattle.table.specs.Trail.{symbolSet, trail};
 use crate::families::single;
 use book::fields::byte_at;
+use sets::EMPTY_STRING;
 use sets::Set;
+use sets::has;
 use sets::join;
 use sets::load;
 
@@ -27,16 +29,20 @@ pub(crate) fn symbol_set(byte: u8, first: &[u64]) -> Set
     }
 }
 
-// What so many bytes from a place on can begin with, and then the set behind them: one trailer, from the right.
+// What so many bytes from a place on can begin with, and then the set behind them: from the left, as far as all vanishes.
 pub(crate) fn trail_of(bytes: &[u8], from: usize, count: usize, first: &[u64], behind: Set) -> Trail
     requires { ⌜ Every Narrow (formIn (now bytes) from count) ⌝ }
     ensures { λ r. ⌜ number (r .set) ≡ trail (now (first .entry)) (number behind) (formIn (now (bytes .entry)) from count) ⌝ }
 {
-    let mut set = behind;
-    let mut j = count;
-    while 0 < j {
-        j -= 1;
-        set = join(symbol_set(byte_at(bytes, from, j), first), set);
+    let mut begun = single(EMPTY_STRING);
+    let mut j: usize = 0;
+    while j < count {
+        if !has(begun, EMPTY_STRING) {
+            return Trail { set: begun };
+        }
+        begun = join(begun, symbol_set(byte_at(bytes, from, j), first));
+        j += 1;
     }
+    let set = join(begun, behind);
     Trail { set }
 }

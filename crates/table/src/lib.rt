@@ -28,6 +28,7 @@ mod families;
 mod first;
 mod follow;
 mod forms;
+mod tails;
 
 // An answer with its set: a lookahead, or FIRST of a symbol string.
 pub struct SetAnswer {

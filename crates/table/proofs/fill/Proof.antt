@@ -1,7 +1,7 @@
 -- Where the table is entered, the sets are copied too.
 use mathlib.Core.Path.{sym}
 use borrow.Author.Needs.{needs}
-use Rattle.table.proofs.Answering.{given-served, given-readable, given-copies, fill-enterable, fill-refused, fill-served}
+use Rattle.table.proofs.Answering.{given-served, given-readable, given-count, given-copies, fill-enterable, fill-refused, fill-served}
 use Rattle.table.proofs.fill.Statement.{statement}
 use Rattle.table.proofs.fill.Tie as tie
 
@@ -24,7 +24,7 @@ slice-aggregate-follows-2 : tie.Need-slice-aggregate-follows-2
 slice-aggregate-follows-2 c = search needs
 
 follows-requires : tie.Need-follows-requires
-follows-requires c κs = given-readable (c .before .before .before .before .before .before .before .before .before .before .before .pre .given)
+follows-requires c κs = (given-readable (c .before .before .before .before .before .before .before .before .before .before .before .pre .given), given-count (c .before .before .before .before .before .before .before .before .before .before .before .pre .given))
 
 slice-aggregate-enter : tie.Need-slice-aggregate-enter
 slice-aggregate-enter c = search needs

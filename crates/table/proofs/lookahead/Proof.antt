@@ -2,7 +2,7 @@
 use mathlib.Core.Path.{sym}
 use Prim.Native.Nat.{_<_}
 use borrow.Author.Needs.{needs}
-use Rattle.table.proofs.Answering.{given-served, given-readable}
+use Rattle.table.proofs.Answering.{given-served, given-readable, given-count}
 use Rattle.table.proofs.SetAnswering.{Ready, numbered-ready, lookahead-refused, lookahead-served}
 use Rattle.table.proofs.lookahead.Statement.{statement}
 use Rattle.table.proofs.lookahead.Tie as tie
@@ -38,7 +38,7 @@ slice-aggregate-follows-2 : tie.Need-slice-aggregate-follows-2
 slice-aggregate-follows-2 c = search needs
 
 follows-requires : tie.Need-follows-requires
-follows-requires c κs = given-readable ((ready (c .before .before .before .before .before .before)) .given)
+follows-requires c κs = (given-readable ((ready (c .before .before .before .before .before .before)) .given), given-count ((ready (c .before .before .before .before .before .before)) .given))
 
 slice-aggregate-place-at : tie.Need-slice-aggregate-place-at
 slice-aggregate-place-at c = sym (given-served ((ready (c .before .before .before .before .before .before .before .before)) .given) .cells)

@@ -1,7 +1,7 @@
 -- The checks decide between a refusal and the sets; what is copied is the first N of each family.
 use mathlib.Core.Path.{sym}
 use borrow.Author.Needs.{needs}
-use Rattle.table.proofs.Answering.{SetsChecked, sets-checked, SetsReady, checked-ready, sets-refused, sets-served, given-served, given-copies, given-readable}
+use Rattle.table.proofs.Answering.{SetsChecked, sets-checked, SetsReady, checked-ready, sets-refused, sets-served, given-served, given-copies, given-readable, given-count}
 use Rattle.table.proofs.sets.Statement.{statement}
 use Rattle.table.proofs.sets.Tie as tie
 
@@ -36,7 +36,7 @@ slice-aggregate-follows-2 : tie.Need-slice-aggregate-follows-2
 slice-aggregate-follows-2 c = search needs
 
 follows-requires : tie.Need-follows-requires
-follows-requires c κs = given-readable (ready (c .before .before .before .before) .given)
+follows-requires c κs = (given-readable (ready (c .before .before .before .before) .given), given-count (ready (c .before .before .before .before) .given))
 
 slice-aggregate-copy : tie.Need-slice-aggregate-copy
 slice-aggregate-copy c = search needs

@@ -1,7 +1,10 @@
--- A contest is the first conflict; without one the table is written.
+-- The cells of the table are the first of those at hand.
 use mathlib.Core.Path.{sym}
+use Prim.Native.Nat.{_+_, _*_, _≤_}
+use lib.ListN.{length}
+use lib.Seq.{length-take-le}
 use borrow.Author.Needs.{needs}
-use Rattle.table.proofs.Answering.{given-served, given-readable, given-count, given-size, cells-fit, enter-refused, enter-served}
+use Rattle.table.proofs.Answering.{given-served, given-size, given-most, cells-fit, enter-claimable, enter-tabulated}
 use Rattle.table.proofs.claims.enter.Statement.{statement}
 use Rattle.table.proofs.claims.enter.Tie as tie
 
@@ -20,44 +23,31 @@ add-cells c = search needs
 mul-cells : tie.Need-mul-cells
 mul-cells c = record { fits = cells-fit _ _ (search needs) (search needs) }
 
-slice-aggregate-lefts : tie.Need-slice-aggregate-lefts
-slice-aggregate-lefts c = sym (given-served (c .before .before .before .before .before .before .before .before .pre .given) .cells)
+vacant-requires : tie.Need-vacant-requires
+vacant-requires c κs = search needs
 
-lefts-requires : tie.Need-lefts-requires
-lefts-requires c κs = given-count (c .before .before .before .before .before .before .before .before .pre .given)
+-- as many cells are at hand as the table has
+cells-there : (d : tie.After-vacant) → d .before .before .before .before .before .before .before .before .args .reading .nonterminals * (d .before .before .before .before .before .before .before .before .args .reading .tokens + 1) ≤ length (d .vacant .result)
+cells-there d = rw (d .vacant .ensures .sized) (given-most (d .before .before .before .before .before .before .before .before .pre .given))
 
-slice-aggregate-lookaheads : tie.Need-slice-aggregate-lookaheads
-slice-aggregate-lookaheads c = sym (given-served (c .before .before .before .before .before .before .before .before .before .before .pre .given) .cells)
+slice-aggregate-tabulate : tie.Need-slice-aggregate-tabulate
+slice-aggregate-tabulate c = sym (given-served (c .before .before .before .before .before .before .before .before .before .pre .given) .cells)
 
-lookaheads-requires : tie.Need-lookaheads-requires
-lookaheads-requires c κs = (given-readable (c .before .before .before .before .before .before .before .before .before .before .pre .given), given-count (c .before .before .before .before .before .before .before .before .before .before .pre .given))
+array-borrow-prefix-claimed : tie.Need-array-borrow-prefix-claimed
+array-borrow-prefix-claimed c = cells-there (c .before)
 
-slice-aggregate-first-conflict : tie.Need-slice-aggregate-first-conflict
-slice-aggregate-first-conflict c = search needs
+slice-aggregate-tabulate-2 : tie.Need-slice-aggregate-tabulate-2
+slice-aggregate-tabulate-2 c = sym (length-take-le _ _ (cells-there (c .before .before)))
 
-slice-aggregate-first-conflict-2 : tie.Need-slice-aggregate-first-conflict-2
-slice-aggregate-first-conflict-2 c = search needs
-
-first-conflict-requires : tie.Need-first-conflict-requires
-first-conflict-requires c κs = given-count (c .before .before .before .before .before .before .before .before .before .before .before .before .before .pre .given)
-
-slice-aggregate-write-table : tie.Need-slice-aggregate-write-table
-slice-aggregate-write-table c = search needs
-
-slice-aggregate-write-table-2 : tie.Need-slice-aggregate-write-table-2
-slice-aggregate-write-table-2 c = search needs
-
-write-table-requires : tie.Need-write-table-requires
-write-table-requires c κs = (given-count (c .before .before .before .before .before .before .before .before .before .before .before .before .before .before .before .before .before .before .before .pre .given), rw (given-size (c .before .before .before .before .before .before .before .before .before .before .before .before .before .before .before .before .before .before .before .pre .given)) (c .before .before .before .before .before .before .before .before .before .before .before .before .before .before .before .before .before .before .before .pre .room))
+tabulate-requires : tie.Need-tabulate-requires
+tabulate-requires c κs =
+    (enter-claimable (c .before .before .before .before .before .before .before .before .before .before .before .pre) (c .before .before .before .vacant .ensures), rw (length-take-le _ _ (cells-there (c .before .before .before)), given-size (c .before .before .before .before .before .before .before .before .before .before .before .pre .given)) (c .before .before .before .before .before .before .before .before .before .before .before .pre .room))
 
 same-length : tie.Need-same-length
 same-length c = search needs
 
 returns : tie.Need-returns
-returns c = enter-served (c .before .before .before .before .before .before .before .before .before .before .before .before .before .before .before .before .before .before .before .before .before .before .pre) (c .before .before .before .before .before .before .before .before .before .before .before .before .before .lefts .ensures) (c .before .before .before .before .before .before .before .before .before .before .before .lookaheads .ensures) (c .before .before .before .before .before .before .before .before .first-conflict .ensures) (c .before .before .before .before .before .before .if1 .taken) (c .before .before .write-table .ensures)
-
-returns-2 : tie.Need-returns-2
-returns-2 c = enter-refused (c .before .before .before .before .before .before .before .before .before .before .before .before .before .before .before .before .pre) (c .before .before .before .before .before .before .before .lefts .ensures) (c .before .before .before .before .before .lookaheads .ensures) (c .before .before .first-conflict .ensures) (c .if1 .left)
+returns c = enter-tabulated (c .before .before .before .before .before .before .before .before .before .before .before .before .before .before .before .pre) (length-take-le _ _ (cells-there (c .before .before .before .before .before .before .before))) (c .before .before .before .tabulate .ensures)
 
 pub enter-spec : {M : Type 1} → statement M
 enter-spec =
@@ -68,16 +58,10 @@ enter-spec =
     cast-cells-2
     add-cells
     mul-cells
-    slice-aggregate-lefts
-    lefts-requires
-    slice-aggregate-lookaheads
-    lookaheads-requires
-    slice-aggregate-first-conflict
-    slice-aggregate-first-conflict-2
-    first-conflict-requires
-    slice-aggregate-write-table
-    slice-aggregate-write-table-2
-    write-table-requires
+    vacant-requires
+    slice-aggregate-tabulate
+    array-borrow-prefix-claimed
+    slice-aggregate-tabulate-2
+    tabulate-requires
     same-length
-    returns
-    returns-2)
+    returns)

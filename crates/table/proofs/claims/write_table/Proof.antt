@@ -1,31 +1,30 @@
--- The invariant: the cells written so far.
+-- The invariant: the cells written so far, then what stood beyond.
+use mathlib.Core.Path.{_≡_, refl}
+use mathlib.Core.List.{_++_}
 use Prim.Native.Nat.{_-_, _≤_}
-use native.Mathlib.Nat.{le-antisymm}
+use native.Mathlib.Numerals.{add-one}
 use native.Mathlib.Omega.{arith}
+use lib.ListN.{length, take, drop, length-set}
+use lib.Seq.{take-length}
 use borrow.Author.Needs.{needs}
-use Rattle.table.specs.Claims.{claims, Written}
-use Rattle.table.proofs.Seeking.{cell-holds}
-use Rattle.table.proofs.Claimed.{written-none, written-next}
+use Rattle.table.proofs.Growth.{copied-next}
 use Rattle.table.proofs.claims.write_table.Statement.{statement}
 use Rattle.table.proofs.claims.write_table.Tie as tie
 
 abbrev Inv-loop : tie.InvT-loop
-Inv-loop lefts ahead count tokens cells table₀ cell₀ table cell = (cell ≤ cells) × Written (claims lefts ahead tokens) count cell table₀ table
+Inv-loop cells table₀ cell₀ table cell = (cell ≤ length cells) × (length table ≡ length table₀) × (table ≡ take cell cells ++ drop cell table₀)
 
 abbrev μ-loop : tie.MeasureT-loop
-μ-loop lefts ahead count tokens cells table₀ cell₀ table cell = cells - cell
+μ-loop cells table₀ cell₀ table cell = length cells - cell
 
 loop-holds : tie.Need-loop-holds Inv-loop μ-loop
-loop-holds c = (search needs, written-none)
+loop-holds c = (search needs, refl, refl)
 
-seek-requires : tie.Need-seek-requires Inv-loop μ-loop
-seek-requires c κs = search needs
-
-cell-byte-requires : tie.Need-cell-byte-requires Inv-loop μ-loop
-cell-byte-requires c κs = search needs
+shared-slice-read-table : tie.Need-shared-slice-read-table Inv-loop μ-loop
+shared-slice-read-table c = search needs
 
 slice-write-table : tie.Need-slice-write-table Inv-loop μ-loop
-slice-write-table c = omega (arith, c .before .before .before .loop .inv .1 .sized, c .before .before .before .before .before .before .before .pre .1)
+slice-write-table c = search needs
 
 add-cell : tie.Need-add-cell Inv-loop μ-loop
 add-cell c = search needs
@@ -34,13 +33,15 @@ loop-less : tie.Need-loop-less Inv-loop μ-loop
 loop-less c = search needs
 
 loop-again : tie.Need-loop-again Inv-loop μ-loop
-loop-again c = (search needs, written-next (omega (arith, c .before .before .before .before .before .before .before .pre .1)) (c .before .before .before .loop .inv .1) (cell-holds (c .before .seek .ensures) (c .cell-byte .ensures)))
+loop-again c = (search needs, rw length-set (c .before .before .loop .inv .1), rw (c .before .before .loop .inv .2, add-one) (copied-next (c .before .before .before .args .cells .now) (c .before .before .before .args .table .now) (c .before .before .loop .cell) (omega arith) (omega arith)))
 
 same-length : tie.Need-same-length Inv-loop μ-loop
-same-length c = c .before .loop .inv .1 .sized
+same-length c = search needs
 
 returns : tie.Need-returns Inv-loop μ-loop
-returns c = rw (le-antisymm (c .before .loop .inv .0) (c .loop-test .left)) at (c .before .loop .inv .1)
+returns c =
+    let all : c .before .loop .cell ≡ length (c .before .before .args .cells .now) = omega arith in
+    rw (all, take-length) at (c .before .loop .inv .2)
 
 pub write-table-spec : {M : Type 1} → statement M
 write-table-spec =
@@ -49,8 +50,7 @@ write-table-spec =
     Inv-loop
     μ-loop
     loop-holds
-    seek-requires
-    cell-byte-requires
+    shared-slice-read-table
     slice-write-table
     add-cell
     loop-less

@@ -11,10 +11,11 @@ use Rattle.table.proofs.follow.follow_pass.Statement.{statement}
 use Rattle.table.proofs.follow.follow_pass.Tie as tie
 
 abbrev Inv-loop : tie.InvT-loop
-Inv-loop book places count first follow₀ p₀ follow p = (p ≤ count) × (length follow ≡ length follow₀) × (follow ≡ passed (followSteps book places first) p follow₀)
+Inv-loop book places count first from follow₀ p₀ follow p =
+    (p ≤ count) × (length follow ≡ length follow₀) × (follow ≡ passed (followSteps book places first from) p follow₀)
 
 abbrev μ-loop : tie.MeasureT-loop
-μ-loop book places count first follow₀ p₀ follow p = count - p
+μ-loop book places count first from follow₀ p₀ follow p = count - p
 
 loop-holds : tie.Need-loop-holds Inv-loop μ-loop
 unfolding passed
@@ -23,8 +24,12 @@ loop-holds c = (search needs, refl, refl)
 place-at-requires : tie.Need-place-at-requires Inv-loop μ-loop
 place-at-requires c κs = search needs
 
+shared-slice-read-follow-step : tie.Need-shared-slice-read-follow-step Inv-loop μ-loop
+shared-slice-read-follow-step c = omega (arith, c .before .before .before .before .before .before .before .before .before .pre .listed)
+
 follow-step-requires : tie.Need-follow-step-requires Inv-loop μ-loop
-follow-step-requires c κs = rw (c .before .place-at .ensures) (c .before .before .before .before .before .before .before .before .pre .right _ (c .before .before .loop-test .taken))
+follow-step-requires c κs =
+    (rw (c .before .before .place-at .ensures) (c .before .before .before .before .before .before .before .before .before .before .pre .readable .right _ (c .before .before .before .loop-test .taken)), rw (c .before .before .place-at .ensures) (c .before .before .before .before .before .before .before .before .before .before .pre .inside _ (c .before .before .before .loop-test .taken)))
 
 add-p : tie.Need-add-p Inv-loop μ-loop
 add-p c = search needs
@@ -34,7 +39,11 @@ loop-less c = search needs
 
 loop-again : tie.Need-loop-again Inv-loop μ-loop
 unfolding passed
-loop-again c = (search needs, omega (arith, c .before .before .follow-step .kept .1 .1 .1 .0), rw (add-one, c .before .before .follow-step .ensures, c .before .before .before .before .place-at .ensures, c .before .before .before .before .before .before .loop .inv .2))
+loop-again c = (
+  search needs,
+  omega (arith, c .before .before .follow-step .kept .1 .1 .1 .1 .0, c .before .before .before .before .before .before .before .loop .inv .1),
+  rw (add-one, c .before .before .follow-step .ensures, c .before .before .before .before .before .place-at .ensures, c .before .before .before .before .before .before .before .loop .inv .2),
+)
 
 same-length : tie.Need-same-length Inv-loop μ-loop
 same-length c = search needs
@@ -50,6 +59,7 @@ follow-pass-spec =
     μ-loop
     loop-holds
     place-at-requires
+    shared-slice-read-follow-step
     follow-step-requires
     add-p
     loop-less

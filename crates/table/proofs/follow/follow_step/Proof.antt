@@ -1,27 +1,27 @@
 -- The invariant: the trailer is the trail of the symbols gone through, and these have added to FOLLOW.
 use mathlib.Core.Path.{_≡_, refl}
-use Prim.Native.Nat.{_+_, _-_, _≤_}
+use Prim.Native.Nat.{_+_, _≤_}
 use native.Mathlib.Omega.{arith}
 use lib.ListN.{length, getD}
 use borrow.Author.Needs.{needs}
 use Rattle.sets.specs.Calls.{number}
-use Rattle.sets.proofs.Promise.{join-is}
-use Rattle.table.specs.Forms.{formIn}
+use Rattle.table.specs.Forms.{tailAt}
 use Rattle.table.specs.Trail.{trail}
 use Rattle.table.specs.Steps.{walked, followStep}
-use Rattle.table.proofs.Spelled.{form-turn, form-none, form-all, every-in}
+use Rattle.table.proofs.Spelled.{form-turn, form-none, every-in}
 use Rattle.table.proofs.follow.follow_step.Statement.{statement}
 use Rattle.table.proofs.follow.follow_step.Tie as tie
 
 abbrev Inv-loop : tie.InvT-loop
-Inv-loop book place first follow₀ at trailer₀ j₀ follow trailer j =
-    (j ≤ getD book (place + 3) 0)
+Inv-loop book place from first follow₀ at trailer₀ j₀ follow trailer j =
+    (from ≤ j)
+    × (j ≤ getD book (place + 3) 0)
     × (length follow ≡ length follow₀)
-    × (number trailer ≡ trail first (number trailer₀) (formIn book (place + 4 + j) (getD book (place + 3) 0 - j)))
-    × (follow ≡ walked first (number trailer₀) (formIn book (place + 4 + j) (getD book (place + 3) 0 - j)) follow₀)
+    × (number trailer ≡ trail first (number trailer₀) (tailAt book place j))
+    × (follow ≡ walked first (number trailer₀) (tailAt book place j) follow₀)
 
 abbrev μ-loop : tie.MeasureT-loop
-μ-loop book place first follow₀ at trailer₀ j₀ follow trailer j = j
+μ-loop book place from first follow₀ at trailer₀ j₀ follow trailer j = j
 
 left-at-requires : tie.Need-left-at-requires Inv-loop μ-loop
 left-at-requires c κs = search needs
@@ -35,12 +35,10 @@ load-requires c κs = search needs
 length-at-requires : tie.Need-length-at-requires Inv-loop μ-loop
 length-at-requires c κs = search needs
 
-cast-j : tie.Need-cast-j Inv-loop μ-loop
-cast-j c = search needs
-
 loop-holds : tie.Need-loop-holds Inv-loop μ-loop
 unfolding trail walked
-loop-holds c = (omega (arith, c .length-at .ensures), refl, rw (c .length-at .ensures, form-none), rw (c .length-at .ensures, form-none))
+loop-holds c =
+    (omega (arith, c .length-at .ensures, c .before .before .before .before .before .before .before .pre .1), omega (arith, c .length-at .ensures), refl, rw (c .length-at .ensures, form-none), rw (c .length-at .ensures, form-none))
 
 sub-j : tie.Need-sub-j Inv-loop μ-loop
 sub-j c = search needs
@@ -48,31 +46,36 @@ sub-j c = search needs
 add-byte-at : tie.Need-add-byte-at Inv-loop μ-loop
 add-byte-at c = search needs
 
+cast-byte-at : tie.Need-cast-byte-at Inv-loop μ-loop
+cast-byte-at c = search needs
+
 byte-at-requires : tie.Need-byte-at-requires Inv-loop μ-loop
 byte-at-requires c κs = search needs
 
-spread-to-requires : tie.Need-spread-to-requires Inv-loop μ-loop
-spread-to-requires c κs = search needs
-
-symbol-set-requires : tie.Need-symbol-set-requires Inv-loop μ-loop
-symbol-set-requires c κs = rw (c .before .before .before .before .byte-at .ensures) (every-in _ _ _ (c .before .before .before .before .before .before .before .before .before .before .before .before .before .before .pre) _ (omega (arith, c .before .before .before .before .before .before .loop .inv .0, c .before .before .before .before .before .loop-test .taken)))
-
-join-requires : tie.Need-join-requires Inv-loop μ-loop
-join-requires c κs = search needs
+pass-over-requires : tie.Need-pass-over-requires Inv-loop μ-loop
+pass-over-requires c κs = rw (c .before .byte-at .ensures) (every-in _ _ _ (c .before .before .before .before .before .before .before .before .before .before .before .pre .0) _ (omega (arith, c .before .before .before .loop .inv .1, c .before .before .loop-test .taken)))
 
 loop-less : tie.Need-loop-less Inv-loop μ-loop
 loop-less c = search needs
 
 loop-again : tie.Need-loop-again Inv-loop μ-loop
 unfolding trail walked
-loop-again c = (search needs, omega (arith, c .before .before .before .before .spread-to .kept .1 .1 .0, c .before .before .before .before .before .before .before .before .loop .inv .1), rw (form-turn _ _ _ _ (c .before .before .before .before .before .before .before .loop-test .taken) (c .before .before .before .before .before .before .before .before .loop .inv .0), join-is (c .join .ensures), c .before .symbol-set .ensures, c .before .before .before .before .before .before .byte-at .ensures, c .before .before .before .before .before .before .before .before .loop .inv .2), rw (form-turn _ _ _ _ (c .before .before .before .before .before .before .before .loop-test .taken) (c .before .before .before .before .before .before .before .before .loop .inv .0), c .before .before .before .before .spread-to .ensures, c .before .before .before .before .before .before .byte-at .ensures, c .before .before .before .before .before .before .before .before .loop .inv .2, c .before .before .before .before .before .before .before .before .loop .inv .3))
+loop-again c = (
+  omega (arith, c .before .before .before .before .before .loop-test .taken),
+  omega (arith, c .before .before .before .before .before .before .loop .inv .1),
+  omega (arith, c .before .before .pass-over .kept .1 .1 .1 .0, c .before .before .before .before .before .before .loop .inv .2),
+  rw (form-turn _ _ _ _ (omega (arith, c .before .before .before .before .before .loop-test .taken)) (c .before .before .before .before .before .before .loop .inv .1), c .before .before .pass-over .ensures .ahead, c .before .before .before .before .byte-at .ensures, c .before .before .before .before .before .before .loop .inv .3),
+  rw (form-turn _ _ _ _ (omega (arith, c .before .before .before .before .before .loop-test .taken)) (c .before .before .before .before .before .before .loop .inv .1), c .before .before .pass-over .ensures .added, c .before .before .before .before .byte-at .ensures, c .before .before .before .before .before .before .loop .inv .3, c .before .before .before .before .before .before .loop .inv .4),
+)
 
 same-length : tie.Need-same-length Inv-loop μ-loop
 same-length c = search needs
 
 returns : tie.Need-returns Inv-loop μ-loop
 unfolding followStep
-returns c = rw (form-all _ _ _ _ (c .loop-test .left), c .before .before .before .load .ensures .loaded, c .before .before .before .before .left-at .ensures) at (c .before .loop .inv .3)
+returns c =
+    let there : c .before .loop .j ≡ c .before .before .before .before .before .before .before .before .before .args .from = omega (arith, c .before .loop .inv .0, c .loop-test .left) in
+    rw (there, c .before .before .before .load .ensures .loaded, c .before .before .before .before .left-at .ensures) at (c .before .loop .inv .4)
 
 pub follow-step-spec : {M : Type 1} → statement M
 follow-step-spec =
@@ -84,14 +87,12 @@ follow-step-spec =
     cast-load
     load-requires
     length-at-requires
-    cast-j
     loop-holds
     sub-j
     add-byte-at
+    cast-byte-at
     byte-at-requires
-    spread-to-requires
-    symbol-set-requires
-    join-requires
+    pass-over-requires
     loop-less
     loop-again
     same-length

@@ -1,4 +1,5 @@
 -- A byte below 128 is a token, whose set is itself; any other a nonterminal, whose set stands in the family.
+use native.Mathlib.Omega.{arith}
 use borrow.Author.Needs.{needs}
 use Rattle.table.specs.Trail.{symbolSet}
 use Rattle.table.proofs.Spelled.{symbol-token, symbol-nonterminal, narrow-below}
@@ -6,7 +7,7 @@ use Rattle.table.proofs.forms.symbol_set.Statement.{statement}
 use Rattle.table.proofs.forms.symbol_set.Tie as tie
 
 single-requires : tie.Need-single-requires
-single-requires c κs = narrow-below (rw (symbol-token _ (c .if1 .taken)) at (c .before .before .pre))
+single-requires c κs = omega (arith, narrow-below (rw (symbol-token _ (c .if1 .taken)) at (c .before .before .pre)))
 
 cast-load : tie.Need-cast-load
 cast-load c = search needs

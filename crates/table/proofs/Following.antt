@@ -1,0 +1,246 @@
+-- FOLLOW is found: every pass keeps its soundness; after a pass over whole right sides all is there that does not come from FOLLOW of
+-- their left sides; and where a pass over their tails changes nothing the sets are closed, so exact.
+use mathlib.Core.Path.{_≡_, refl, sym, _∙_}
+use mathlib.Core.Bool.{true, false≢true}
+use mathlib.Core.Logic.{_⊎_, inl, inr}
+use mathlib.Core.List.{List, [], _∷_}
+use Prim.Native.Nat.{ℕ, zero, suc, _+_, _^_, _≤_, _<_}
+use native.Mathlib.Decide.{decLt}
+use native.Mathlib.Omega.{arith}
+use lib.ListN.{length, drop, getD, set, replicate, length-replicate, length-set}
+use lib.Seq.{getD-set-same, getD-set-other}
+use borrow.Author.Count.{below-more}
+use Rattle.grammar.specs.declared.Symbol.{Symbol}
+use Rattle.grammar.specs.declared.Symbol.the-variants.{Token, Nonterminal}
+use Rattle.grammar.specs.Grammar.{Form, Grammar, Every, nothing, each, Rule, Follow}
+use Rattle.grammar.proofs.Join.{Behind, first, later}
+use Rattle.sets.specs.Sets.{width, endMark, member, Subset, only}
+use Rattle.sets.specs.Calls.{setAt, stored}
+use Rattle.sets.proofs.Promise.{member-none, only-fits}
+use Rattle.book.specs.Book.{Limits}
+use Rattle.book.specs.Judging.{AllUseful}
+use Rattle.table.specs.Forms.{leftAt, tailAt, Narrow, Readable, Indexes}
+use Rattle.table.specs.Trail.{trail, Halts, Inside, FirstSound, FollowSound, FirstAt, Grown, FollowClosed}
+use Rattle.table.specs.Steps.{spread, walked, followStep, passed, followSteps, Walkable, TailAt, Tails, FollowFound}
+use Rattle.table.proofs.Known.{rule-inside}
+use Rattle.table.proofs.Trail.{halts-same, trail-monotone}
+use Rattle.table.proofs.Joins.{only-there}
+use Rattle.table.proofs.Additions.{behind-below, behind-dropped, behind-tail, follow-begun, follow-addition-sound}
+use Rattle.table.proofs.Closed.{follow-words-exact, sets-sound}
+use Rattle.table.proofs.Growth.{grown-same, Expands, expands-united, expands-then, united-there, passed-keeps, passed-expands, passed-fires, passed-nothing}
+use Rattle.table.proofs.Rounds.{Fits, fits-none, stored-fits, united-at-fits, trail-narrow, Refines, Round, round-first, round-last, fits-after, so-far-after}
+use Rattle.table.proofs.Spelled.{indexes-limits, left-is, tail-is, form-dropped, rule-at}
+
+spread-expands : (s : Symbol) (x : ℕ) → Expands (spread s x)
+unfolding spread
+spread-expands (Token t) x = record { grows = λ cells. grown-same; keeps = λ cells. refl }
+spread-expands (Nonterminal A) x = expands-united A (λ cells. x)
+
+spread-fits : (s : Symbol) (x : ℕ) → x < 2 ^ width → (cells : List ℕ) → Fits cells → Fits (spread s x cells)
+unfolding spread
+spread-fits (Token t) x small cells fits = fits
+spread-fits (Nonterminal A) x small cells fits = united-at-fits cells A x fits small
+
+module _ (fs : List ℕ) (k : ℕ) where
+  walked-expands : (α : Form) → Expands (walked fs k α)
+  unfolding walked
+  walked-expands [] = record { grows = λ cells. grown-same; keeps = λ cells. refl }
+  walked-expands (s ∷ α) = expands-then (walked-expands α) (spread-expands s (trail fs k α))
+
+  walked-fits : Fits fs → k < 2 ^ width → {α : Form} → Every Narrow α → (cells : List ℕ) → Fits cells → Fits (walked fs k α cells)
+  unfolding walked
+  walked-fits firsts small nothing cells fits = fits
+  walked-fits firsts small (each {x = s} {xs = α} h rest) cells fits =
+      spread-fits s (trail fs k α) (trail-narrow fs firsts k small rest) (walked fs k α cells) (walked-fits firsts small rest cells fits)
+
+  -- a walk over a right side adds what lies behind each occurrence
+  walked-fires : {A : ℕ} {v β : Form} → Behind A v β → (cells : List ℕ) → A < length cells → Subset (trail fs k v) (getD (walked fs k β cells) A 0)
+  unfolding walked spread
+  walked-fires {A} {v} first cells inside = united-there (walked fs k v cells) A (trail fs k v) (omega (arith, walked-expands v .keeps cells))
+  walked-fires {A} (later {s = s} {α = α} b) cells inside = λ j m. spread-expands s (trail fs k α) .grows (walked fs k α cells) .keeps A j (walked-fires b cells inside j m)
+
+  -- one that changes nothing has nothing to add
+  walked-nothing : {A : ℕ} {v β : Form} → Behind A v β → (cells : List ℕ) → A < length cells → walked fs k β cells ≡ cells → Subset (trail fs k v) (getD cells A 0)
+  walked-nothing {A} {v} b cells inside same j m = rw same at (walked-fires b cells inside j m)
+
+-- a walk over a right side keeps FOLLOW sound, where it starts inside FOLLOW of the left side
+walked-sound : {g : Grammar} → Limits g → AllUseful g → {fs : List ℕ} → FirstSound g fs → {p B : ℕ} {β : Form} → Rule g p B β → {k : ℕ} → Inside (Follow g B) k
+    → (α : Form) → ((A : ℕ) (v : Form) → Behind A v α → Behind A v β) → {cells : List ℕ} → FollowSound g cells → FollowSound g (walked fs k α cells)
+unfolding walked spread
+walked-sound limits useful sound rule inside [] occurs s = s
+walked-sound limits useful sound rule inside (Token t ∷ α) occurs s = walked-sound limits useful sound rule inside α (λ A v b. occurs A v (later b)) s
+walked-sound limits useful sound rule inside (Nonterminal A ∷ α) occurs s =
+    follow-addition-sound limits sound useful (walked-sound limits useful sound rule inside α (λ B v b. occurs B v (later b)) s) rule (occurs A α first) inside
+
+every-dropped : {P : Symbol → Type 0} (n : ℕ) {β : Form} → Every P β → Every P (drop n β)
+every-dropped zero e = e
+every-dropped (suc n) nothing = nothing
+every-dropped (suc n) (each h e) = every-dropped n e
+
+-- what lies behind each nonterminal on the right side of production p is there, but for FOLLOW of the left side
+pub record Seeds (g : Grammar) (fs : List ℕ) (p : ℕ) (cells : List ℕ) : Type 0 where
+  pub seeded : {B : ℕ} {β : Form} → Rule g p B β → {A : ℕ} {v : Form} → Behind A v β → Subset (trail fs 0 v) (getD cells A 0)
+
+seeds-grow : {g : Grammar} {fs : List ℕ} (p : ℕ) (xs ys : List ℕ) → Grown xs ys → Seeds g fs p xs → Seeds g fs p ys
+seeds-grow p xs ys grown seeds = record { seeded = λ rule {A} b k m. grown .keeps A k (seeds .seeded rule b k m) }
+
+-- the records can be walked whole, and from their tails on
+pub none-at : (n p : ℕ) → _≡_ {A = ℕ} (getD (replicate n 0) p 0) 0
+none-at zero p = refl
+none-at (suc n) zero = refl
+none-at (suc n) (suc p) = none-at n p
+
+module _ {book places : List ℕ} {count : ℕ} (readable : Readable book places count) where
+  pub whole-walkable : count ≤ 128 → Walkable book places count (replicate 128 0)
+  whole-walkable few = record { readable = readable; listed = omega (arith, length-replicate {A = ℕ} 128 0); inside = λ p h. omega (arith, none-at 128 p) }
+
+  pub tails-walkable : {fs from : List ℕ} → count ≤ length from → Tails book places count fs from → Walkable book places count from
+  tails-walkable few tails = record { readable = readable; listed = few; inside = λ p h. tails .each p h .inside }
+
+-- the position of one record more
+pub tails-next : {book places fs tails : List ℕ} {n r : ℕ} → n < length tails → Tails book places n fs tails → TailAt book fs (getD places n 0) r → Tails book places (n + 1) fs (set tails n r)
+tails-next {tails = tails} {n = n} {r = r} inside so-far here =
+    record {
+      each =
+          below-more _ n
+          (λ p below. rw (getD-set-other tails n p r 0 (λ same. omega arith)) (so-far .each p below))
+          (rw (getD-set-same tails n r 0 inside) here);
+    }
+
+module _ (book places : List ℕ) (count start : ℕ) (fs : List ℕ) where
+  -- what a pass over whole right sides establishes, and every pass keeps
+  pub record SoFar (g : Grammar) (cells : List ℕ) : Type 0 where
+    pub sound : FollowSound g cells
+    pub ended : member endMark (getD cells start 0) ≡ true
+    pub seeds : (p : ℕ) → p < count → Seeds g fs p cells
+
+  abbrev pub FollowSoFar : List ℕ → Type 0
+  FollowSoFar cells = (g : Grammar) → Indexes book places count g → start ≡ g .start → FirstAt g fs → SoFar g cells
+
+  module _ (from : List ℕ) where
+    abbrev pub followPass : List ℕ → List ℕ
+    followPass = passed (followSteps book places fs from) count
+
+    follow-expands : (p : ℕ) → Expands (followSteps book places fs from p)
+    unfolding followStep
+    follow-expands p =
+        record {
+          grows = λ cells. walked-expands fs (setAt cells (leftAt book (getD places p 0))) (tailAt book (getD places p 0) (getD from p 0)) .grows cells;
+          keeps = λ cells. walked-expands fs (setAt cells (leftAt book (getD places p 0))) (tailAt book (getD places p 0) (getD from p 0)) .keeps cells;
+        }
+
+    follow-step-fits : Readable book places count → Fits fs → (p : ℕ) → p < count → (cells : List ℕ) → Fits cells → Fits (followSteps book places fs from p cells)
+    unfolding followStep
+    follow-step-fits readable firsts p h cells fits =
+        let narrow : Every Narrow (tailAt book (getD places p 0) (getD from p 0)) = rw (form-dropped book (getD places p 0 + 4)) (every-dropped (getD from p 0) (readable .right p h)) in
+        walked-fits fs (setAt cells (leftAt book (getD places p 0))) firsts (fits .each (leftAt book (getD places p 0))) narrow cells fits
+
+    follow-step-sound : {g : Grammar} → Indexes book places count g → FirstAt g fs → (p : ℕ) → p < count → (cells : List ℕ) → FollowSound g cells → FollowSound g (followSteps book places fs from p cells)
+    unfolding followStep
+    follow-step-sound index exact p h cells sound =
+        let (B, β, rule) = rule-at index p h in
+        let limits = indexes-limits index in
+        rw (left-is index rule, tail-is index rule (getD from p 0))
+        (walked-sound limits (index .serves .useful) (sets-sound exact) rule (sound .each B (limits .well-formed .left-known rule)) (drop (getD from p 0) β) (λ A v b. behind-dropped (getD from p 0) β b) sound)
+
+    pub follow-refines : Readable book places count → Fits fs → Refines FollowSoFar followPass
+    follow-refines readable firsts =
+        record {
+          expands = passed-expands follow-expands count;
+          fits = passed-keeps Fits count (follow-step-fits readable firsts);
+          keeps = λ cells so-far g index started exact.
+              let grown : Grown cells (followPass cells) = passed-expands follow-expands count .grows cells in
+              let s = so-far g index started exact in
+              record {
+                sound = passed-keeps (FollowSound g) count (follow-step-sound index exact) cells (s .sound);
+                ended = grown .keeps start endMark (s .ended);
+                seeds = λ p h. seeds-grow p cells (followPass cells) grown (s .seeds p h);
+              };
+        }
+
+    module _ {g : Grammar} (index : Indexes book places count g) where
+      limits : Limits g
+      limits = indexes-limits index
+
+      occurs-inside : {p B : ℕ} {β : Form} → Rule g p B β → {A : ℕ} {v : Form} → Behind A v β → (cells : List ℕ) → length cells ≡ 64 → A < length cells
+      occurs-inside rule b cells sized = omega (arith, behind-below b (limits .well-formed .right-known rule), limits .nonterminals-fit)
+
+      -- a step over a whole right side puts its seeds there
+      step-seeds : {p : ℕ} → getD from p 0 ≡ 0 → (cells : List ℕ) → length cells ≡ 64 → Seeds g fs p (followSteps book places fs from p cells)
+      unfolding followStep
+      step-seeds {p} whole cells sized =
+          record {
+            seeded = λ {B} {β} rule {A} {v} b j m.
+                rw (left-is index rule, tail-is index rule (getD from p 0), whole)
+                (walked-fires fs (setAt cells B) b cells (occurs-inside rule b cells sized) j (trail-monotone grown-same 0 (setAt cells B) (λ i none. absurd (false≢true (sym (member-none i) ∙ none))) v j m));
+          }
+
+      -- where a pass over the tails changes nothing, the sets are closed
+      follow-closed : start ≡ g .start → Tails book places count fs from → {cells : List ℕ} → length cells ≡ 64 → SoFar g cells → followPass cells ≡ cells → FollowClosed g fs cells
+      unfolding followStep
+      follow-closed started tails {cells} sized so-far same = record { at-start = rw started at (so-far .ended); closed = λ {p} {B} {β} rule {A} {v} b. go p B β rule A v b }
+        where
+          go : (p B : ℕ) (β : Form) → Rule g p B β → (A : ℕ) (v : Form) → Behind A v β → Subset (trail fs (getD cells B 0) v) (getD cells A 0)
+          go p B β rule A v b = by-place (place (decLt 0 n))
+            where
+              n : ℕ
+              n = getD from p 0
+
+              below : p < count
+              below = omega (arith, index .counted, rule-inside rule)
+
+              place : Dec (0 < n) → Behind A v (drop n β) ⊎ Halts fs v
+              place (yes positive) = behind-tail n (rw (tail-is index rule n) at (tails .each p below .halts positive)) b
+              place (no none) = let whole : n ≡ 0 = omega arith in rw whole (inl b)
+
+              unchanged : followSteps book places fs from p cells ≡ cells
+              unchanged = passed-nothing follow-expands count cells same p below
+
+              by-place : Behind A v (drop n β) ⊎ Halts fs v → Subset (trail fs (getD cells B 0) v) (getD cells A 0)
+              by-place (inl b′) = walked-nothing fs (getD cells B 0) b′ cells (occurs-inside rule b cells sized) (rw (left-is index rule, tail-is index rule n) at unchanged)
+              by-place (inr h) = rw (halts-same h (getD cells B 0) 0) (so-far .seeds p below .seeded rule b)
+
+  module _ (readable : Readable book places count) (firsts : Fits fs) where
+    -- from the end mark behind the start symbol, a pass over whole right sides, and the first over their tails
+    pub follow-first-round : (none from : List ℕ) → ((p : ℕ) → getD none p 0 ≡ 0) → {cells before after : List ℕ} → cells ≡ stored (replicate 64 0) start (only endMark)
+        → before ≡ followPass none cells → after ≡ followPass from before → Round FollowSoFar (followPass from) before after
+    follow-first-round none from whole {cells} {before} begun once next = round-first (follow-refines from readable firsts) sized-before fits-before so-far next
+      where
+        sized : length cells ≡ 64
+        sized = rw begun (length-set (replicate 64 0) start (only endMark))
+
+        sized-before : length before ≡ 64
+        sized-before = rw once (passed-expands (follow-expands none) count .keeps cells ∙ sized)
+
+        fits : Fits cells
+        fits = rw begun (stored-fits (replicate 64 0) start (only endMark) (fits-none 64) (only-fits width endMark (omega arith)))
+
+        fits-before : Fits before
+        fits-before = rw once (passed-keeps Fits count (follow-step-fits none readable firsts) cells fits)
+
+        ended : {g : Grammar} → Indexes book places count g → start ≡ g .start → member endMark (getD cells start 0) ≡ true
+        ended index started =
+            let inside : start < 64 = omega (arith, started, indexes-limits index .well-formed .start-known, indexes-limits index .nonterminals-fit) in
+            let there : getD cells start 0 ≡ only endMark = rw begun (getD-set-same (replicate 64 0) start (only endMark) 0 inside) in
+            rw there (only-there endMark)
+
+        so-far : FollowSoFar before
+        so-far g index started exact =
+            rw once
+            (record {
+              sound = passed-keeps (FollowSound g) count (follow-step-sound none index exact) cells (rw (begun, started) (follow-begun {g = g} 64));
+              ended = passed-expands (follow-expands none) count .grows cells .keeps start endMark (ended index started);
+              seeds = passed-fires (follow-expands none) seeds-grow count cells (λ p h xs same. step-seeds none index (whole p) xs (same ∙ sized));
+            })
+
+    -- where a pass changes nothing, the sets are FOLLOW
+    pub follow-found : {from before after : List ℕ} → Tails book places count fs from → Round FollowSoFar (followPass from) before after → before ≡ after → FollowFound book places count start fs after
+    follow-found {from} tails round same =
+        let refines = follow-refines from readable firsts in
+        record {
+          sized = round .sized-after;
+          found = λ g index started exact.
+              let s = so-far-after refines round g index started exact in
+              follow-words-exact (indexes-limits index) exact (λ A a. fits-after refines round .each A) (s .sound)
+              (follow-closed from index started tails (round .sized-after) s (round-last refines round same));
+        }

@@ -1,0 +1,87 @@
+-- The invariant: the claims of the productions gone through are laid.
+use mathlib.Core.Path.{_≡_, refl}
+use Prim.Native.Nat.{_-_, _≤_}
+use native.Mathlib.Nat.{le-antisymm}
+use native.Mathlib.Omega.{arith}
+use lib.ListN.{length}
+use borrow.Author.Needs.{needs}
+use Rattle.sets.specs.Calls.{number}
+use Rattle.table.specs.Steps.{leftOf, lookaheadOf}
+use Rattle.table.specs.Claims.{bookClaims, Laid, Ledger}
+use Rattle.table.proofs.Rows.{laid-none}
+use Rattle.table.proofs.claims.claim_all.Statement.{statement}
+use Rattle.table.proofs.claims.claim_all.Tie as tie
+
+abbrev Inv-loop : tie.InvT-loop
+Inv-loop book places count tokens first follow table₀ contest₀ p₀ table contest p =
+    (p ≤ count) × (length table ≡ length table₀) × Ledger (Laid (bookClaims book places first follow tokens) p 0) table contest
+
+abbrev μ-loop : tie.MeasureT-loop
+μ-loop book places count tokens first follow table₀ contest₀ p₀ table contest p = count - p
+
+loop-holds : tie.Need-loop-holds Inv-loop μ-loop
+loop-holds c = (search needs, refl, laid-none refl (c .before .before .before .before .before .pre .blank) refl)
+
+place-at-requires : tie.Need-place-at-requires Inv-loop μ-loop
+place-at-requires c κs = search needs
+
+cast-left-at : tie.Need-cast-left-at Inv-loop μ-loop
+cast-left-at c = search needs
+
+left-at-requires : tie.Need-left-at-requires Inv-loop μ-loop
+left-at-requires c κs = search needs
+
+lookahead-at-requires : tie.Need-lookahead-at-requires Inv-loop μ-loop
+lookahead-at-requires c κs = rw (c .before .place-at .ensures) (c .before .before .before .before .before .before .before .before .before .pre .readable .right _ (c .before .before .loop-test .taken))
+
+cast-claim-row : tie.Need-cast-claim-row Inv-loop μ-loop
+cast-claim-row c = omega (arith, c .before .before .before .before .before .before .before .before .before .before .pre .numbered)
+
+claim-row-requires : tie.Need-claim-row-requires Inv-loop μ-loop
+claim-row-requires c κs =
+    (rw (c .before .before .left-at .ensures, c .before .before .before .place-at .ensures, c .before .before .before .before .before .loop .inv .1) (c .before .before .before .before .before .before .before .before .before .before .before .pre .rows _ (c .before .before .before .before .loop-test .taken)), omega (arith, c .before .before .before .before .before .before .before .before .before .before .before .pre .numbered))
+
+add-p : tie.Need-add-p Inv-loop μ-loop
+add-p c = search needs
+
+loop-less : tie.Need-loop-less Inv-loop μ-loop
+loop-less c = search needs
+
+-- what was read is the left side and the lookahead of the production
+sided : (d : tie.After-lookahead-at Inv-loop μ-loop) → leftOf (d .before .before .before .before .before .before .before .before .before .before .args .book .now) (d .before .before .before .before .before .before .before .before .before .before .args .places .now) (d .before .before .before .before .loop .p) ≡ d .before .left-at .result
+sided d = rw (d .before .left-at .ensures, d .before .before .place-at .ensures)
+
+looked : (d : tie.After-lookahead-at Inv-loop μ-loop) → lookaheadOf (d .before .before .before .before .before .before .before .before .before .before .args .book .now) (d .before .before .before .before .before .before .before .before .before .before .args .places .now) (d .before .before .before .before .before .before .before .before .before .before .args .first .now) (d .before .before .before .before .before .before .before .before .before .before .args .follow .now) (d .before .before .before .before .loop .p) ≡ number (d .lookahead-at .result)
+looked d = rw (d .lookahead-at .ensures, d .before .before .place-at .ensures)
+
+loop-again : tie.Need-loop-again Inv-loop μ-loop
+loop-again c = (
+  search needs,
+  omega (arith, c .before .before .claim-row .kept .1 .1 .1 .1 .0, c .before .before .before .before .before .before .before .before .loop .inv .1),
+  c .before .before .claim-row .ensures .laid _ _ (sided (c .before .before .before .before)) (looked (c .before .before .before .before)) (c .before .before .before .before .before .before .before .before .loop .inv .2),
+)
+
+same-length : tie.Need-same-length Inv-loop μ-loop
+same-length c = search needs
+
+returns : tie.Need-returns Inv-loop μ-loop
+returns c = rw (le-antisymm (c .before .loop .inv .0) (c .loop-test .left)) at (c .before .loop .inv .2)
+
+pub claim-all-spec : {M : Type 1} → statement M
+claim-all-spec =
+    tie.close
+    (tie.spec
+    Inv-loop
+    μ-loop
+    loop-holds
+    place-at-requires
+    cast-left-at
+    left-at-requires
+    lookahead-at-requires
+    cast-claim-row
+    claim-row-requires
+    add-p
+    loop-less
+    loop-again
+    same-length
+    returns)

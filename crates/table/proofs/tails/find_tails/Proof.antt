@@ -1,0 +1,64 @@
+-- The invariant: the positions of the records gone through.
+use mathlib.Core.Path.{_≡_, refl}
+use Prim.Native.Nat.{_-_, _≤_}
+use native.Mathlib.Nat.{le-antisymm}
+use native.Mathlib.Omega.{arith}
+use lib.ListN.{length, length-set}
+use borrow.Author.Needs.{needs}
+use Rattle.table.specs.Steps.{Tails}
+use Rattle.table.proofs.Following.{tails-next}
+use Rattle.table.proofs.tails.find_tails.Statement.{statement}
+use Rattle.table.proofs.tails.find_tails.Tie as tie
+
+abbrev Inv-loop : tie.InvT-loop
+Inv-loop book places count first tails₀ p₀ tails p = (p ≤ count) × (length tails ≡ length tails₀) × Tails book places p first tails
+
+abbrev μ-loop : tie.MeasureT-loop
+μ-loop book places count first tails₀ p₀ tails p = count - p
+
+loop-holds : tie.Need-loop-holds Inv-loop μ-loop
+loop-holds c = (search needs, refl, record { each = λ p none. absurd (omega arith) })
+
+place-at-requires : tie.Need-place-at-requires Inv-loop μ-loop
+place-at-requires c κs = search needs
+
+tail-at-requires : tie.Need-tail-at-requires Inv-loop μ-loop
+tail-at-requires c κs = rw (c .place-at .ensures) (c .before .before .before .before .before .before .before .pre .0 .right _ (c .before .loop-test .taken))
+
+slice-write-tails : tie.Need-slice-write-tails Inv-loop μ-loop
+slice-write-tails c = omega (arith, c .before .before .before .loop .inv .1, c .before .before .before .before .before .before .before .before .pre .1)
+
+add-p : tie.Need-add-p Inv-loop μ-loop
+add-p c = search needs
+
+loop-less : tie.Need-loop-less Inv-loop μ-loop
+loop-less c = search needs
+
+loop-again : tie.Need-loop-again Inv-loop μ-loop
+loop-again c = (
+  search needs,
+  rw length-set (c .before .before .before .loop .inv .1),
+  tails-next (omega (arith, c .before .before .before .loop .inv .1, c .before .before .before .before .before .before .before .before .pre .1)) (c .before .before .before .loop .inv .2) (rw (c .before .place-at .ensures) at (c .tail-at .ensures)),
+)
+
+same-length : tie.Need-same-length Inv-loop μ-loop
+same-length c = c .before .loop .inv .1
+
+returns : tie.Need-returns Inv-loop μ-loop
+returns c = rw (le-antisymm (c .before .loop .inv .0) (c .loop-test .left)) at (c .before .loop .inv .2)
+
+pub find-tails-spec : {M : Type 1} → statement M
+find-tails-spec =
+    tie.close
+    (tie.spec
+    Inv-loop
+    μ-loop
+    loop-holds
+    place-at-requires
+    tail-at-requires
+    slice-write-tails
+    add-p
+    loop-less
+    loop-again
+    same-length
+    returns)
