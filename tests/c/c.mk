@@ -4,8 +4,11 @@
 BISON ?= $(shell command -v bison)
 C_OUT := target/c
 C_FLAGS := -std=c11 -O2 -Wall -Wextra -Wpedantic -Iinclude -Itests/c -Ibench
-C_PLAIN := tests/c/plain.c tests/c/plain.h
-C_LENT := tests/c/lent.c tests/c/lent.h
+C_EXAMPLES := tests/c/lent.c $(addprefix tests/c/examples/,main.c check.c books.c calls.c refused.c sets.c runs.c \
+              expansions.c rooms.c trees.c)
+C_DIFFERENTIAL := tests/c/lent.c tests/c/plain.c $(addprefix tests/c/differential/,main.c pick.c shape.c inputs.c \
+                  strings.c needs.c compare.c counts.c)
+C_HEADERS := include/desk.h bench/source.h $(wildcard tests/c/*.h tests/c/*/*.h)
 C_COMPILE = $(CC) $(C_FLAGS) $(1) -o $@ $(filter %.c,$^) $(LIB)
 
 ifneq ($(BISON),)
@@ -39,26 +42,20 @@ $(C_OUT)/sanitize: | $(C_OUT)
 	then echo '-g -fsanitize=address,undefined -fno-sanitize-recover=all' > $@; else : > $@; fi
 	@rm -f $@.c $@.try
 
-$(C_OUT)/examples: tests/c/examples.c $(C_LENT) include/desk.h $(LIB) | $(C_OUT)
-	$(call C_COMPILE,)
-
-$(C_OUT)/differential: tests/c/differential.c $(C_LENT) $(C_PLAIN) include/desk.h $(LIB) | $(C_OUT)
-	$(call C_COMPILE,)
-
-$(C_OUT)/examples-checked: tests/c/examples.c $(C_LENT) include/desk.h $(LIB) $(C_OUT)/sanitize
-	$(call C_COMPILE,$$(cat $(C_OUT)/sanitize))
-
-$(C_OUT)/differential-checked: tests/c/differential.c $(C_LENT) $(C_PLAIN) include/desk.h $(LIB) $(C_OUT)/sanitize
-	$(call C_COMPILE,$$(cat $(C_OUT)/sanitize))
-
-$(C_OUT)/restore: c/restore.c include/desk.h $(LIB) | $(C_OUT)
-	$(call C_COMPILE,)
-
-$(C_OUT)/stack: tests/c/stack.c include/desk.h $(LIB) | $(C_OUT)
-	$(call C_COMPILE,)
+$(C_OUT)/examples $(C_OUT)/examples-checked: $(C_EXAMPLES)
+$(C_OUT)/differential $(C_OUT)/differential-checked: $(C_DIFFERENTIAL)
+$(C_OUT)/restore: c/restore.c
+$(C_OUT)/stack: tests/c/stack.c
+$(C_OUT)/bench: bench/bench.c $(C_PARSERS) tests/c/plain.c
 
 $(C_OUT)/%.tab.c: bench/%.y bench/source.h | $(C_OUT)
 	$(BISON) -Wall -o $@ $<
 
-$(C_OUT)/bench: bench/bench.c bench/source.h $(C_PARSERS) $(C_PLAIN) include/desk.h $(LIB) | $(C_OUT)
+$(addprefix $(C_OUT)/,examples differential restore stack): $(C_HEADERS) $(LIB) | $(C_OUT)
+	$(call C_COMPILE,)
+
+$(addprefix $(C_OUT)/,examples-checked differential-checked): $(C_HEADERS) $(LIB) $(C_OUT)/sanitize
+	$(call C_COMPILE,$$(cat $(C_OUT)/sanitize))
+
+$(C_OUT)/bench: $(C_HEADERS) $(LIB) | $(C_OUT)
 	$(call C_COMPILE,$(C_BENCH_FLAGS))

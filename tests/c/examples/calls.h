@@ -1,0 +1,53 @@
+#ifndef CALLS_H
+#define CALLS_H
+
+#include "books.h"
+
+/* Calls of the seven functions, each checked whole: the number, every byte of every lent buffer with its guards, and
+   the inputs, which stay as they were. Every call is made with answer buffers that are short, exact and longer, and
+   with empty slices as pointers and as null. */
+
+/* A run with the rooms it is lent, the whole answer and what the list begins with afterwards. */
+struct run_case {
+    const char *name;
+    const struct grammar *grammar;
+    struct slice tokens;
+    size_t stack;
+    size_t list;
+    struct wanted wanted;
+    struct slice listed;
+    bool stepped;
+};
+
+/* An expansion with the rooms it is lent, the whole answer and what the output begins with afterwards. */
+struct expand_case {
+    const char *name;
+    const struct grammar *grammar;
+    struct slice list;
+    size_t stack;
+    size_t tokens;
+    struct wanted wanted;
+    struct slice written;
+    bool stepped;
+};
+
+/* A call of sets or of build with the rooms it is lent; done, it gives the sets and the table of the grammar. */
+struct sets_case {
+    const struct grammar *grammar;
+    size_t firsts;
+    size_t follows;
+    size_t cells;
+    struct wanted wanted;
+};
+
+void check_run(const struct run_case *c);
+void check_expand(const struct expand_case *c);
+void check_judge(const char *name, struct slice book, struct wanted wanted);
+void check_sets(const struct sets_case *c);
+void check_build(const struct sets_case *c);
+
+/* These two answer the set given, in a buffer without a cell, of one cell and of three. */
+void check_lookahead(const char *name, struct slice book, uint64_t production, struct wanted wanted, uint64_t set);
+void check_first_of(const char *name, struct slice book, struct slice symbols, struct wanted wanted, uint64_t set);
+
+#endif

@@ -1,0 +1,137 @@
+#include "examples.h"
+
+#include "calls.h"
+
+static const struct grammar *const grammars[] = {
+    &house, &house_one, &ones, &slides, &sums, &letters, &prefix, &words,
+    &weak, &vanishing, &at_end, &through, &twins,
+};
+
+/* What sets answer for the rooms given, the first buffer before the second. */
+static struct wanted sets_wanted(const struct grammar *grammar, size_t firsts, size_t follows)
+{
+    size_t cells = nonterminals_of(grammar);
+    if (firsts < cells)
+        return (struct wanted){ DESK_ROOM, cells, DESK_ROOM_FIRST, 0, 0 };
+    if (follows < cells)
+        return (struct wanted){ DESK_ROOM, cells, DESK_ROOM_FOLLOW, 0, 0 };
+    return (struct wanted)DONE;
+}
+
+/* What building answers for the rooms given, all of them before a conflict. */
+static struct wanted build_wanted(const struct grammar *grammar, size_t firsts, size_t follows, size_t cells)
+{
+    struct wanted wanted = sets_wanted(grammar, firsts, follows);
+    if (wanted.number != DESK_DONE)
+        return wanted;
+    if (cells < table_size(grammar))
+        return (struct wanted){ DESK_ROOM, table_size(grammar), DESK_ROOM_TABLE, 0, 0 };
+    return grammar->built;
+}
+
+/* Checks sets and building with buffers that are short, exact and longer, in every combination. */
+static void check_set_rooms(const struct grammar *grammar)
+{
+    size_t cells = nonterminals_of(grammar), size = table_size(grammar);
+    size_t rooms[] = { 0, cells - 1, cells, cells + 3 };
+    size_t table_rooms[] = { 0, size - 1, size, size + 5 };
+    for (size_t i = 0; i < COUNT(rooms); i++)
+        for (size_t k = 0; k < COUNT(rooms); k++) {
+            struct sets_case c = { grammar, rooms[i], rooms[k], 0, sets_wanted(grammar, rooms[i], rooms[k]) };
+            check_sets(&c);
+            for (size_t j = 0; j < COUNT(table_rooms); j++) {
+                c.cells = table_rooms[j];
+                c.wanted = build_wanted(grammar, c.firsts, c.follows, c.cells);
+                check_build(&c);
+            }
+        }
+}
+
+/* In a table without conflict, the columns that hold a production are its lookahead. */
+static uint64_t columns_of(const struct grammar *grammar, uint64_t production)
+{
+    uint64_t set = 0;
+    for (size_t cell = 0; cell < grammar->table.length; cell++) {
+        size_t column = cell % (terminals_of(grammar) + 1);
+        if (grammar->table.bytes[cell] == production)
+            set |= column == terminals_of(grammar) ? END : UINT64_C(1) << column;
+    }
+    return set;
+}
+
+static void check_lookaheads(const struct grammar *grammar)
+{
+    uint64_t productions = productions_of(grammar);
+    uint64_t beyond[] = { productions, productions + 1, 255, 256, UINT64_C(1) << 32, UINT64_MAX };
+    if (grammar->built.number == DESK_DONE)
+        for (uint64_t p = 0; p < productions; p++)
+            check_lookahead(grammar->name, grammar->book, p, (struct wanted)DONE, columns_of(grammar, p));
+    for (size_t i = 0; i < COUNT(beyond); i++)
+        check_lookahead(grammar->name, grammar->book, beyond[i],
+                        (struct wanted){ DESK_PRODUCTION, beyond[i], 0, 0, 0 }, 0);
+}
+
+static void check_first_of_nonterminals(const struct grammar *grammar)
+{
+    for (size_t n = 0; n < nonterminals_of(grammar); n++) {
+        uint8_t symbol = (uint8_t)N(n);
+        check_first_of(grammar->name, grammar->book, (struct slice){ &symbol, 1 }, (struct wanted)DONE,
+                       grammar->first[n]);
+    }
+}
+
+void check_grammar(const struct grammar *grammar)
+{
+    check_judge(grammar->name, grammar->book, (struct wanted)DONE);
+    check_set_rooms(grammar);
+    check_lookaheads(grammar);
+    check_first_of_nonterminals(grammar);
+}
+
+/* Symbol strings of the house grammar, with FIRST of each or its refusal. */
+static const struct {
+    const char *name;
+    struct slice symbols;
+    struct wanted wanted;
+    uint64_t set;
+} strings[] = {
+    { "empty string", NONE, DONE, EMPTY },
+    { "token", BYTES(3), DONE, 0x8 },
+    { "in or and", BYTES(N(2), N(3)), DONE, EMPTY | 0xc },
+    { "vanishing then a token", BYTES(N(2), N(3), 1), DONE, 0xe },
+    { "not past a token", BYTES(N(2), 0, N(3)), DONE, 0x5 },
+    { "vanishing twice", BYTES(N(3), N(3)), DONE, EMPTY | 0x8 },
+    { "sixteen", BYTES(N(2), N(2), N(2), N(2), N(2), N(2), N(2), N(2), N(2), N(2), N(2), N(2), N(2), N(2), N(2), 1),
+      DONE, 0x6 },
+    { "seventeen", { zeros, 17 }, { 4, 16, 0, 0, 0 }, 0 },
+    { "very many", { zeros, 5000 }, { 4, 16, 0, 0, 0 }, 0 },
+    { "limit before symbol", BYTES(9, 9, 9, 9, 9, 9, 9, 9, 9, 9, 9, 9, 9, 9, 9, 9, 9), { 4, 16, 0, 0, 0 }, 0 },
+    { "no such token", BYTES(0, 4, 5), { 5, 1, 0, 0, 0 }, 0 },
+    { "no such nonterminal", BYTES(0, 1, N(4)), { 5, 2, 0, 0, 0 }, 0 },
+    { "no symbol", BYTES(127), { 5, 0, 0, 0, 0 }, 0 },
+    { "no symbol at the end", BYTES(0, 0, 0, 0, 0, 0, 0, 0, 0, 0, 0, 0, 0, 0, 0, 255), { 5, 15, 0, 0, 0 }, 0 },
+};
+
+/* Lookaheads of books that have a conflict and so no table to read them from. */
+static const struct {
+    const char *name;
+    const struct grammar *grammar;
+    uint64_t production;
+    uint64_t set;
+} lookaheads[] = {
+    { "J 0", &ones, 0, 0x2 },
+    { "J 1", &ones, 1, 0x2 },
+    { "weak 4", &weak, 4, 0x6 },
+    { "at the end 1", &at_end, 1, END },
+};
+
+void check_sets_and_tables(void)
+{
+    for (size_t i = 0; i < COUNT(grammars); i++)
+        check_grammar(grammars[i]);
+    for (size_t i = 0; i < COUNT(strings); i++)
+        check_first_of(strings[i].name, house.book, strings[i].symbols, strings[i].wanted, strings[i].set);
+    for (size_t i = 0; i < COUNT(lookaheads); i++)
+        check_lookahead(lookaheads[i].name, lookaheads[i].grammar->book, lookaheads[i].production,
+                        (struct wanted)DONE, lookaheads[i].set);
+}
