@@ -5,7 +5,7 @@
 # make stack              the machine stack that each C function uses
 SHELL := /bin/bash
 .SHELLFLAGS := -eu -o pipefail -c
-.PHONY: test list compiler
+.PHONY: test list list-test compiler
 
 CC ?= cc
 LIB := target/libdesk.a
@@ -13,11 +13,15 @@ LIB := target/libdesk.a
 # Its last line is the last line of rt ci, printed once everything has passed.
 test: compiler
 	@rt fmt --check
-	@log=$$(mktemp); trap 'rm -f "$$log"' EXIT; rt ci | tee "$$log"; $(MAKE) --no-print-directory c-test; tail -n 1 "$$log"
+	@log=$$(mktemp); trap 'rm -f "$$log"' EXIT; rt ci | tee "$$log"; $(MAKE) --no-print-directory list-test c-test; tail -n 1 "$$log"
 
 list:
 	@[ -n "$(BOOK)" ] || { echo "usage: make list BOOK=FILE" >&2; exit 2; }
 	@tools/program lister < "$(BOOK)"
+
+# Every book lists as its stored listing says.
+list-test:
+	@for book in books/*.book; do tools/program lister < "$$book" | diff - "$${book%.book}.listing"; done
 
 compiler:
 	@command -v $(CC) > /dev/null || { echo "make: no C compiler $(CC): the tests at the C boundary need one" >&2; exit 1; }

@@ -12,7 +12,7 @@ static const char *const refusals[] = {
     "a production does not fit",
 };
 
-/* A file's bytes; one byte more than the longest input allowed is kept, so that the desk itself refuses it. */
+/* A file's bytes, as far as 65,536: more than any input allowed, so that the desk itself refuses what is too long. */
 struct file {
     uint8_t bytes[DESK_MOST_CELLS + 1];
     size_t length;
@@ -29,6 +29,10 @@ static void load(const char *path, struct file *file)
         exit(2);
     }
     file->length = fread(file->bytes, 1, sizeof file->bytes, stream);
+    if (ferror(stream)) {
+        perror(path);
+        exit(2);
+    }
     fclose(stream);
 }
 

@@ -29,8 +29,9 @@ extern "C" {
    machine, into the lent answer buffer: place, detail, steps and expected set, from bytes 0, 8, 16 and 24. The
    words that the comments below do not name are 0; after DESK_DONE only the steps of a run or an expansion can be
    other than 0. The answer is written on every refusal too. Bytes of the answer buffer past 32 stay as they were.
-   An answer buffer of less than 32 bytes gives DESK_ROOM before all else: then nothing is written at all, to the
-   answer buffer or to any other. */
+   Only one refusal writes no answer: an answer buffer of less than 32 bytes, or a set buffer without a cell where a
+   set is answered, gives DESK_ROOM before all else, and nothing is written at all, to the answer buffer or to any
+   other. */
 
 #define DESK_ANSWER_SIZE 32
 #define DESK_MOST_BOOK_BYTES 2566

@@ -18,11 +18,13 @@ endif
 
 .PHONY: c-test restore bench stack
 
-c-test: $(C_OUT)/examples $(C_OUT)/differential $(C_OUT)/examples-checked $(C_OUT)/differential-checked
+c-test: $(C_OUT)/examples $(C_OUT)/differential $(C_OUT)/examples-checked $(C_OUT)/differential-checked $(C_OUT)/restore
 	$(C_OUT)/examples
 	$(C_OUT)/differential
 	$(C_OUT)/examples-checked
 	$(C_OUT)/differential-checked 100000
+	printf '\0\1\2\1\3\1' > $(C_OUT)/line
+	$(C_OUT)/restore books/house.book - $(C_OUT)/line | diff - tests/c/restore.stdout
 
 restore: $(C_OUT)/restore
 
@@ -39,7 +41,8 @@ $(C_OUT):
 $(C_OUT)/sanitize: | $(C_OUT)
 	@echo 'int main(void) { return 0; }' > $@.c
 	@if $(CC) -fsanitize=address,undefined -o $@.try $@.c 2> /dev/null && $@.try; \
-	then echo '-g -fsanitize=address,undefined -fno-sanitize-recover=all' > $@; else : > $@; fi
+	then echo '-g -fsanitize=address,undefined -fno-sanitize-recover=all' > $@; \
+	else : > $@; echo "no sanitizers here: the checked programs are the plain ones again"; fi
 	@rm -f $@.c $@.try
 
 $(C_OUT)/examples $(C_OUT)/examples-checked: $(C_EXAMPLES)

@@ -42,7 +42,7 @@ fn put_links(book: &mut [u8]) {
 }
 
 // Nonterminals 0 to 63, each deriving the next, and the last one token 0.
-pub fn chain() {
+pub(crate) fn chain() {
     let mut book = [0u8; 326];
     put_links(&mut book);
     show(b"chain-past-its-end", &book);
@@ -64,7 +64,7 @@ fn put_longest(book: &mut [u8]) {
     }
 }
 
-pub fn longest() {
+pub(crate) fn longest() {
     let mut book = [0u8; 2566];
     put_longest(&mut book);
     show(b"longest", &book);

@@ -8,7 +8,7 @@ fn house() -> [u8; 39] {
     *b"GR\x04\x04\x00\x06PR\x00\x02\x00\x81PR\x01\x03\x01\x82\x83PR\x02\x02\x02\x01PR\x02\x00PR\x03\x02\x03\x81PR\x03\x00"
 }
 
-pub fn whole() {
+pub(crate) fn whole() {
     let book = house();
     show(b"house", &book);
     show_productions(&book);
@@ -18,7 +18,7 @@ pub fn whole() {
     show_first(b"last-byte-missing", &book, 38);
 }
 
-pub fn marks() {
+pub(crate) fn marks() {
     let mut book = house();
     show_changed(b"mark-0", &mut book, 0, 80);
     show_changed(b"mark-1", &mut book, 1, 71);
@@ -27,7 +27,7 @@ pub fn marks() {
     show_changed(b"mark-36", &mut book, 36, 83);
 }
 
-pub fn limits() {
+pub(crate) fn limits() {
     let mut book = house();
     show_changed(b"no-tokens", &mut book, 2, 0);
     show_changed(b"tokens-62", &mut book, 2, 62);
@@ -45,7 +45,7 @@ pub fn limits() {
     show_changed(b"last-length-17", &mut book, 38, 17);
 }
 
-pub fn symbols() {
+pub(crate) fn symbols() {
     let mut book = house();
     show_changed(b"left-4", &mut book, 8, 4);
     show_changed(b"last-left-4", &mut book, 37, 4);
@@ -56,7 +56,7 @@ pub fn symbols() {
     show_changed(b"nonterminals-3", &mut book, 3, 3);
 }
 
-pub fn uses() {
+pub(crate) fn uses() {
     let mut book = house();
     show_changed(b"start-1", &mut book, 4, 1);
     show_changed(b"nonterminals-5", &mut book, 3, 5);

@@ -12,7 +12,7 @@ fn show_number(n: u64) {
 }
 
 // A line with the book's name, number, place, T, N, start and P.
-pub fn show(name: &[u8], book: &[u8]) {
+pub(crate) fn show(name: &[u8], book: &[u8]) {
     let reading = judge(book);
     let answer = reading.answer;
     io::write_all(STDOUT_FILENO, name);
@@ -52,7 +52,7 @@ fn show_record(book: &[u8], at: usize) {
 }
 
 // A line with each production, as the index and the accessors give it.
-pub fn show_productions(book: &[u8]) {
+pub(crate) fn show_productions(book: &[u8]) {
     let reading = judge(book);
     let places = reading.places;
     let count = reading.productions as usize;
@@ -66,20 +66,20 @@ pub fn show_productions(book: &[u8]) {
 }
 
 // The same of the first `size` bytes.
-pub fn show_first(name: &[u8], book: &[u8], size: usize) {
+pub(crate) fn show_first(name: &[u8], book: &[u8], size: usize) {
     if size <= book.len() {
         show(name, &book[..size]);
     }
 }
 
-pub fn put(book: &mut [u8], at: usize, byte: u8) {
+pub(crate) fn put(book: &mut [u8], at: usize, byte: u8) {
     if at < book.len() {
         book[at] = byte;
     }
 }
 
 // The same with one byte changed, which is put back.
-pub fn show_changed(name: &[u8], book: &mut [u8], at: usize, byte: u8) {
+pub(crate) fn show_changed(name: &[u8], book: &mut [u8], at: usize, byte: u8) {
     if at < book.len() {
         let old = book[at];
         put(book, at, byte);

@@ -1,7 +1,7 @@
 use crate::showing::show;
 use crate::showing::show_first;
 
-pub fn short() {
+pub(crate) fn short() {
     let book = [71u8, 82, 1, 1, 0, 1, 80, 82, 0, 0, 0];
     show_first(b"smallest", &book, 10);
     show(b"smallest-and-a-byte", &book);
@@ -9,7 +9,7 @@ pub fn short() {
     show(b"bad-before-missing", &bad);
 }
 
-pub fn useless() {
+pub(crate) fn useless() {
     let extra = [71u8, 82, 1, 2, 0, 1, 80, 82, 0, 0, 0];
     show(b"extra-before-useless", &extra);
     show_first(b"without-productions", &extra, 10);

@@ -3,6 +3,5 @@ pub mod AnswerBytes
 pub mod Calls
 pub mod ReadBack
 pub mod Fitting
-pub mod Through
 pub mod Theorems
 pub mod Examples

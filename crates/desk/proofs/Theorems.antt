@@ -1,6 +1,6 @@
 -- What is proved of the C functions, one page: each call allows one outcome, and what keeps the promises of the calls meets the demands,
 -- read of calls that lend an answer buffer long enough.
-use mathlib.Core.Path.{_≡_, sym, _∙_, subst}
+use mathlib.Core.Path.{_≡_, refl, sym, _∙_, subst}
 use mathlib.Core.List.{List}
 use Prim.Native.Nat.{ℕ, _^_, _<_}
 use native.Mathlib.Omega.{arith}
@@ -8,16 +8,15 @@ use lib.ListN.{length}
 use Rattle.grammar.specs.Machine.{Longest}
 use Rattle.table.specs.Calls.{SetsOutcome, BuildOutcome, LookaheadOutcome, FirstOutcome}
 use Rattle.table.proofs.Promise.{sets-outcome-unique, build-outcome-unique, lookahead-outcome-unique, first-outcome-unique}
-use Rattle.run.specs.Demands.{Demand2Build, Demand2Expand, Demand2Back, Demand3, StepsSum}
+use Rattle.run.specs.Demands.{BuildMeets2, ExpandMeets2, RunMeets2, RunMeets3, StepsAdd, Demand2Build, Demand2Expand, Demand2Back, Demand3, StepsSum}
 use Rattle.run.specs.Expanding.{ExpandOutcome}
 use Rattle.run.specs.Running.{RunOutcome}
-use Rattle.run.proofs.Promise.{run-outcome-unique, expand-outcome-unique, build-demand2, run-demand3, run-back, run-steps-sum, expand-demand2}
-use Rattle.desk.specs.Desk.{Lent, LentCell, JudgeOutcome, SetOutcome, JudgeCall, SetsCall, BuildCall, RunCall, ExpandCall, LookaheadCall, FirstCall}
+use Rattle.run.proofs.Promise.{run-outcome-unique, expand-outcome-unique, build-meets2, run-meets3, run-meets2, run-steps-add, expand-meets2}
+use Rattle.desk.specs.Desk.{littleEndian, answerBytes, answerSize, Lent, LentCell, JudgeOutcome, SetOutcome, JudgeCall, SetsCall, BuildCall, RunCall, ExpandCall, LookaheadCall, FirstCall}
 use Rattle.desk.specs.Demands.{CBuild, CRun, CExpand, KeepsBuildCall, KeepsRunCall, KeepsExpandCall, answerFrom, buildWith, runWith, expandWith}
-use Rattle.desk.proofs.Calls.{called-unique, two-unique, three-unique, judge-outcome-unique, set-outcome-unique}
-use Rattle.desk.proofs.ReadBack.{FitsWords, called-exact}
+use Rattle.desk.proofs.Calls.{called-answer, called-unique, two-unique, three-unique, judge-outcome-unique, set-outcome-unique}
+use Rattle.desk.proofs.ReadBack.{FitsWords, answer-read, called-exact}
 use Rattle.desk.proofs.Fitting.{ran-bounded, run-fits, expand-fits, judge-fits, sets-fits, build-fits, lookahead-fits, first-fits}
-use Rattle.desk.proofs.Through.{buildBeneath, runBeneath, expandBeneath, build-beneath-kept, run-beneath-kept, expand-beneath-kept, build-read, run-read, expand-read}
 
 -- any two outcomes that a call allows are equal: the number returned, and every lent buffer
 pub run-call-unique : (book table tokens stack list answer : List ℕ) {n m : ℕ} {s t l k x y : List ℕ}
@@ -76,85 +75,97 @@ pub first-call-exact : {book symbols cells answer : List ℕ} {n : ℕ} {s x : L
     → LentCell cells answer → FirstCall book symbols cells answer n s x → SetOutcome (FirstOutcome book symbols) cells (answerFrom n x) s
 first-call-exact b lent c = called-exact (λ a o. subst FitsWords (o .answer) (first-fits b (o .outcome))) lent (c .call)
 
-module _ (answer : List ℕ) (lent : Lent answer) where
-  module _ {run : CRun} (kept : KeepsRunCall run) where
-    -- demand 3 of a run called from C
-    pub desk-run-demand3 : Demand3 (runWith answer run)
-    unfolding runWith runBeneath
-    desk-run-demand3 =
-        let beneath = run-demand3 (run-beneath-kept answer lent kept) in
+-- the demands of one call that lends an answer buffer long enough, its answer read back from the number returned and the words written
+module _ {answer : List ℕ} (lent : Lent answer) where
+  module _ {book table tokens stack list : List ℕ} {n : ℕ} {s l x : List ℕ} (c : RunCall book table tokens stack list answer n s l x) where
+    -- demand 3
+    pub desk-run-meets3 : RunMeets3 book table tokens stack list (record { answer = answerFrom n x; stack = s; list = l })
+    desk-run-meets3 =
+        let told = called-answer lent (c .call) in
+        let read = answer-read told in
+        let meets = run-meets3 book table tokens stack list (record { answer = told .told; stack = s; list = l }) (told .outcome) in
         record {
-          call = λ book table tokens stack list.
-              let read = run-read answer lent kept book table tokens stack list in
-              let meets = beneath .call book table tokens stack list in
-              record {
-                accepts = λ h n. meets .accepts h (sym (read .number) ∙ n);
-                only-one = meets .only-one;
-                served-or-room = λ h {ps} d. rw (read .number) (meets .served-or-room h d);
-                room-iff = λ h {ps} d. rw (read .number) (meets .room-iff h d);
-                place = λ h n.
-                    let longest = meets .place h (sym (read .number) ∙ n) in
-                    subst (λ (k : ℕ). Longest (h .built .grammar) tokens k) (sym (read .place (omega (arith, longest .inside, h .short)))) longest;
-              };
+          accepts = λ h m. meets .accepts h (sym (read .number) ∙ m);
+          only-one = meets .only-one;
+          served-or-room = λ h {ps} d. rw (read .number) (meets .served-or-room h d);
+          room-iff = λ h {ps} d. rw (read .number) (meets .room-iff h d);
+          place = λ h m.
+              let longest = meets .place h (sym (read .number) ∙ m) in
+              subst (λ (k : ℕ). Longest (h .built .grammar) tokens k) (sym (read .place (omega (arith, longest .inside, h .short)))) longest;
         }
 
     -- demand 2: with room, the string of a complete list runs back to the list
-    pub desk-run-back : Demand2Back (runWith answer run)
-    unfolding runWith runBeneath
-    desk-run-back =
+    pub desk-run-meets2 : RunMeets2 book table tokens stack list (record { answer = answerFrom n x; stack = s; list = l })
+    desk-run-meets2 =
+        let told = called-answer lent (c .call) in
         record {
-          call = λ book table tokens stack list.
-              record {
-                back = λ {ps} h d l k.
-                    let (accepted, listed) = run-back (run-beneath-kept answer lent kept) .call book table tokens stack list .back h d l k in
-                    (run-read answer lent kept book table tokens stack list .number ∙ accepted, listed);
-              };
+          back = λ {ps} h d k m.
+              let (accepted, listed) = run-meets2 book table tokens stack list (record { answer = told .told; stack = s; list = l }) (told .outcome) .back h d k m in
+              (answer-read told .number ∙ accepted, listed);
         }
 
     -- steps = productions listed + tokens matched
-    pub desk-run-steps-sum : StepsSum (runWith answer run)
-    unfolding runWith runBeneath
-    desk-run-steps-sum =
+    pub desk-run-steps-add : StepsAdd book table tokens stack list (record { answer = answerFrom n x; stack = s; list = l })
+    desk-run-steps-add =
+        let told = called-answer lent (c .call) in
+        let read = answer-read told in
+        let adds = run-steps-add book table tokens stack list (record { answer = told .told; stack = s; list = l }) (told .outcome) in
         record {
-          call = λ book table tokens stack list.
-              let read = run-read answer lent kept book table tokens stack list in
-              let adds = run-steps-sum (run-beneath-kept answer lent kept) .call book table tokens stack list in
-              record {
-                sum = λ {g} s a.
-                    let counted = adds .sum s a in
-                    let (listed, matched) = ran-bounded g table tokens stack list in
-                    read .steps (omega (arith, a .short)) ∙ counted;
-                none = λ n. let zero = adds .none n in read .steps (omega arith) ∙ zero;
-              };
+          sum = λ {g} serves admits.
+              let counted = adds .sum serves admits in
+              let (listed, matched) = ran-bounded g table tokens stack list in
+              read .steps (omega (arith, admits .short)) ∙ counted;
+          none = λ m. let zero = adds .none m in read .steps (omega arith) ∙ zero;
         }
 
-  -- demand 2 of an expansion called from C: given room, a complete list expands to the string that it derives
-  pub desk-expand-demand2 : {expand : CExpand} → KeepsExpandCall expand → Demand2Expand (expandWith answer expand)
-  unfolding expandWith expandBeneath
-  desk-expand-demand2 kept =
+  -- demand 2 of an expansion: given room, a complete list expands to the string that it derives
+  pub desk-expand-meets2 : {book list stack output : List ℕ} {n : ℕ} {s v x : List ℕ} → ExpandCall book list stack output answer n s v x
+      → ExpandMeets2 book list stack output (record { answer = answerFrom n x; stack = s; output = v })
+  desk-expand-meets2 {book} {list} {stack} {output} {n} {s} {v} c =
+      let told = called-answer lent (c .call) in
       record {
-        call = λ book list stack output.
-            record {
-              expands = λ {g} {w} s d short h k.
-                  let (done, written) = expand-demand2 (expand-beneath-kept answer lent kept) .call book list stack output .expands s d short h k in
-                  (expand-read answer lent kept book list stack output .number ∙ done, written);
-            };
+        expands = λ {g} {w} serves d short h k.
+            let (done, written) = expand-meets2 book list stack output (record { answer = told .told; stack = s; output = v }) (told .outcome) .expands serves d short h k in
+            (answer-read told .number ∙ done, written);
       }
 
-  -- demand 2 of building called from C: sets and tables have no member missing and none added, and a conflict is found exactly if two productions claim one cell
-  pub desk-build-demand2 : {build : CBuild} → KeepsBuildCall build → Demand2Build (buildWith answer build)
-  unfolding buildWith buildBeneath
-  desk-build-demand2 kept =
-      let beneath = build-demand2 (build-beneath-kept answer lent kept) in
+  -- demand 2 of building: sets and tables have no member missing and none added, and a conflict is found exactly if two productions claim one cell
+  pub desk-build-meets2 : {book first follow table : List ℕ} {n : ℕ} {f w t x : List ℕ} → BuildCall book first follow table answer n f w t x
+      → BuildMeets2 book first follow table (record { answer = answerFrom n x; first = f; follow = w; table = t })
+  desk-build-meets2 {book} {first} {follow} {table} {n} {f} {w} {t} c =
+      let told = called-answer lent (c .call) in
+      let read = answer-read told in
+      let meets = build-meets2 book first follow table (record { answer = told .told; first = f; follow = w; table = t }) (told .outcome) in
       record {
-        call = λ book first follow table.
-            let read = build-read answer lent kept book first follow table in
-            let meets = beneath .call book first follow table in
-            record {
-              conflict-iff = λ {g} s k. rw (read .number) (meets .conflict-iff s k);
-              done-iff = λ {g} s k. rw (read .number) (meets .done-iff s k);
-              first-sets = λ {g} s n. meets .first-sets s (sym (read .number) ∙ n);
-              follow-sets = λ {g} s n. meets .follow-sets s (sym (read .number) ∙ n);
-              cells = λ {g} s n. meets .cells s (sym (read .number) ∙ n);
-            };
+        conflict-iff = λ {g} serves k. rw (read .number) (meets .conflict-iff serves k);
+        done-iff = λ {g} serves k. rw (read .number) (meets .done-iff serves k);
+        first-sets = λ {g} serves m. meets .first-sets serves (sym (read .number) ∙ m);
+        follow-sets = λ {g} serves m. meets .follow-sets serves (sym (read .number) ∙ m);
+        cells = λ {g} serves m. meets .cells serves (sym (read .number) ∙ m);
       }
+
+-- so a C function that keeps the promise of its call for all inputs meets the demands, whoever lends an answer buffer long enough
+pub desk-run-demand3 : (answer : List ℕ) → Lent answer → {run : CRun} → KeepsRunCall run → Demand3 (runWith answer run)
+unfolding runWith
+desk-run-demand3 answer lent kept = record { call = λ book table tokens stack list. desk-run-meets3 lent (kept .keeps book table tokens stack list answer) }
+
+pub desk-run-back : (answer : List ℕ) → Lent answer → {run : CRun} → KeepsRunCall run → Demand2Back (runWith answer run)
+unfolding runWith
+desk-run-back answer lent kept = record { call = λ book table tokens stack list. desk-run-meets2 lent (kept .keeps book table tokens stack list answer) }
+
+pub desk-run-steps-sum : (answer : List ℕ) → Lent answer → {run : CRun} → KeepsRunCall run → StepsSum (runWith answer run)
+unfolding runWith
+desk-run-steps-sum answer lent kept = record { call = λ book table tokens stack list. desk-run-steps-add lent (kept .keeps book table tokens stack list answer) }
+
+pub desk-expand-demand2 : (answer : List ℕ) → Lent answer → {expand : CExpand} → KeepsExpandCall expand → Demand2Expand (expandWith answer expand)
+unfolding expandWith
+desk-expand-demand2 answer lent kept = record { call = λ book list stack output. desk-expand-meets2 lent (kept .keeps book list stack output answer) }
+
+pub desk-build-demand2 : (answer : List ℕ) → Lent answer → {build : CBuild} → KeepsBuildCall build → Demand2Build (buildWith answer build)
+unfolding buildWith
+desk-build-demand2 answer lent kept = record { call = λ book first follow table. desk-build-meets2 lent (kept .keeps book first follow table answer) }
+
+-- an answer buffer has 32 bytes or more
+pub answer-size : answerSize ≡ 32
+unfolding answerSize answerBytes littleEndian
+answer-size = refl

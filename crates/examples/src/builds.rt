@@ -16,7 +16,7 @@ fn show_build(name: &[u8], book: &[u8]) {
 }
 
 // Example H1 with H before it, and examples I and J.
-pub fn all(house: &[u8], conflicted: &[u8]) {
+pub(crate) fn all(house: &[u8], conflicted: &[u8]) {
     show_build(b"H", house);
     show_build(b"H1", conflicted);
     show_build(

@@ -14,7 +14,7 @@ fn show_expansion(name: &[u8], book: &[u8], list: &[u8]) {
 }
 
 // Example K: a complete list, and one that is cut short.
-pub fn all(house: &[u8]) {
+pub(crate) fn all(house: &[u8]) {
     show_expansion(b"K", house, b"\x00\x01\x03\x05");
     show_expansion(b"K-short", house, b"\x00\x01\x03");
 }

@@ -4,7 +4,7 @@ use crate::showing::show_cells;
 use run::running::run;
 
 // A run, and what is left in all of its stack and list.
-pub fn show_run(
+fn show_run(
     name: &[u8],
     book: &[u8],
     table: &[u8],
@@ -56,7 +56,7 @@ fn with_room(house: &[u8], table: &[u8]) {
     );
 }
 
-pub fn all(house: &[u8]) {
+pub(crate) fn all(house: &[u8]) {
     let mut first = [99u64; 4];
     let mut follow = [99u64; 4];
     let mut table = [99u8; 20];

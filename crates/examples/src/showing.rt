@@ -3,22 +3,22 @@ use book::fields::byte_at;
 use libc::STDOUT_FILENO;
 
 // A word at the beginning of a line or behind a space.
-pub fn show_word(word: &[u8]) {
+fn show_word(word: &[u8]) {
     io::write_all(STDOUT_FILENO, word);
 }
 
-pub fn show_number(n: u64) {
+fn show_number(n: u64) {
     io::write_all(STDOUT_FILENO, b" ");
     io::print_decimal(STDOUT_FILENO, n);
 }
 
-pub fn show_set(word: u64) {
+fn show_set(word: u64) {
     io::write_all(STDOUT_FILENO, b" ");
     io::print_hex(STDOUT_FILENO, word, 16);
 }
 
 // The example's name, then number, place, detail, steps and expected set.
-pub fn show_answer(name: &[u8], answer: Answer) {
+pub(crate) fn show_answer(name: &[u8], answer: Answer) {
     let expected = answer.expected;
     show_word(name);
     show_number(answer.number as u64);
@@ -29,7 +29,7 @@ pub fn show_answer(name: &[u8], answer: Answer) {
 }
 
 // A buffer's name, then its cells.
-pub fn show_cells(name: &[u8], cells: &[u8]) {
+pub(crate) fn show_cells(name: &[u8], cells: &[u8]) {
     show_word(name);
     let mut i: usize = 0;
     while i < cells.len() {
@@ -39,7 +39,7 @@ pub fn show_cells(name: &[u8], cells: &[u8]) {
 }
 
 // A buffer's name, then its sets.
-pub fn show_sets(name: &[u8], family: &[u64]) {
+pub(crate) fn show_sets(name: &[u8], family: &[u64]) {
     show_word(name);
     let mut i: usize = 0;
     while i < family.len() {
@@ -48,6 +48,6 @@ pub fn show_sets(name: &[u8], family: &[u64]) {
     }
 }
 
-pub fn end_line() {
+pub(crate) fn end_line() {
     show_word(b"\n");
 }

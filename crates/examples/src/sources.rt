@@ -39,7 +39,7 @@ fn expressions() {
 }
 
 // Example M.
-pub fn all() {
+pub(crate) fn all() {
     first_sets();
     expressions();
 }

@@ -166,20 +166,28 @@ module _ {run : Runner} (idle : JudgesAtFirst run) (meets-f : RunMeets3 houseBoo
       let other = meets-other .place premises-other (rw same at syntax-f) in
       omega (arith, place-determined f house-place, place-determined other other-place, ap (λ (a : Answer). a .place) same)
 
--- D takes 6 steps and A takes 13
-steps-d : (r : Ran) → StepsAdd houseBook houseTable stringD nines nines r → r .answer .steps ≡ 6
-unfolding house houseTable below begun meets popped replaced used facing offer runFrom rightOf cellOf held ran listedBy matchedBy
-steps-d r adds = adds .sum house-serves (house-admits stringD (omega arith) tt nines (omega arith))
+-- restore name in name, and restore name and name: four tokens each, but 8 steps and 11
+abbrev stringIn : List ℕ
+stringIn = 0 ∷ 1 ∷ 2 ∷ 1 ∷ []
 
-steps-a : (r : Ran) → StepsAdd houseBook houseTable stringA nines nines r → r .answer .steps ≡ 13
+abbrev stringAnd : List ℕ
+stringAnd = 0 ∷ 1 ∷ 3 ∷ 1 ∷ []
+
+steps-in : (r : Ran) → StepsAdd houseBook houseTable stringIn nines nines r → r .answer .steps ≡ 8
 unfolding house houseTable below begun meets popped replaced used facing offer runFrom rightOf cellOf held ran listedBy matchedBy
-steps-a r adds = adds .sum house-serves (house-admits stringA (omega arith) tt nines (omega arith))
+steps-in r adds = adds .sum house-serves (house-admits stringIn (omega arith) tt nines (omega arith))
+
+steps-and : (r : Ran) → StepsAdd houseBook houseTable stringAnd nines nines r → r .answer .steps ≡ 11
+unfolding house houseTable below begun meets popped replaced used facing offer runFrom rightOf cellOf held ran listedBy matchedBy
+steps-and r adds = adds .sum house-serves (house-admits stringAnd (omega arith) tt nines (omega arith))
 
 -- one that invents steps breaks their equation with listed productions and matched tokens
 pub invents-steps-fails : {run : Runner} → InventsSteps run
-    → StepsAdd houseBook houseTable stringD nines nines (run houseBook houseTable stringD nines nines) → ¬ StepsAdd houseBook houseTable stringA nines nines (run houseBook houseTable stringA nines nines)
-invents-steps-fails idle adds-d adds-a =
-    omega (arith, steps-d _ adds-d, steps-a _ adds-a, idle .told houseBook houseTable stringD nines nines, idle .told houseBook houseTable stringA nines nines)
+    → StepsAdd houseBook houseTable stringIn nines nines (run houseBook houseTable stringIn nines nines) → ¬ StepsAdd houseBook houseTable stringAnd nines nines (run houseBook houseTable stringAnd nines nines)
+invents-steps-fails idle adds-in adds-and =
+    let one = idle .told houseBook houseTable stringIn nines nines in
+    let other = idle .told houseBook houseTable stringAnd nines nines in
+    omega (arith, steps-in _ adds-in, steps-and _ adds-and, one, other)
 
 -- there are programs of each kind
 pub untouching-refuses : (a : Answer) → a .number ≢ 0 → RefusesEverything (untouching a)
@@ -196,7 +204,7 @@ writing-fixed a cells = record { fixed = λ book table tokens tokens′ stack li
 
 pub writing-invents : (a : Answer) (cells : List ℕ) → InventsSteps (writing a cells)
 unfolding writing
-writing-invents a cells = record { steps = a .steps; told = λ book table tokens stack list. refl }
+writing-invents a cells = record { steps = λ n. a .steps; told = λ book table tokens stack list. refl }
 
 pub untouching-leaves : (a : Answer) → LeavesList (untouching a)
 unfolding untouching

@@ -85,7 +85,8 @@ pub record RunMeets3 (book table tokens stack list : List ℕ) (r : Ran) : Type 
   -- where syntax is the reason, the place is the length of the longest beginning that some derivable string shares
   pub place : (h : Premises book table tokens) → r .answer .number ≡ syntax → Longest (h .built .grammar) tokens (r .answer .place)
 
--- steps = productions listed + tokens matched, as the definition's machine counts them; 0 in an answer before steps
+-- steps = productions listed + tokens matched, as the definition's machine counts them (that the list holds these is in the outcome); 0 in an
+-- answer before steps
 pub record StepsAdd (book table tokens stack list : List ℕ) (r : Ran) : Type 0 where
   pub sum : {g : Grammar} → Serves book g → Admits g table tokens stack → r .answer .steps ≡ length (listedBy (ran g table tokens stack list)) + matchedBy (ran g table tokens stack list)
   pub none : ((g : Grammar) → Serves book g → ¬ Admits g table tokens stack) → r .answer .steps ≡ 0

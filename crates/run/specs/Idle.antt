@@ -36,10 +36,10 @@ pub record JudgesAtFirst (run : Runner) : Type 0 where
   pub judges : (book table tokens stack list : List ℕ) → Premises book table tokens → (run book table tokens stack list .answer .number ≡ 0) ⊎ (run book table tokens stack list .answer .number ≡ syntax)
   pub alike : (book table stack list : List ℕ) (t : ℕ) (u v : List ℕ) → length u ≡ length v → run book table (t ∷ u) stack list .answer ≡ run book table (t ∷ v) stack list .answer
 
--- it tells one number of steps, whatever it does
+-- its steps go by the number of tokens alone
 pub record InventsSteps (run : Runner) : Type 0 where
-  pub steps : ℕ
-  pub told : (book table tokens stack list : List ℕ) → run book table tokens stack list .answer .steps ≡ steps
+  pub steps : ℕ → ℕ
+  pub told : (book table tokens stack list : List ℕ) → run book table tokens stack list .answer .steps ≡ steps (length tokens)
 
 -- the plainest of each kind: one answer, and the same cells written from the front as far as there is room
 unfoldable pub writing : Answer → List ℕ → Runner

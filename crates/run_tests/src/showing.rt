@@ -101,7 +101,7 @@ fn show_built(book: &[u8], tokens: &[u8]) {
 }
 
 // The number of tokens, the tokens, the book.
-pub fn show(string: &[u8]) {
+pub(crate) fn show(string: &[u8]) {
     let count = byte_at(string, 0, 0) as usize;
     if count < string.len() {
         let from = count + 1;

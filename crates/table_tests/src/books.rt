@@ -29,7 +29,7 @@ fn all(input: &[u8]) {
 }
 
 // Every book in the first `size` bytes.
-pub fn each(input: &[u8], size: usize) {
+pub(crate) fn each(input: &[u8], size: usize) {
     if size <= input.len() {
         all(&input[..size]);
     }

@@ -107,7 +107,7 @@ fn show_rows(cells: &[u8], rows: usize, columns: usize) {
     }
 }
 
-pub fn show(book: &[u8]) {
+pub(crate) fn show(book: &[u8]) {
     let mut first = [0u64; 64];
     let mut follow = [0u64; 64];
     let mut cells = [0u8; 4032];
