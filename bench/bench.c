@@ -1,6 +1,7 @@
 #define _POSIX_C_SOURCE 200809L
 
 #include "desk.h"
+#include "house.h"
 #include "plain.h"
 #include "source.h"
 
@@ -11,8 +12,6 @@
 #include <time.h>
 
 enum { STRINGS = 256, LONG_STRING = 4000, SHORT_STRING = 6, STACK = 1024, LIST = 16384, DEFAULT_ROUNDS = 25 };
-
-#define N(nonterminal) (DESK_NONTERMINAL + (nonterminal))
 
 /* A grammar with strings of one length, their production lists, and how often a round goes through the strings. */
 struct workload {
@@ -37,16 +36,6 @@ static uint8_t stack[STACK], list[LIST], tokens[LONG_STRING], table[DESK_MOST_TA
 static uint64_t first[64], follow[64];
 static unsigned long failures;
 static unsigned rounds = DEFAULT_ROUNDS;
-
-static const uint8_t house_book[] = {
-    'G', 'R', 4, 4, 0, 6,
-    'P', 'R', 0, 2, 0, N(1),
-    'P', 'R', 1, 3, 1, N(2), N(3),
-    'P', 'R', 2, 2, 2, 1,
-    'P', 'R', 2, 0,
-    'P', 'R', 3, 2, 3, N(1),
-    'P', 'R', 3, 0,
-};
 
 /* Tokens { } [ ] : , string number true false null; nonterminals value, members, more members, pair, elements, more. */
 static const uint8_t json_book[] = {

@@ -2,6 +2,7 @@
 #define _DEFAULT_SOURCE
 
 #include "desk.h"
+#include "house.h"
 
 #include <stdio.h>
 #include <stdlib.h>
@@ -11,8 +12,6 @@
 #include <unistd.h>
 
 enum { STACK_SIZE = 1 << 24 };
-
-#define N(nonterminal) (DESK_NONTERMINAL + (nonterminal))
 
 static const uint64_t paint = UINT64_C(0xA5C3E1970F2D4B69);
 
@@ -30,16 +29,6 @@ static uint8_t tokens[DESK_MOST_CELLS], list[DESK_MOST_CELLS], stack[DESK_MOST_C
 static size_t tokens_length, list_length;
 static uint64_t first[DESK_MOST_NONTERMINALS], follow[DESK_MOST_NONTERMINALS], set[1];
 static uint8_t answer[DESK_ANSWER_SIZE];
-
-static const uint8_t house[] = {
-    'G', 'R', 4, 4, 0, 6,
-    'P', 'R', 0, 2, 0, N(1),
-    'P', 'R', 1, 3, 1, N(2), N(3),
-    'P', 'R', 2, 2, 2, 1,
-    'P', 'R', 2, 0,
-    'P', 'R', 3, 2, 3, N(1),
-    'P', 'R', 3, 0,
-};
 
 static const uint8_t growing[] = { 'G', 'R', 1, 1, 0, 2, 'P', 'R', 0, 2, N(0), 0, 'P', 'R', 0, 1, 0 };
 
@@ -194,7 +183,7 @@ static void print_run_depths(void)
 {
     static const uint8_t order[] = { 0, 1, 2, 1, 3, 1 };
     static const uint8_t list_of_order[] = { 0, 1, 2, 4, 1, 3, 5 };
-    set_book(house, sizeof house);
+    set_book(house_book, sizeof house_book);
     call_build();
     memcpy(tokens, order, sizeof order);
     tokens_length = sizeof order;
@@ -223,7 +212,7 @@ static void print_run_depths(void)
 int main(void)
 {
     map_stack();
-    set_book(house, sizeof house);
+    set_book(house_book, sizeof house_book);
     print_book_depths("house");
     set_longest();
     print_book_depths("longest book");

@@ -3,12 +3,12 @@
 
 #include "desk.h"
 #include "lent.h"
+#include "house.h"
 
 /* What the examples are written with: slices of bytes, whole answers, and checks that are counted. */
 
 enum { MANY_CELLS = 70000, NO = DESK_NO_PRODUCTION };
 
-#define N(nonterminal) (DESK_NONTERMINAL + (nonterminal))
 #define END DESK_END_MARK
 #define EMPTY DESK_EMPTY_STRING
 #define COUNT(array) (sizeof(array) / sizeof(array)[0])
