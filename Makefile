@@ -1,11 +1,12 @@
 # make test               the whole gate
+# make also-fail          more wrong programs, each refused (half an hour)
 # make list BOOK=FILE     lists a book
 # make restore            the example program in C, target/c/restore
 # make bench              the benchmark
 # make stack              the machine stack that each C function uses
 SHELL := /bin/bash
 .SHELLFLAGS := -eu -o pipefail -c
-.PHONY: test list list-test compiler
+.PHONY: test also-fail list list-test compiler
 
 CC ?= cc
 LIB := target/libdesk.a
@@ -13,7 +14,11 @@ LIB := target/libdesk.a
 # Its last line is the last line of rt ci, printed once everything has passed.
 test: compiler
 	@rt fmt --check
+	@tools/also-fail --fits
 	@log=$$(mktemp); trap 'rm -f "$$log"' EXIT; rt ci | tee "$$log"; $(MAKE) --no-print-directory list-test c-test; tail -n 1 "$$log"
+
+also-fail:
+	@tools/also-fail
 
 list:
 	@[ -n "$(BOOK)" ] || { echo "usage: make list BOOK=FILE" >&2; exit 2; }
