@@ -8,7 +8,7 @@ use lib.ListN.{length, take, replicate, getElem?, length-append}
 use lib.Seq.{take-all, take-append-add}
 use Rattle.grammar.specs.declared.Symbol.the-variants.{Token}
 use Rattle.grammar.specs.Grammar.{Production, Grammar}
-use Rattle.book.specs.Book.{Spelling, reads, wanted, marked, symbolOf, symbols, records, ending, spells, byteOf, recordBytes, recordsBytes, bytesOf, Limits, Continued}
+use Rattle.book.specs.Book.{Spelling, reads, refused, wanted, marked, symbolOf, symbols, records, ending, spells, byteOf, recordBytes, recordsBytes, bytesOf, Limits, Continued}
 use Rattle.book.proofs.Records.{recordsSize}
 use Rattle.book.proofs.Positions.{recordsBytes-length}
 use Rattle.book.proofs.Order.{Decided, whole, ended, stopped, spells-decided, continued}
@@ -29,6 +29,15 @@ longest-book b {g} e =
 
 continued-fits : {b : List ℕ} → Continued b → length b ≤ 2566
 continued-fits {b} c = omega (arith, longest-book (b ++ c .more) (c .read), length-append b (c .more))
+
+-- no refusal names a place further on
+pub refused-within : (b : List ℕ) {n k : ℕ} → spells b ≡ refused n k → k ≤ 2566
+refused-within b {n} {k} e = by-decided (spells-decided b) e
+  where
+    by-decided : {x : Spelling} → Decided spells 0 b x → x ≡ refused n k → k ≤ 2566
+    by-decided whole e = let bad : _≡_ {A = ℕ} 0 1 = cc in absurd (omega arith)
+    by-decided (ended j place g) e = let same : j ≡ k = cc in omega (arith, place, continued-fits (continued g))
+    by-decided (stopped j fault used c rest split place g all) e = let same : j ≡ k = cc in omega (arith, place, continued-fits (continued g))
 
 -- a longer book is judged by its first 2,567 bytes
 pub judged-by-first : (m : ℕ) → 2567 ≤ m → (b : List ℕ) → spells b ≡ spells (take m b)

@@ -17,10 +17,10 @@ use Rattle.book.specs.Book.{spells, Limits}
 use Rattle.book.specs.Fields.{leftAt, lengthAt, symbolAt}
 use Rattle.book.specs.Judging.{refusing, indexOf, Refuses, misread, useless-one, Serves, Judged, refuses, serves}
 use Rattle.book.proofs.Index.{record-indexed, symbol-indexed, place-fits, placesIn-length}
-use Rattle.book.proofs.Longest.{judged-by-first}
 use Rattle.book.proofs.Order.{Fault, bad-mark, extra-byte, over-limit, not-a-symbol}
 pub use Rattle.book.proofs.Bytes.{symbolOf-known}
 pub use Rattle.book.proofs.Written.{read-limits}
+pub use Rattle.book.proofs.Longest.{judged-by-first, refused-within}
 pub use Rattle.book.proofs.Examples.{house-reads, house-serves, useless-refused}
 pub use Rattle.book.proofs.Place.{Refusal, refused-kinds}
 pub use Rattle.book.proofs.Rules.{rule-below, below-rule}
@@ -103,10 +103,17 @@ module _ {b : List ℕ} {g : Grammar} (s : Serves b g) where
   served same = rw same index-served
 
 -- books that spell the same are judged alike
-pub judged-alike : (b c : List ℕ) {r : Reading} → spells b ≡ spells c → Judged c r → Judged b r
-judged-alike b c same (refuses (misread e)) = refuses (misread (same ∙ e))
-judged-alike b c same (refuses (useless-one e h)) = refuses (useless-one (same ∙ e) h)
-judged-alike b c same (serves s) = serves (record { read = same ∙ s .read; useful = s .useful })
+module _ (b c : List ℕ) (same : spells b ≡ spells c) where
+  pub refuses-alike : {answer : Answer} → Refuses c answer → Refuses b answer
+  refuses-alike (misread e) = misread (same ∙ e)
+  refuses-alike (useless-one e h) = useless-one (same ∙ e) h
+
+  pub serves-alike : {g : Grammar} → Serves c g → Serves b g
+  serves-alike s = record { read = same ∙ s .read; useful = s .useful }
+
+  pub judged-alike : {r : Reading} → Judged c r → Judged b r
+  judged-alike (refuses x) = refuses (refuses-alike x)
+  judged-alike (serves s) = serves (serves-alike s)
 
 -- a longer book is judged by its first 2,567 bytes
 pub judged-by-beginning : (m : ℕ) → 2567 ≤ m → (b : List ℕ) {r : Reading} → Judged (take m b) r → Judged b r

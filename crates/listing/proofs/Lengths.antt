@@ -18,12 +18,11 @@ use Rattle.book.specs.declared.Answer.{Answer}
 use Rattle.book.specs.Answers.{refusal}
 use Rattle.book.specs.Book.{Limits}
 use Rattle.book.specs.Judging.{Refuses, misread, useless-one}
-use Rattle.book.proofs.Promise.{refuses-number, serves-limits, read-limits, below-rule}
+use Rattle.book.proofs.Promise.{refuses-number, refused-within, serves-limits, read-limits, below-rule}
 use Rattle.table.specs.Numbers.{FirstSets, FollowSets}
 use Rattle.table.specs.Table.{size, held, TableOf, FirstConflict}
 use Rattle.listing.specs.Listing.{space, newline, dash, refusedWord, grammarWord, firstWord, followWord, rowWord, numbered, numbersLine, refusedLine, grammarLine, setLine, setLines, cellText, cellsText, rowLine, rowLines, servedText, Listing, refused, conflicted, served}
 use Rattle.listing.specs.Calls.{mostListed}
-use Rattle.listing.proofs.Spelled.{refused-within}
 use Rattle.listing.proofs.Built.{size-fits}
 
 pub numbered-length : (n : ℕ) (numbers : List ℕ) → length (numbered (n ∷ numbers)) ≡ suc (length (decimal n)) + length (numbered numbers)

@@ -1,7 +1,6 @@
 pub mod Parts
 pub mod Built
 pub mod Unique
-pub mod Spelled
 pub mod Beginning
 pub mod Lengths
 pub mod Whole
