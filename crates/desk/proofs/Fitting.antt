@@ -1,5 +1,4 @@
 -- Every answer fits its four words, wherever the book and the table are shorter than 2 ^ 64.
-use mathlib.Core.Path.{ap}
 use mathlib.Core.List.{List, [], _∷_}
 use mathlib.Core.Option.{Option, some, none}
 use Prim.Native.Nat.{ℕ, zero, suc, _+_, _*_, _^_, _≤_, _<_}
@@ -19,21 +18,19 @@ use Rattle.book.specs.declared.Reading.{Reading}
 use Rattle.book.specs.Answers.{done, refusal, stop}
 use Rattle.book.specs.Book.{Limits}
 use Rattle.book.specs.Judging.{Refuses, misread, useless-one, refusing, indexOf, Judged, refuses, serves}
-use Rattle.book.proofs.Promise.{refused-kinds, read-limits, serves-limits}
+use Rattle.book.proofs.Promise.{refused-kinds, read-limits, serves-limits, below-rule}
 use Rattle.table.specs.declared.SetAnswer.{SetAnswer}
 use Rattle.table.specs.Calls.{SetsRoom, no-first, no-follow, SetsOutcome, BuildOutcome, LookaheadOutcome, FirstOutcome}
 use Rattle.table.specs.Calls as calls
 use Rattle.table.specs.Table.{size, held, cellOf}
-use Rattle.table.proofs.Promise.{rule-inside}
-use Rattle.run.specs.Machine.{Reason, full-list, full-stack, wants-end, wants-token, wants-row, Offered}
+use Rattle.run.specs.Machine.{Reason, full-list, full-stack, wants-end, wants-token, wants-row, Offered, final}
 use Rattle.run.specs.Expanding.{ExpandOutcome, expansion}
 use Rattle.run.specs.Expanding as expanding
-use Rattle.run.specs.Expansion.{Progress, Ending}
+use Rattle.run.specs.Expansion.{Course, Upshot}
 use Rattle.run.specs.Room.{rightOf, isOf}
-use Rattle.run.specs.Running.{counted, Misfit, length-given, cell, Barred, bad-table, too-long, strange, no-stack, RunOutcome, marking, filledBelow, expected, ran, answered, listedBy, matchedBy}
+use Rattle.run.specs.Running.{counted, Misfit, length-given, cell, Barred, bad-table, too-long, strange, no-stack, RunOutcome, marking, filledBelow, expected, ran, answered}
 use Rattle.run.specs.Running as running
-use Rattle.run.specs.Stopping.{final}
-use Rattle.run.proofs.Promise.{Counted, run-steps, run-inside, expand-steps, Told, told, served, short-of-list, short-of-stack, blocked, told-steps, listed-final, matched-final, ToldBy, told-by, finished, misfitting, out-of-stack, out-of-output}
+use Rattle.run.proofs.Promise.{Counted, run-steps, run-inside, expand-steps, Told, told, served, short-of-list, short-of-stack, blocked, told-steps, ToldBy, told-by, finished, misfitting, out-of-stack, out-of-output}
 use Rattle.desk.proofs.ReadBack.{FitsWords}
 
 done-fits : (n : ℕ) → n < 2 ^ 64 → FitsWords (done n)
@@ -90,8 +87,8 @@ expected-fits g table wants-end = marking-fits endMark 0 (omega arith)
 expected-fits g table (wants-token t) = marking-fits t 0 (omega arith)
 expected-fits g table (wants-row A) = filled-fits g table A (g .tokens + 1)
 
-told-fits : {e : Reason → Set} {o : Offered} {a : Answer} → Told e o a → ((r : Reason) → sets.number (e r) < 2 ^ 64) → matchedBy o < 2 ^ 64 → a .steps < 2 ^ 64 → FitsWords a
-unfolding matchedBy done stop
+told-fits : {e : Reason → Set} {o : Offered} {a : Answer} → Told e o a → ((r : Reason) → sets.number (e r) < 2 ^ 64) → final o .matched < 2 ^ 64 → a .steps < 2 ^ 64 → FitsWords a
+unfolding final done stop
 told-fits (served s) sets-fit h k = done-fits (s .moves) k
 told-fits (short-of-list s) sets-fit h k = record { place = h; detail = omega arith; steps = k; expected = omega arith }
 told-fits (short-of-stack s) sets-fit h k = record { place = h; detail = omega arith; steps = k; expected = omega arith }
@@ -102,19 +99,19 @@ module _ (g : Grammar) (table tokens stack list : List ℕ) where
   unfolding ran
   ran-counted = run-steps (rightOf g) (cellOf g table) (counted stack) (counted list) (g .start) tokens
 
-  ran-inside : matchedBy (ran g table tokens stack list) ≤ length tokens
+  ran-inside : final (ran g table tokens stack list) .matched ≤ length tokens
   unfolding ran
-  ran-inside = omega (arith, matched-final (ran g table tokens stack list), run-inside (rightOf g) (cellOf g table) (counted stack) (counted list) (g .start) tokens)
+  ran-inside = run-inside (rightOf g) (cellOf g table) (counted stack) (counted list) (g .start) tokens
 
   -- a run lists at most 65,535 productions and matches no more tokens than there are
-  pub ran-bounded : (length (listedBy (ran g table tokens stack list)) ≤ 65535) × (matchedBy (ran g table tokens stack list) ≤ length tokens)
-  ran-bounded = (omega (arith, ap length (listed-final (ran g table tokens stack list)), ran-counted .list-fits), ran-inside)
+  pub ran-bounded : (length (final (ran g table tokens stack list) .listed) ≤ 65535) × (final (ran g table tokens stack list) .matched ≤ length tokens)
+  ran-bounded = (omega (arith, ran-counted .list-fits), ran-inside)
 
   ran-fits : length tokens ≤ 4096 → FitsWords (answered (expected g table) (ran g table tokens stack list))
   ran-fits short =
       let o : Offered = ran g table tokens stack list in
       let answer : Told (expected g table) o (answered (expected g table) o) = told (expected g table) o in
-      told-fits answer (expected-fits g table) (omega (arith, ran-inside)) (omega (arith, told-steps answer, ran-counted .steps, ran-counted .list-fits, matched-final o, ran-inside))
+      told-fits answer (expected-fits g table) (omega (arith, ran-inside)) (omega (arith, told-steps answer, ran-counted .steps, ran-counted .list-fits, ran-inside))
 
 -- the answer of a run
 pub run-fits : {book table tokens stack list : List ℕ} {a : Answer} {stack′ list′ : List ℕ} → length book < 2 ^ 64 → length table < 2 ^ 64 → RunOutcome book table tokens stack list a stack′ list′ → FitsWords a
@@ -122,7 +119,7 @@ run-fits b t (running.refused r) = refused-fits b r
 run-fits b t (running.barred s r) = barred-fits (serves-limits s) t r
 run-fits {table = table} {tokens} {stack} {list} b t (running.ended {g = g} s a) = ran-fits g table tokens stack list (a .short)
 
-told-by-fits : {s : Progress} {e : Ending} {a : Answer} → ToldBy s e a → s .used < 2 ^ 64 → s .moves < 2 ^ 64 → FitsWords a
+told-by-fits : {s : Course} {e : Upshot} {a : Answer} → ToldBy s e a → s .used < 2 ^ 64 → s .moves < 2 ^ 64 → FitsWords a
 unfolding stop
 told-by-fits {s} finished h k = done-fits (s .moves) k
 told-by-fits misfitting h k = record { place = h; detail = omega arith; steps = k; expected = omega arith }
@@ -161,7 +158,7 @@ build-fits b (calls.no-room s r) = room-fits (serves-limits s) r
 build-fits b (calls.no-table s f h) = refusal-fits 7 (omega (arith, size-bounded (serves-limits s))) (omega arith)
 build-fits b (calls.conflict s f h c) =
     let limits = serves-limits s in
-    refusal-fits 8 (omega (arith, c .inside, size-bounded limits)) (omega (arith, rule-inside (c .lowest .rule), rule-inside (c .next .rule), limits .productions-fit))
+    refusal-fits 8 (omega (arith, c .inside, size-bounded limits)) (omega (arith, below-rule (c .lowest .rule), below-rule (c .next .rule), limits .productions-fit))
 build-fits b (calls.served s f h x y t) = done-fits 0 (omega arith)
 
 -- of a lookahead

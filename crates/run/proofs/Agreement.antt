@@ -10,7 +10,7 @@ use Rattle.grammar.specs.declared.Symbol.the-variants.{Token, Nonterminal}
 use Rattle.grammar.specs.Grammar.{Form, Column}
 use Rattle.grammar.specs.Machine.{front}
 use Rattle.run.specs.Machine.{State, Offered, popped, replaced, offer, runFrom}
-use Rattle.run.proofs.Walk.{Walk, here, match, expand, Halt, accepts, left-over, unmatched, vacant, list-full, stack-full, Ran, Answers, goes-on, ends}
+use Rattle.run.proofs.Walk.{Walk, here, match, expand, Halt, accepts, left-over, unmatched, vacant, list-full, stack-full, Walked, ComesTo, goes-on, ends}
 use Rattle.run.proofs.Offer.{offer-match, offer-use, offer-halt, run-match, run-use, run-halt}
 
 one-more : (p : ℕ) (β : Form) (s : State) (l : ℕ) {n : ℕ} → length (s .listed) + suc l ≡ n → length (replaced p β s .listed) + l ≡ n
@@ -86,7 +86,7 @@ module _ (right : ℕ → Form) (cell : ℕ → Column → Option ℕ) (room cel
   offers = offer right cell room cells
 
   abbrev Answer : List ℕ → State → Offered → Type 0
-  Answer = Answers right cell room cells
+  Answer = ComesTo right cell room cells
 
   answers-to : {w : List ℕ} {s : State} {o q : Offered} → q ≡ o → Answer w s o → Answer w s q
   answers-to {w} {s} e a = subst (λ (o : Offered). Answer w s o) (sym e) a
@@ -118,21 +118,21 @@ module _ (right : ℕ → Form) (cell : ℕ → Column → Option ℕ) (room cel
   abbrev runs : List ℕ → State → Offered
   runs = runFrom right cell room cells
 
-  ran-by : {w z : List ℕ} {s e : State} {o : Offered} → length (s .listed) ≤ cells → Walk right cell room cells z e w s → Halt right cell room cells (front z) e o → Ran right cell room cells w s (runs w s)
-  ran-by {w} {z} {s} {e} h r k = subst (λ (o : Offered). Ran right cell room cells w s o) (sym (walk-runs r h k)) (record { rest = z; last = e; walk = r; halt = k })
+  ran-by : {w z : List ℕ} {s e : State} {o : Offered} → length (s .listed) ≤ cells → Walk right cell room cells z e w s → Halt right cell room cells (front z) e o → Walked right cell room cells w s (runs w s)
+  ran-by {w} {z} {s} {e} h r k = subst (λ (o : Offered). Walked right cell room cells w s o) (sym (walk-runs r h k)) (record { rest = z; last = e; walk = r; halt = k })
 
   -- each outcome has its walk
-  pub ran : (w : List ℕ) (s : State) → length (s .listed) ≤ cells → Ran right cell room cells w s (runs w s)
+  pub ran : (w : List ℕ) (s : State) → length (s .listed) ≤ cells → Walked right cell room cells w s (runs w s)
   ran [] s h = go (offer-answers [] (cells - length (s .listed)) s (omega arith))
     where
-      go : {o : Offered} → Answer [] s o → Ran right cell room cells [] s (runs [] s)
+      go : {o : Offered} → Answer [] s o → Walked right cell room cells [] s (runs [] s)
       go (goes-on f r) = let bad : _≡_ {A = ℕ} 0 1 = cc in absurd (omega arith)
       go (ends r k) = ran-by h r k
   ran (t ∷ w) s h = go (offer-answers (t ∷ w) (cells - length (s .listed)) s (omega arith)) (ran w)
     where
-      go : {o : Offered} → Answer (t ∷ w) s o → ((e : State) → length (e .listed) ≤ cells → Ran right cell room cells w e (runs w e)) → Ran right cell room cells (t ∷ w) s (runs (t ∷ w) s)
+      go : {o : Offered} → Answer (t ∷ w) s o → ((e : State) → length (e .listed) ≤ cells → Walked right cell room cells w e (runs w e)) → Walked right cell room cells (t ∷ w) s (runs (t ∷ w) s)
       go (goes-on {y = y} {e = e} f r) again =
-          let on : Ran right cell room cells w e (runs w e) = again e (walk-lists r h) in
+          let on : Walked right cell room cells w e (runs w e) = again e (walk-lists r h) in
           let to : Walk right cell room cells w e (t ∷ w) s = subst (λ (x : List ℕ). Walk right cell room cells x e (t ∷ w) s) (cc) r in
           ran-by h (walk-append to (on .walk)) (on .halt)
       go (ends r k) again = ran-by h r k

@@ -7,9 +7,9 @@ use Rattle.book.specs.declared.Answer.{Answer}
 use Rattle.book.specs.Answers.{done, stop, noSet}
 use Rattle.book.specs.Refusals.{room, syntax, production, stackRoom, listRoom, outputRoom}
 use Rattle.run.specs.Machine.{State, Reason, full-list, full-stack, wants-end, wants-token, wants-row, Offered, taken, stopped}
-use Rattle.run.specs.Expansion.{Progress, Ending, complete, unfit, full-output, Expanded}
+use Rattle.run.specs.Expansion.{Course, Upshot, complete, unfit, full-output, Expansion}
 use Rattle.run.specs.Expansion as expansion
-use Rattle.run.specs.Running.{answered, listedBy, matchedBy}
+use Rattle.run.specs.Running.{answered}
 use Rattle.run.specs.Expanding.{answeredBy, WithRoom, completes, misfits}
 use Rattle.run.proofs.Walk.{Syntax, wanted-end, wanted-token, wanted-row, Short, short-list, short-stack, final}
 
@@ -70,71 +70,61 @@ unfolding answered stop
 short-room e s short-list = refl
 short-room e s short-stack = refl
 
-pub listed-final : (o : Offered) → listedBy o ≡ final o .listed
-unfolding listedBy final
-listed-final (taken s) = refl
-listed-final (stopped r s) = refl
-
-pub matched-final : (o : Offered) → matchedBy o ≡ final o .matched
-unfolding matchedBy final
-matched-final (taken s) = refl
-matched-final (stopped r s) = refl
-
 -- how an expansion ended, and its answer
-pub data ToldBy (s : Progress) : Ending → Answer → Type 0 where
+pub data ToldBy (s : Course) : Upshot → Answer → Type 0 where
   finished : ToldBy s complete (done (s .moves))
   misfitting : ToldBy s unfit (stop production (s .used) 0 (s .moves) noSet)
   out-of-stack : ToldBy s expansion.full-stack (stop room (s .used) stackRoom (s .moves) noSet)
   out-of-output : ToldBy s full-output (stop room (s .used) outputRoom (s .moves) noSet)
 
-pub told-by : (x : Expanded) → ToldBy (x .progress) (x .ending) (answeredBy x)
+pub told-by : (x : Expansion) → ToldBy (x .progress) (x .ending) (answeredBy x)
 unfolding answeredBy
 told-by x = go (x .ending)
   where
-    go : (e : Ending) → ToldBy (x .progress) e (answeredBy (record { ending = e; progress = x .progress }))
+    go : (e : Upshot) → ToldBy (x .progress) e (answeredBy (record { ending = e; progress = x .progress }))
     go complete = finished
     go unfit = misfitting
     go expansion.full-stack = out-of-stack
     go full-output = out-of-output
 
-pub complete-done : (x : Expanded) → x .ending ≡ complete → answeredBy x ≡ done (x .progress .moves)
+pub complete-done : (x : Expansion) → x .ending ≡ complete → answeredBy x ≡ done (x .progress .moves)
 unfolding answeredBy
 complete-done x h = rw (h, answeredBy)
 
-pub unfit-refused : (x : Expanded) → x .ending ≡ unfit → answeredBy x ≡ stop production (x .progress .used) 0 (x .progress .moves) noSet
+pub unfit-refused : (x : Expansion) → x .ending ≡ unfit → answeredBy x ≡ stop production (x .progress .used) 0 (x .progress .moves) noSet
 unfolding answeredBy
 unfit-refused x h = rw (h, answeredBy)
 
-module _ {s : Progress} where
-  pub told-complete : {e : Ending} {a : Answer} → ToldBy s e a → a .number ≡ 0 → e ≡ complete
+module _ {s : Course} where
+  pub told-complete : {e : Upshot} {a : Answer} → ToldBy s e a → a .number ≡ 0 → e ≡ complete
   unfolding stop
   told-complete finished h = refl
   told-complete misfitting h = absurd (omega arith)
   told-complete out-of-stack h = absurd (omega arith)
   told-complete out-of-output h = absurd (omega arith)
 
-  pub told-unfit : {e : Ending} {a : Answer} → ToldBy s e a → a .number ≡ production → (e ≡ unfit) × (a .place ≡ s .used)
+  pub told-unfit : {e : Upshot} {a : Answer} → ToldBy s e a → a .number ≡ production → (e ≡ unfit) × (a .place ≡ s .used)
   unfolding done stop
   told-unfit finished h = absurd (omega arith)
   told-unfit misfitting h = (refl, refl)
   told-unfit out-of-stack h = absurd (omega arith)
   told-unfit out-of-output h = absurd (omega arith)
 
-  pub told-with-room : {e : Ending} {a : Answer} → ToldBy s e a → a .number ≢ room → WithRoom e
+  pub told-with-room : {e : Upshot} {a : Answer} → ToldBy s e a → a .number ≢ room → WithRoom e
   unfolding stop
   told-with-room finished n = completes
   told-with-room misfitting n = misfits
   told-with-room out-of-stack n = absurd (n refl)
   told-with-room out-of-output n = absurd (n refl)
 
-  pub told-moves : {e : Ending} {a : Answer} → ToldBy s e a → a .steps ≡ s .moves
+  pub told-moves : {e : Upshot} {a : Answer} → ToldBy s e a → a .steps ≡ s .moves
   unfolding done stop
   told-moves finished = refl
   told-moves misfitting = refl
   told-moves out-of-stack = refl
   told-moves out-of-output = refl
 
-  pub told-kinds : {e : Ending} {a : Answer} → ToldBy s e a → (a .number ≡ 0) ⊎ ((a .number ≡ room) ⊎ (a .number ≡ production))
+  pub told-kinds : {e : Upshot} {a : Answer} → ToldBy s e a → (a .number ≡ 0) ⊎ ((a .number ≡ room) ⊎ (a .number ≡ production))
   unfolding done stop
   told-kinds finished = inl refl
   told-kinds misfitting = inr (inr refl)

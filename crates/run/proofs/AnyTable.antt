@@ -1,5 +1,5 @@
 -- A run on any table that passes refusal 9, also one never built here: its steps are counted, and it accepts only what the start derives.
-use mathlib.Core.Path.{_≡_, ap, subst}
+use mathlib.Core.Path.{_≡_, subst}
 use mathlib.Core.List.{List}
 use mathlib.Core.Option.{Option, some, none}
 use Prim.Native.Nat.{ℕ, _+_, _*_, _≤_, _<_}
@@ -13,9 +13,9 @@ use Rattle.table.specs.Calls.{over}
 use Rattle.table.specs.Table.{rowAt, held, cellOf}
 use Rattle.run.specs.Demands.{Ran}
 use Rattle.run.specs.Room.{rightOf}
-use Rattle.run.specs.Running.{counted, Fits, vacant, filled, FitTable, ran, expected, listedBy, matchedBy}
+use Rattle.run.specs.Running.{counted, Fits, vacant, filled, FitTable, ran, expected}
 use Rattle.run.specs.Machine.{Offered}
-use Rattle.run.proofs.Answered.{Told, told, told-done, told-steps, listed-final, matched-final}
+use Rattle.run.proofs.Answered.{Told, told, told-done, told-steps}
 use Rattle.run.proofs.Count.{Counted}
 use Rattle.run.proofs.Kept.{EndsRun}
 use Rattle.run.proofs.Relation.{Rows, right-of}
@@ -28,12 +28,12 @@ module _ {g : Grammar} {table tokens stack list : List ℕ} {r : Ran} (e : EndsR
   ends-told = rw (e .answer) (told (expected g table) (ran g table tokens stack list))
 
   -- the steps are the productions listed and the tokens matched
-  pub ends-steps : r .answer .steps ≡ length (listedBy (ran g table tokens stack list)) + matchedBy (ran g table tokens stack list)
+  pub ends-steps : r .answer .steps ≡ length (final (ran g table tokens stack list) .listed) + final (ran g table tokens stack list) .matched
   unfolding ran
   ends-steps =
       let o : Offered = ran g table tokens stack list in
       let counts : Counted (counted stack) (counted list) (final o) = run-steps (rightOf g) (cellOf g table) (counted stack) (counted list) (g .start) tokens in
-      omega (arith, told-steps ends-told, counts .steps, ap length (listed-final o), matched-final o)
+      omega (arith, told-steps ends-told, counts .steps)
 
 module _ {g : Grammar} {table : List ℕ} (fit : FitTable g table) where
   -- a filled cell holds a production of its row
@@ -66,7 +66,7 @@ module _ {g : Grammar} {table : List ℕ} (fit : FitTable g table) where
 
   -- a string that is accepted is derived, by the list that is written
   pub any-accepted : {tokens stack list : List ℕ} {r : Ran} → EndsRun g table tokens stack list r → r .answer .number ≡ 0 → (ps : List ℕ) × Complete g ps tokens × (r .list ≡ over ps list)
-  unfolding ran listedBy
+  unfolding ran final
   any-accepted {tokens} {stack} {list} e n =
       let (s, taken-at) = told-done (ends-told e) n in
       (s .listed, run-sound fit-rows (counted stack) (counted list) tokens taken-at .complete, rw taken-at at (e .written))

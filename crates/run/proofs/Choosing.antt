@@ -34,7 +34,7 @@ spelled-top stack (suc h) n e = let one : suc h - 1 ≡ h = omega arith in rw (e
 pub replaced-length : {book places : List ℕ} {o : Outline} {p count : ℕ} → RightSide book places o p count → (stack : List ℕ) (below : ℕ) → length (rightOf (outlined book places o) p ++ spelledBy stack below) ≡ below + count
 replaced-length {book} {places} {o} {p} {count} side stack below =
     length-append (rightOf (outlined book places o) p) (spelledBy stack below)
-    ∙ omega (arith, ap length (side .symbols), length-symbols book (getD places p 0) count 0, length-spelled stack below)
+    ∙ omega (arith, ap length (side .symbols), length-symbols book (getD places p 0 + 4) count, length-spelled stack below)
 
 -- a production that is to be used stands in the cell of a nonterminal on top
 facing-cell : {cell : ℕ → Column → Option ℕ} {c : Column} {α β : Form} {x : Symbol} {m : Move} {p : ℕ} → α ≡ x ∷ β → Faces cell c x m → m ≡ Use p → (A : ℕ) × (α ≡ Nonterminal A ∷ β) × (cell A c ≡ some p)

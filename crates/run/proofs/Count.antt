@@ -8,7 +8,7 @@ use lib.ListN.{length, length-append}
 use Rattle.grammar.specs.Grammar.{Form, Column, token, endmark}
 use Rattle.grammar.specs.Machine.{front}
 use Rattle.run.specs.Machine.{State, Reason, Offered, taken, stopped, begun, popped, replaced, offer, runFrom}
-use Rattle.run.proofs.Walk.{final, Walk, here, match, expand, Halt, accepts, left-over, unmatched, vacant, list-full, stack-full, Ran, Answers, goes-on, ends}
+use Rattle.run.proofs.Walk.{final, Walk, here, match, expand, Halt, accepts, left-over, unmatched, vacant, list-full, stack-full, Walked, ComesTo, goes-on, ends}
 use Rattle.run.proofs.Agreement.{walk-lists, offer-answers, ran}
 
 -- the counts of a state that has so much room
@@ -107,7 +107,7 @@ module _ {right : ℕ → Form} {cell : ℕ → Column → Option ℕ} {room cel
   halt-gained {c} {s} (list-full e f h) = gained-stopped c _ s
   halt-gained {c} {s} (stack-full e f h m) = gained-stopped c _ s
 
-  answers-grown : {w : List ℕ} {s : State} {o : Offered} → Answers right cell room cells w s o → Grown s (final o) (gained (front w) o)
+  answers-grown : {w : List ℕ} {s : State} {o : Offered} → ComesTo right cell room cells w s o → Grown s (final o) (gained (front w) o)
   unfolding final gained
   answers-grown {w} (goes-on {e = e} f r) =
       let one : gained (front w) (taken e) ≡ 1 = rw f in
@@ -115,7 +115,7 @@ module _ {right : ℕ → Form} {cell : ℕ → Column → Option ℕ} {room cel
       grown-to refl (omega (arith, ap length f)) g
   answers-grown (ends r h) = let (k, m, g) = walk-grown r in grown-to (sym (halt-final h)) (omega (arith, halt-gained h)) g
 
-  answers-counted : {w : List ℕ} {s : State} {o : Offered} → Answers right cell room cells w s o → Counted room cells s → Counted room cells (final o)
+  answers-counted : {w : List ℕ} {s : State} {o : Offered} → ComesTo right cell room cells w s o → Counted room cells s → Counted room cells (final o)
   unfolding final
   answers-counted (goes-on f r) c = walk-counted r c
   answers-counted (ends r h) c = subst (λ (e : State). Counted room cells e) (sym (halt-final h)) (walk-counted r c)
@@ -124,13 +124,13 @@ module _ (right : ℕ → Form) (cell : ℕ → Column → Option ℕ) (room cel
   -- the end of a run from any state whose counts are right
   pub run-counted : (w : List ℕ) (s : State) → Counted room cells s → Counted room cells (final (runFrom right cell room cells w s))
   run-counted w s c =
-      let r : Ran right cell room cells w s (runFrom right cell room cells w s) = ran right cell room cells w s (c .list-fits) in
+      let r : Walked right cell room cells w s (runFrom right cell room cells w s) = ran right cell room cells w s (c .list-fits) in
       subst (λ (e : State). Counted room cells e) (sym (halt-final (r .halt))) (walk-counted (r .walk) c)
 
   -- and what it adds on the way
   pub run-grown : (w : List ℕ) (s : State) → length (s .listed) ≤ cells → (k : ℕ) × (k ≤ length w) × Grown s (final (runFrom right cell room cells w s)) k
   run-grown w s h =
-      let r : Ran right cell room cells w s (runFrom right cell room cells w s) = ran right cell room cells w s h in
+      let r : Walked right cell room cells w s (runFrom right cell room cells w s) = ran right cell room cells w s h in
       let (k, m, g) = walk-grown (r .walk) in
       (k, omega arith, subst (λ (e : State). Grown s e k) (sym (halt-final (r .halt))) g)
 

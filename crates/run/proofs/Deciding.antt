@@ -1,13 +1,13 @@
 -- The table as the code reads it, and what a symbol on top of the stack says to what comes next.
-use mathlib.Core.Path.{_≡_, refl, sym, _∙_, ap}
+use mathlib.Core.Path.{_≡_, sym, _∙_, ap}
 use mathlib.Core.Logic.{_≢_}
 use mathlib.Core.Bool.{true, false}
-use mathlib.Core.List.{List, [], _∷_}
+use mathlib.Core.List.{List}
 use mathlib.Core.Option.{Option, some, none}
-use Prim.Native.Nat.{ℕ, zero, suc, _+_, _*_, _≤_, _<_}
+use Prim.Native.Nat.{ℕ, _+_, _*_, _≤_, _<_}
 use native.Mathlib.Nat.{mul-le-mul}
 use native.Mathlib.Omega.{arith}
-use lib.ListN.{length, getD}
+use lib.ListN.{getD}
 use borrow.Author.Tests.{lt-ltb, le-ltb, eqb-true, eqb-false, ne-eqb}
 use Rattle.grammar.specs.Grammar.{Grammar, Column, token, endmark}
 use Rattle.table.specs.Table.{held, cellOf}
@@ -18,12 +18,6 @@ use Rattle.run.specs.declared.Ahead.{Ahead}
 use Rattle.run.specs.declared.Cause.the-variants.{WantsEnd}
 use Rattle.run.specs.declared.Ending.the-variants.{Accept, Stop}
 use Rattle.run.specs.declared.Outline.{Outline}
-
--- within a list the default does not matter
-pub getD-inside : (l : List ℕ) (i d e : ℕ) → i < length l → getD l i d ≡ getD l i e
-getD-inside [] i d e h = absurd (omega arith)
-getD-inside (x ∷ l) zero d e h = refl
-getD-inside (x ∷ l) (suc i) d e h = getD-inside l i d e (omega arith)
 
 pub row-fits : (n t : ℕ) → n < 256 → t < 256 → n * (t + 1) ≤ 65280
 row-fits n t h k = mul-le-mul {n₁ = n} {m₁ = t + 1} {n₂ = 255} {m₂ = 256} (omega arith) (omega arith)

@@ -19,6 +19,7 @@ use Rattle.run.specs.Demands.{Built, Ran, Expanded, Builder, Runner, Exp
 use Rattle.run.specs.Expanding.{ExpandOutcome, expansion}
 use Rattle.run.specs.Promised.{KeepsBuild, KeepsRun, KeepsExpand}
 use Rattle.run.specs.Room.{peak, LongestList}
+use Rattle.run.specs.Machine.{final}
 use Rattle.run.specs.Running.{counted, Admits, RunOutcome}
 use Rattle.run.proofs.Answered.{told-numbers}
 use Rattle.run.proofs.BuildDemands.{done-exactly, conflict-exactly, done-exactly-if}
@@ -26,7 +27,7 @@ use Rattle.run.proofs.ExpandDemands.{ends-moves, done-complete, done-ex
 use Rattle.run.proofs.Kept.{premises-exact, run-ends, run-begins, before-steps, expansion-begins, expansion-ends, expansion-before-steps}
 use Rattle.run.proofs.AnyTable.{ends-told, ends-steps, any-accepted}
 use Rattle.run.proofs.RunDemands.{accepted-derived, syntax-place, served-or-short, room-short, short-room-refused, runs-back, done-had-room}
-use Rattle.run.specs.Stopping.{final, RoomNeeded, StopsForRoom}
+use Rattle.run.specs.Stopping.{RoomNeeded, StopsForRoom}
 use Rattle.run.proofs.RunRoom.{room-place, decides-exactly}
 use Rattle.run.proofs.RoomNeeded.{room-needed}
 -- and each promise allows one outcome

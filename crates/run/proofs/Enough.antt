@@ -11,7 +11,7 @@ use Rattle.grammar.specs.Machine.{front, Run, Stopped, Halted}
 use Rattle.grammar.specs.Machine as textbook
 use Rattle.run.specs.Machine.{State, Offered, stopped, begun, popped, replaced, runFrom}
 use Rattle.run.specs.Room.{rightOf}
-use Rattle.run.proofs.Walk.{wanted-end, wanted-token, wanted-row, Decided, accepted, refused, Walk, here, match, expand, Halt, accepts, left-over, unmatched, vacant, list-full, stack-full, Ran}
+use Rattle.run.proofs.Walk.{wanted-end, wanted-token, wanted-row, Decided, accepted, refused, Walk, here, match, expand, Halt, accepts, left-over, unmatched, vacant, list-full, stack-full, Walked}
 use Rattle.run.proofs.Agreement.{walk-runs, ran}
 use Rattle.run.proofs.Relation.{right-of}
 
@@ -32,7 +32,7 @@ module _ {right : ℕ → Form} {cell : ℕ → Column → Option ℕ} (room cel
 -- more room does not change a string's decision
 pub run-more : (right : ℕ → Form) (cell : ℕ → Column → Option ℕ) (less fewer room cells : ℕ) → less ≤ room → fewer ≤ cells → (w : List ℕ) (s : State) → length (s .listed) ≤ fewer → Decided (runFrom right cell less fewer w s) → runFrom right cell room cells w s ≡ runFrom right cell less fewer w s
 run-more right cell less fewer room cells h k w s l q =
-    let r : Ran right cell less fewer w s (runFrom right cell less fewer w s) = ran right cell less fewer w s l in
+    let r : Walked right cell less fewer w s (runFrom right cell less fewer w s) = ran right cell less fewer w s l in
     walk-runs (walk-more room cells h k (r .walk)) (omega arith) (halt-more room cells h k (r .halt) q)
 
 -- so many list and stack cells are enough for what the textbook's machine does from α to β

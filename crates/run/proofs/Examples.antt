@@ -18,10 +18,10 @@ use Rattle.run.specs.Examples.{Example, Allowed, Gives, answering, runs,
 use Rattle.run.specs.Examples as rows
 use Rattle.run.specs.Demands.{Builder, Runner, Expander}
 use Rattle.run.specs.Promised.{KeepsBuild, KeepsRun, KeepsExpand}
-use Rattle.run.specs.Machine.{begun, meets, popped, replaced, used, facing, offer, runFrom}
+use Rattle.run.specs.Machine.{begun, meets, popped, replaced, used, facing, offer, runFrom, final}
 use Rattle.run.specs.Expansion.{ended, wrote, applied, writing, applying, expandFrom}
 use Rattle.run.specs.Room.{rightOf, isOf}
-use Rattle.run.specs.Running.{FirstStrange, strange, marking, filledBelow, expected, answered, listedBy, ran}
+use Rattle.run.specs.Running.{FirstStrange, strange, marking, filledBelow, expected, answered, ran}
 use Rattle.run.specs.Running as running
 use Rattle.run.specs.Expanding.{opened, answeredBy}
 use Rattle.run.specs.Expanding as expanding
@@ -36,7 +36,7 @@ four-strange = record { inside = omega arith; strange = omega arith; earlier = �
 
 -- the definitions allow every row, and so no other outcome of its call
 pub examples-allowed : Every Allowed examples
-unfolding examples Allowed exampleA exampleB exampleC exampleD exampleE exampleF exampleG refusesBuilding exampleH1 exampleI exampleJ exampleK exampleKShort runs expands answering house houseTable below begun meets popped replaced used facing offer runFrom rightOf isOf cellOf held only united added marking filledBelow ran expected answered listedBy done stop refusal ended wrote applied writing applying expandFrom opened answeredBy
+unfolding examples Allowed exampleA exampleB exampleC exampleD exampleE exampleF exampleG refusesBuilding exampleH1 exampleI exampleJ exampleK exampleKShort runs expands answering house houseTable below begun meets popped replaced used facing offer runFrom rightOf isOf cellOf held only united added marking filledBelow ran expected answered final done stop refusal ended wrote applied writing applying expandFrom opened answeredBy
 examples-allowed =
     each {x = exampleA} (running.ended house-serves (house-admits _ (omega arith) tt _ (omega arith)))
     (each {x = exampleB} (running.ended house-serves (house-admits _ (omega arith) tt _ (omega arith)))

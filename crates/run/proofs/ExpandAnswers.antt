@@ -16,8 +16,8 @@ use Rattle.book.specs.Judging.{Judged}
 use Rattle.book.specs.Refusals.{limit, room, stackRoom}
 use Rattle.book.specs.declared.Answer.{Answer}
 use Rattle.book.specs.declared.Reading.{Reading}
-use Rattle.run.specs.Expanding.{expansion, answeredBy, ExpandOutcome, refused, too-long, no-stack, ended, Counted}
-use Rattle.run.specs.Expansion.{Ending, complete, unfit, full-stack, full-output, Expanded}
+use Rattle.run.specs.Expanding.{expansion, answeredBy, ExpandOutcome, refused, too-long, no-stack, ended, Spent}
+use Rattle.run.specs.Expansion.{Upshot, complete, unfit, full-stack, full-output, Expansion}
 use Rattle.run.specs.Moves.{outlineIn, outlined}
 use Rattle.run.specs.Room.{rightOf, isOf}
 use Rattle.run.specs.Running.{counted, cleared}
@@ -38,7 +38,7 @@ closing-stop number used detail steps {set} h empty e same =
     let none : set ≡ noSet = λ i. record { word = none-is empty i } in
     h ∙ ap (stop number used detail steps) none ∙ rw e same
 
-answered-closing : (e : Expanded) (q : Ending) → e .ending ≡ q → answeredBy e ≡ closing (finaleOf q) (e .progress .used) (e .progress .moves)
+answered-closing : (e : Expansion) (q : Upshot) → e .ending ≡ q → answeredBy e ≡ closing (finaleOf q) (e .progress .used) (e .progress .moves)
 unfolding answeredBy closing finaleOf
 answered-closing e complete f = rw (f, answeredBy)
 answered-closing e unfit f = rw (f, answeredBy)
@@ -46,10 +46,10 @@ answered-closing e full-stack f = rw (f, answeredBy)
 answered-closing e full-output f = rw (f, answeredBy)
 
 module _ (g : Grammar) (list stack output : List ℕ) where
-  abbrev end : Expanded
+  abbrev end : Expansion
   end = expansion g (counted stack) (counted output) list
 
-  end-counted : Counted (counted stack) (counted output) (length list) (end .progress)
+  end-counted : Spent (counted stack) (counted output) (length list) (end .progress)
   end-counted = expand-steps (isOf g) (rightOf g) (counted stack) (counted output) list (Nonterminal (g .start) ∷ [])
 
 module _ {g : Grammar} {list stack output : List ℕ} {u : Unfolding} {stack′ output′ : List ℕ} (h : Unfolds g list stack output u stack′ output′) where
@@ -64,7 +64,7 @@ module _ {g : Grammar} {list stack output : List ℕ} {u : Unfolding} {stack′ 
   pub unfolds-answered : {r : Answer} {cells : List ℕ} → r ≡ closing (u .finale) (u .used) (u .used + u .written) → cells ≡ cleared stack′ → ExpandedOn g list stack output r cells output′
   unfolding unfolded
   unfolds-answered answer clears =
-      let e : Expanded = end g list stack output in
+      let e : Expansion = end g list stack output in
       record {
         answer = answer ∙ ap (λ (x : Unfolding). closing (x .finale) (x .used) (x .used + x .written)) (h .answer) ∙ ap (closing (finaleOf (e .ending)) (e .progress .used)) (sym (end-counted g list stack output .moves)) ∙ sym (answered-closing e (e .ending) refl);
         stack-cells = clears ∙ ap (λ (n : ℕ). replicate n 0) (h .stack-length);

@@ -26,7 +26,7 @@ use Rattle.run.proofs.ExpandTheorems.{expand-steps, expand-sound, expan
 
 module _ (g : Grammar) (list stack output : List ℕ) where
   -- the expansion with the room of the lent buffers
-  abbrev pub expandedBy : machine.Expanded
+  abbrev pub expandedBy : machine.Expansion
   expandedBy = expansion g (counted stack) (counted output) list
 
   module _ {r : Expanded} (e : EndsExpansion g list stack output r) where
@@ -82,7 +82,7 @@ module _ (g : Grammar) (list stack output : List ℕ) where
     expands-to h k (stackless e a b c) = absurd (omega (arith, peak-start d))
     expands-to h k (begins m e) =
         let whole = expand-complete g (counted stack) (counted output) list d h k in
-        (ends-done e (ap (λ (x : machine.Expanded). x .ending) whole), rw whole at (e .written))
+        (ends-done e (ap (λ (x : machine.Expansion). x .ending) whole), rw whole at (e .written))
 
     -- and it is refused only for room, exactly if stack or output is too short
     pub complete-room-iff : {r : Expanded} → ExpansionBegins g list stack output r → ((r .answer .number ≡ 0) ⊎ (r .answer .number ≡ room)) × ((r .answer .number ≡ room) ↔ ((counted stack < peak d) ⊎ (counted output < length w)))

@@ -8,13 +8,14 @@ use native.Mathlib.Omega.{arith}
 use borrow.Author.Tests.{eqb-true, eq-eqb}
 use lib.ListN.{length, length-append, getElem?}
 use Rattle.grammar.specs.Grammar.{Form, Production, Grammar, Rule, Leftmost, done, shift, expand}
-use Rattle.run.specs.Expansion.{Progress, Ending, complete, wrote, applied}
+use Rattle.run.specs.Expansion.{Course, Upshot, complete, wrote, applied}
 use Rattle.run.specs.Room.{rightOf, isOf, peak}
 use Rattle.run.proofs.ExpandTrace.{Expands, finished, misfit, no-output, no-stack, write, apply}
-use Rattle.run.proofs.ExpandPeak.{Moved, moved, start-peak}
+use Rattle.run.proofs.ExpandPeak.{Moved, moved}
+use Rattle.run.proofs.Peak.{peak-form}
 
 -- what a complete expansion has done
-pub record Derived (g : Grammar) (ps : List ℕ) (α : Form) (s s′ : Progress) : Type 0 where
+pub record DerivedBy (g : Grammar) (ps : List ℕ) (α : Form) (s s′ : Course) : Type 0 where
   pub string : List ℕ
   pub derivation : Leftmost g α ps string
   pub written : s′ .written ≡ s .written ++ string
@@ -49,7 +50,7 @@ module _ {g : Grammar} where
 
   module _ {room output : ℕ} where
     -- a complete expansion is a leftmost derivation of what it wrote
-    pub complete-derives : {ps : List ℕ} {α : Form} {s s′ : Progress} → Expands (isOf g) (rightOf g) room output ps α s complete s′ → Derived g ps α s s′
+    pub complete-derives : {ps : List ℕ} {α : Form} {s s′ : Course} → Expands (isOf g) (rightOf g) room output ps α s complete s′ → DerivedBy g ps α s s′
     unfolding wrote applied
     complete-derives {s = s} finished = record { string = []; derivation = done; written = sym (append-nil (s .written)); used = omega arith }
     complete-derives {s = s} (write {t = t} f r) =
@@ -60,23 +61,23 @@ module _ {g : Grammar} where
         record { string = d .string; derivation = expand (fits-rule p A f) (d .derivation); written = d .written; used = omega arith }
 
     -- its stack was as high as the derivation's greatest height
-    pub complete-height : {ps w : List ℕ} {α : Form} {s s′ : Progress} → Expands (isOf g) (rightOf g) room output ps α s complete s′ → (d : Leftmost g α ps w) → length α ≤ s .height → s′ .height ≡ max (s .height) (peak d)
+    pub complete-height : {ps w : List ℕ} {α : Form} {s s′ : Course} → Expands (isOf g) (rightOf g) room output ps α s complete s′ → (d : Leftmost g α ps w) → length α ≤ s .height → s′ .height ≡ max (s .height) (peak d)
     unfolding wrote applied peak
     complete-height finished done h = omega arith
     complete-height (write f r) (shift d) h = omega (arith, complete-height r d (omega arith))
     complete-height (apply {α = α} f k r) (expand l d) h =
         let m = applied-same α l d in
-        omega (arith, complete-height r (m .derivation) (omega arith), start-peak (m .derivation), m .as-high)
+        omega (arith, complete-height r (m .derivation) (omega arith), peak-form (m .derivation), m .as-high)
 
     -- with room it follows a derivation to its end
-    pub room-complete : {ps w : List ℕ} {α : Form} {s s′ : Progress} {e : Ending} → Expands (isOf g) (rightOf g) room output ps α s e s′ → (d : Leftmost g α ps w) → peak d ≤ room → length (s .written) + length w ≤ output → e ≡ complete
+    pub room-complete : {ps w : List ℕ} {α : Form} {s s′ : Course} {e : Upshot} → Expands (isOf g) (rightOf g) room output ps α s e s′ → (d : Leftmost g α ps w) → peak d ≤ room → length (s .written) + length w ≤ output → e ≡ complete
     unfolding wrote applied peak
     room-complete finished done h k = refl
     room-complete (misfit f) (expand l d) h k = absurd (misfit-no-rule f l)
     room-complete (no-output f) (shift d) h k = absurd (omega arith)
     room-complete (no-stack {α = α} f b) (expand l d) h k =
         let m = applied-same α l d in
-        absurd (omega (arith, start-peak (m .derivation), m .as-high))
+        absurd (omega (arith, peak-form (m .derivation), m .as-high))
     room-complete (write {t = t} {s = s} f r) (shift d) h k = room-complete r d (omega arith) (omega (arith, length-append (s .written) (t ∷ [])))
     room-complete (apply {α = α} f b r) (expand l d) h k =
         let m = applied-same α l d in

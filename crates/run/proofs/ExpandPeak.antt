@@ -1,8 +1,7 @@
--- The greatest height along a derivation: it is at least the first stack's, and the list determines it.
+-- The greatest height along a derivation is determined by the list.
 use mathlib.Core.Path.{_≡_, refl, _∙_, ap, subst}
 use mathlib.Core.List.{List, _++_}
-use Prim.Native.Nat.{ℕ, suc, _≤_, max}
-use native.Mathlib.Omega.{arith}
+use Prim.Native.Nat.{ℕ, suc, max}
 use lib.ListN.{length}
 use Rattle.grammar.specs.Grammar.{Form, Grammar, Leftmost, done, shift, expand}
 use Rattle.grammar.proofs.Leftmost.{rule-same}
@@ -16,12 +15,6 @@ module _ {g : Grammar} where
 
   pub moved : {α β : Form} {ps w : List ℕ} → α ≡ β → (d : Leftmost g α ps w) → Moved d β
   moved e d = subst (λ (x : Form). Moved d x) e (record { derivation = d; as-high = refl })
-
-  pub start-peak : {α : Form} {ps w : List ℕ} (d : Leftmost g α ps w) → length α ≤ peak d
-  unfolding peak
-  start-peak done = omega arith
-  start-peak (shift d) = omega arith
-  start-peak (expand r d) = omega arith
 
   -- peak is determined by the list
   pub peak-of-list : {α : Form} {ps w w′ : List ℕ} (d : Leftmost g α ps w) (e : Leftmost g α ps w′) → peak d ≡ peak e

@@ -8,11 +8,11 @@ use native.Mathlib.Omega.{arith}
 use lib.ListN.{length, take, length-append}
 use lib.Seq.{take-append-add, take-at}
 use Rattle.grammar.specs.declared.Symbol.the-variants.{Nonterminal}
-use Rattle.grammar.specs.Grammar.{Form, spelled, Grammar, Sentential, Leftmost, expand, Productive, Reachable}
-use Rattle.grammar.proofs.Join.{Behind, behind-split}
+use Rattle.grammar.specs.Grammar.{Form, spelled, Grammar, Leftmost, expand, Productive, Reachable}
 use Rattle.grammar.proofs.Leftmost.{derives-leftmost}
 use Rattle.grammar.proofs.Useful.{names-from, Ends, names-end}
-use Rattle.run.specs.Expansion.{Progress, unfit, wrote, applied}
+use Rattle.grammar.proofs.Place.{behind-reachable}
+use Rattle.run.specs.Expansion.{Course, unfit, wrote, applied}
 use Rattle.run.specs.Room.{rightOf, isOf, BeginsList, LongestList}
 use Rattle.run.proofs.ExpandTrace.{Expands, left-over, too-short, misfit, write, apply}
 use Rattle.run.proofs.ExpandPasses as beginning
@@ -20,19 +20,19 @@ use Rattle.run.proofs.ExpandPasses.{Passes, stay, use-rule, passes-on, 
 use Rattle.run.proofs.ExpandDerivation.{fits-rule, misfit-no-rule}
 
 -- the rest of the list does not fit the stack: there is no stack, no rest, or its first number is no production of the nonterminal on top
-pub data Misfit (g : Grammar) : Form → List ℕ → Type 0 where
-  no-stack : {p : ℕ} {rs : List ℕ} → Misfit g [] (p ∷ rs)
-  no-rest : {A : ℕ} {α : Form} → Misfit g (Nonterminal A ∷ α) []
-  no-rule : {p A : ℕ} {rs : List ℕ} {α : Form} → isOf g A p ≡ false → Misfit g (Nonterminal A ∷ α) (p ∷ rs)
+pub data NoFit (g : Grammar) : Form → List ℕ → Type 0 where
+  no-stack : {p : ℕ} {rs : List ℕ} → NoFit g [] (p ∷ rs)
+  no-rest : {A : ℕ} {α : Form} → NoFit g (Nonterminal A ∷ α) []
+  no-rule : {p A : ℕ} {rs : List ℕ} {α : Form} → isOf g A p ≡ false → NoFit g (Nonterminal A ∷ α) (p ∷ rs)
 
 -- how an expansion comes to where the list does not fit
-pub record Stuck (g : Grammar) (ps : List ℕ) (α : Form) (s s′ : Progress) : Type 0 where
+pub record Stuck (g : Grammar) (ps : List ℕ) (α : Form) (s s′ : Course) : Type 0 where
   pub before : List ℕ
   pub rest : List ℕ
   pub tokens : List ℕ
   pub stack : Form
   pub passes : Passes g α before tokens stack
-  pub misfits : Misfit g stack rest
+  pub misfits : NoFit g stack rest
   pub list : ps ≡ before ++ rest
   pub used : s′ .used ≡ s .used + length before
 
@@ -41,7 +41,7 @@ pub list-place-determined : {g : Grammar} {ps : List ℕ} {j k : ℕ} → Longes
 list-place-determined {j = j} {k = k} a b = omega (arith, a .longest k (b .inside) (b .begun), b .longest j (a .inside) (a .begun))
 
 module _ {g : Grammar} where
-  at-once : {ps : List ℕ} {α : Form} {s : Progress} → Misfit g α ps → Stuck g ps α s s
+  at-once : {ps : List ℕ} {α : Form} {s : Course} → NoFit g α ps → Stuck g ps α s s
   at-once {ps} {α} m =
       record {
         before = [];
@@ -54,7 +54,7 @@ module _ {g : Grammar} where
         used = omega arith;
       }
 
-  pub unfit-stuck : {room output : ℕ} {ps : List ℕ} {α : Form} {s s′ : Progress} → Expands (isOf g) (rightOf g) room output ps α s unfit s′ → Stuck g ps α s s′
+  pub unfit-stuck : {room output : ℕ} {ps : List ℕ} {α : Form} {s s′ : Course} → Expands (isOf g) (rightOf g) room output ps α s unfit s′ → Stuck g ps α s s′
   unfolding wrote applied
   unfit-stuck left-over = at-once no-stack
   unfit-stuck too-short = at-once no-rest
@@ -85,13 +85,13 @@ module _ {g : Grammar} where
       }
 
   -- from that stack no derivation goes on with the first number of the rest, nor with the whole rest
-  misfit-next : {α : Form} {p : ℕ} {rs qs v : List ℕ} → Misfit g α (p ∷ rs) → Leftmost g α (p ∷ qs) v → ⊥
+  misfit-next : {α : Form} {p : ℕ} {rs qs v : List ℕ} → NoFit g α (p ∷ rs) → Leftmost g α (p ∷ qs) v → ⊥
   misfit-next (no-rule f) (expand r d) = misfit-no-rule f r
 
-  misfit-rest : {α : Form} {rs v : List ℕ} → Misfit g α rs → Leftmost g α rs v → ⊥
+  misfit-rest : {α : Form} {rs v : List ℕ} → NoFit g α rs → Leftmost g α rs v → ⊥
   misfit-rest (no-rule f) (expand r d) = misfit-no-rule f r
 
-  module _ {ps : List ℕ} {α : Form} {s s′ : Progress} (k : Stuck g ps α s s′) where
+  module _ {ps : List ℕ} {α : Form} {s s′ : Course} (k : Stuck g ps α s s′) where
     -- a list that does not fit derives nothing
     pub stuck-incomplete : {w : List ℕ} → Leftmost g α ps w → ⊥
     stuck-incomplete d = misfit-rest (k .misfits) (passes-through (k .passes) (k .rest) (rw (k .list) at d) .1)
@@ -115,11 +115,6 @@ module _ {g : Grammar} where
             let e : take j ps ≡ k .before ++ take (suc m) (k .rest) = ap₂ take n (k .list) ∙ take-append-add (k .before) (k .rest) (suc m) in
             absurd (one-more m (k .rest) refl (omega (arith, stuck-length)) qs (rw append-assoc at (rw e at d)))
 
-  behind-reachable : (x : Form) {A : ℕ} {v β : Form} → Sentential g (x ++ β) → Behind A v β → Reachable g A
-  behind-reachable x {v = v} s b =
-      let (u, e) = behind-split b in
-      record { left = x ++ u; right = v; occurs = rw append-assoc (rw e at s) }
-
   module _ (productive : (A : ℕ) → Reachable g A → Productive g A) where
     -- what can be passed begins a complete list
     pub passes-begins : {β : Form} {qs u : List ℕ} → Passes g (Nonterminal (g .start) ∷ []) qs u β → BeginsList g qs
@@ -128,7 +123,7 @@ module _ {g : Grammar} where
         let (rs, d) = derives-leftmost (e .string) (e .derives) in
         record { rest = rs; string = u ++ e .string; complete = passes-on r d }
 
-    module _ {ps : List ℕ} {s s′ : Progress} (k : Stuck g ps (Nonterminal (g .start) ∷ []) s s′) where
+    module _ {ps : List ℕ} {s s′ : Course} (k : Stuck g ps (Nonterminal (g .start) ∷ []) s s′) where
       pub stuck-longest : s .used ≡ 0 → LongestList g ps (s′ .used)
       stuck-longest z =
           let n : length (k .before) ≡ s′ .used = omega (arith, k .used) in

@@ -8,9 +8,9 @@ use native.Mathlib.Omega.{arith}
 use lib.ListN.{length}
 use Rattle.grammar.specs.Grammar.{Form, Grammar, Complete, WellFormed, Useful}
 use Rattle.grammar.proofs.Useful.{useful-all}
-use Rattle.run.specs.Expansion.{Progress, complete, unfit, ended, expandFrom}
+use Rattle.run.specs.Expansion.{Course, complete, unfit, ended, expandFrom}
 use Rattle.run.specs.Room.{rightOf, peak, LongestList}
-use Rattle.run.specs.Expanding.{opened, expansion, Counted, WithRoom}
+use Rattle.run.specs.Expanding.{opened, expansion, Spent, WithRoom}
 use Rattle.run.proofs.ExpandTrace.{traced}
 use Rattle.run.proofs.ExpandSteps.{symbols, counted-end, counted-whole, written-grows, room-enough}
 use Rattle.run.proofs.ExpandWhole.{ended-path, whole, whole-to, whole-sound, whole-progress, whole-within, whole-unfit, whole-longest, whole-complete, whole-exact, whole-refuses}
@@ -20,15 +20,15 @@ pub use Rattle.run.proofs.ExpandPlace.{list-place-determined}
 
 module _ (fits : ℕ → ℕ → Bool) (right : ℕ → Form) (room output : ℕ) where
   -- from any stack and progress, counts that are right stay right to the end
-  pub expand-steps-from : (ps : List ℕ) (α : Form) (s : Progress) {n : ℕ} → s .used + length ps ≤ n → Counted room output n s → Counted room output n (expandFrom fits right room output ps α s .progress)
+  pub expand-steps-from : (ps : List ℕ) (α : Form) (s : Course) {n : ℕ} → s .used + length ps ≤ n → Spent room output n s → Spent room output n (expandFrom fits right room output ps α s .progress)
   expand-steps-from ps α s h c = counted-end (traced fits right room output ps α s) h c
 
   -- what is written stays, and more comes after it
-  pub expand-grows : (ps : List ℕ) (α : Form) (s : Progress) → (u : List ℕ) × (expandFrom fits right room output ps α s .progress .written ≡ s .written ++ u)
+  pub expand-grows : (ps : List ℕ) (α : Form) (s : Course) → (u : List ℕ) × (expandFrom fits right room output ps α s .progress .written ≡ s .written ++ u)
   expand-grows ps α s = written-grows (traced fits right room output ps α s)
 
   -- moves = productions used + tokens written, and of list, output and stack no more is taken than there is
-  pub expand-steps : (ps : List ℕ) (α : Form) → Counted room output (length ps) (expandFrom fits right room output ps α opened .progress)
+  pub expand-steps : (ps : List ℕ) (α : Form) → Spent room output (length ps) (expandFrom fits right room output ps α opened .progress)
   expand-steps ps α = counted-whole (traced fits right room output ps α opened)
 
 module _ (g : Grammar) (room output : ℕ) (ps : List ℕ) where

@@ -19,9 +19,9 @@ use Rattle.book.specs.Answers.{done, stop}
 use Rattle.book.specs.declared.Answer.{Answer}
 use Rattle.table.specs.Table.{held}
 use Rattle.run.specs.Answering.{RowColumns, Expects, numberOf, detailOf, progressIn, Answers}
-use Rattle.run.specs.Machine.{State, Reason, full-list, full-stack, wants-end, wants-token, wants-row, Offered, taken, stopped}
+use Rattle.run.specs.Machine.{State, Reason, full-list, full-stack, wants-end, wants-token, wants-row, Offered, taken, stopped, final}
 use Rattle.run.specs.Moves.{Outlines}
-use Rattle.run.specs.Offering.{causeOf, progressOf, reported, leaves}
+use Rattle.run.specs.Resuming.{causeOf, progressOf, reported}
 use Rattle.run.specs.Running.{marking, filledBelow, expected, answered}
 use Rattle.run.specs.declared.Cause.the-variants.{FullList, FullStack, WantsEnd, WantsToken, WantsRow}
 use Rattle.run.specs.declared.Cause.{Cause}
@@ -122,18 +122,18 @@ matched-are s here e = ap (λ (x : Progress). x .matched) (here ∙ e)
 
 module _ {o : Outline} (table : List ℕ) {reply : Reply} {at : Progress} {steps : ℕ} {r : Answer} (here : at ≡ progressIn reply) (counts : steps ≡ at .listed + at .matched) where
   pub answers-done : {x : Progress} → reply ≡ Taken x → r ≡ done steps → Answers o table reply r
-  unfolding reported leaves answered
+  unfolding reported final answered
   answers-done e f = record { answer = λ g sized. go g }
     where
-      go : (g : Grammar) (w : Offered) → reply ≡ reported w → leaves w .moves ≡ length (leaves w .listed) + leaves w .matched → r ≡ answered (expected g table) w
+      go : (g : Grammar) (w : Offered) → reply ≡ reported w → final w .moves ≡ length (final w .listed) + final w .matched → r ≡ answered (expected g table) w
       go g (taken s) reports moves = f ∙ ap done (steps-are s here counts (ap progressIn reports) moves)
       go g (stopped q s) reports moves = let bad : _≡_ {A = ℕ} 0 1 = cc in absurd (omega arith)
 
   pub answers-stop : {x : Progress} {cause : Cause} {n place d : ℕ} {set : Set} → reply ≡ Stopped cause x → Expects o table cause set → n ≡ numberOf cause → place ≡ at .matched → d ≡ detailOf cause → r ≡ stop n place d steps set → Answers o table reply r
-  unfolding reported leaves
+  unfolding reported final
   answers-stop {cause = cause} {set = set} e expects number-is place-is detail-is f = record { answer = go }
     where
-      go : (g : Grammar) → Outlines o g → (w : Offered) → reply ≡ reported w → leaves w .moves ≡ length (leaves w .listed) + leaves w .matched → r ≡ answered (expected g table) w
+      go : (g : Grammar) → Outlines o g → (w : Offered) → reply ≡ reported w → final w .moves ≡ length (final w .listed) + final w .matched → r ≡ answered (expected g table) w
       go g sized (taken s) reports moves = let bad : _≡_ {A = ℕ} 0 1 = cc in absurd (omega arith)
       go g sized (stopped q s) reports moves =
           let same : cause ≡ causeOf q = cc in

@@ -1,13 +1,13 @@
 -- What is gathered from the records, cell by cell, and what it says of the productions.
 use mathlib.Core.Path.{_≡_, refl, _∙_, subst}
-use mathlib.Core.List.{List, [], _∷_}
+use mathlib.Core.List.{List}
 use Prim.Native.Nat.{ℕ, zero, suc, _+_, _≤_, _<_}
 use native.Mathlib.Decide.{decLt}
 use native.Mathlib.Omega.{arith}
 use lib.Dec.{eqb}
 use lib.ListN.{length, getD, set, replicate}
 use lib.Seq.{getD-set-same, getD-set-other}
-use Rattle.run.specs.Index.{symbolsFrom}
+use Rattle.table.specs.Forms.{formIn}
 use Rattle.run.specs.Moves.{outlined, RightSide, Gathered, Lefts, Lengths}
 use Rattle.run.specs.Room.{rightOf, isOf}
 use Rattle.run.specs.declared.Outline.{Outline}
@@ -40,9 +40,9 @@ module _ {book places : List ℕ} where
     pub right-gathered : {lengths : List ℕ} {r : ℕ} → Lengths book places o lengths → r ≡ getD lengths p 0 → r < 256 → RightSide book places o p r
     right-gathered {lengths} {r} g e few = record { symbols = go (decLt p (o .productions)); few = few }
       where
-        go : Dec (p < o .productions) → rightOf (outlined book places o) p ≡ symbolsFrom book (getD places p 0) r 0
+        go : Dec (p < o .productions) → rightOf (outlined book places o) p ≡ formIn book (getD places p 0 + 4) r
         go (yes h) = right-found book places o h (e ∙ g .inside p h)
-        go (no n) = let h : o .productions ≤ p = omega arith in rw (e ∙ g .beyond p h) (right-missing book places o (getD places p 0) h)
+        go (no n) = let h : o .productions ≤ p = omega arith in rw (e ∙ g .beyond p h) (right-missing book places o (getD places p 0 + 4) h)
 
     pub left-gathered : {lefts : List ℕ} (A : ℕ) {left : ℕ} → Lefts book places o lefts → p < o .productions → left ≡ getD lefts p 0 → eqb left A ≡ isOf (outlined book places o) A p
     left-gathered A g h e = left-found book places o A h (e ∙ g .inside p h)

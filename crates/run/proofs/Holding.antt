@@ -10,10 +10,11 @@ use Rattle.grammar.specs.Grammar.{Form, Column, token, Every}
 use Rattle.grammar.specs.declared.Symbol.the-variants.{Token}
 use Rattle.grammar.specs.declared.Symbol.{Symbol}
 use Rattle.table.specs.Calls.{over}
-use Rattle.run.specs.Index.{symbolsFrom}
-use Rattle.run.specs.Machine.{State, Reason, full-list, full-stack, wants-end, wants-token, wants-row, Offered, taken, stopped, popped, replaced, offer}
+use Rattle.table.specs.Forms.{formIn}
+use Rattle.run.specs.Machine.{State, Reason, full-list, full-stack, wants-end, wants-token, wants-row, Offered, taken, stopped, popped, replaced, offer, final}
 use Rattle.run.specs.Moves.{Chosen}
-use Rattle.run.specs.Offering.{Spelled, Holds, Offering, causeOf, progressOf, reported, leaves, finished, finishedStack}
+use Rattle.run.specs.Offering.{Spelled, Holds, Offering, finished, finishedStack}
+use Rattle.run.specs.Resuming.{causeOf, progressOf, reported}
 use Rattle.run.specs.Running.{counted}
 use Rattle.run.specs.Stack.{bytesOf, spelledBy}
 use Rattle.run.specs.declared.Ending.{Ending}
@@ -42,7 +43,7 @@ module _ {s : State} {at : Progress} {stack₀ list₀ stack list : List ℕ} (h
   holds-progress = λ i. record { height = h .height i; listed = h .listed i; matched = h .matched i }
 
   -- the buffers hold the state in which an outcome leaves the machine
-  pub holds-outcome : {o o′ : Offered} {r : Reply} → o ≡ o′ → leaves o ≡ s → r ≡ reported o → Offering o′ stack₀ list₀ r stack list
+  pub holds-outcome : {o o′ : Offered} {r : Reply} → o ≡ o′ → final o ≡ s → r ≡ reported o → Offering o′ stack₀ list₀ r stack list
   holds-outcome {r = r} same left answer =
       subst (λ (x : Offered). Offering x stack₀ list₀ r stack list) same
       (record { answer = answer; holds = subst (λ (e : State). Holds e (progressOf e) stack₀ list₀ stack list) (sym left) (subst (λ (x : Progress). Holds s x stack₀ list₀ stack list) holds-progress h) })
@@ -67,13 +68,13 @@ module _ {s : State} {at : Progress} {stack₀ list₀ stack list : List ℕ} (h
       }
 
   -- the symbol on top gives way to the right side of production p, which is listed
-  holds-use : (book : List ℕ) (place count p : ℕ) {x : Symbol} {α β : Form} → s .stack ≡ x ∷ α → β ≡ symbolsFrom book place count 0 → length (s .listed) < counted list₀ → length (β ++ α) ≤ counted stack₀
-      → Holds (replaced p (β ++ α) s) (record { height = at .height - 1 + count; listed = at .listed + 1; matched = at .matched }) stack₀ list₀ (sets (set stack (at .height - 1) 0) (at .height - 1) (bytesOf (symbolsFrom book place count 0))) (set list (at .listed) p)
+  holds-use : (book : List ℕ) (from count p : ℕ) {x : Symbol} {α β : Form} → s .stack ≡ x ∷ α → β ≡ formIn book from count → length (s .listed) < counted list₀ → length (β ++ α) ≤ counted stack₀
+      → Holds (replaced p (β ++ α) s) (record { height = at .height - 1 + count; listed = at .listed + 1; matched = at .matched }) stack₀ list₀ (sets (set stack (at .height - 1) 0) (at .height - 1) (bytesOf (formIn book from count))) (set list (at .listed) p)
   unfolding replaced
-  holds-use book place count p {x} {α} {β} e side room fits =
+  holds-use book from count p {x} {α} {β} e side room fits =
       let n : at .height ≡ suc (length α) = h .height ∙ ap length e in
       let below : at .height - 1 ≡ length α = omega arith in
-      let many : length β ≡ count = ap length side ∙ length-symbols book place count 0 in
+      let many : length β ≡ count = ap length side ∙ length-symbols book from count in
       let whole = length-append β α in
       record {
         height = omega arith;
@@ -83,7 +84,7 @@ module _ {s : State} {at : Progress} {stack₀ list₀ stack list : List ℕ} (h
         highest = omega arith;
         stack-room = omega (arith, h .stack-room);
         list-room = omega (arith, length-append (s .listed) (p ∷ []));
-        spelled = every-append (subst (λ (γ : Form). Every Spelled γ) (sym side) (symbols-spelled book place count 0)) (every-rest (subst (λ (γ : Form). Every Spelled γ) e (h .spelled)));
+        spelled = every-append (subst (λ (γ : Form). Every Spelled γ) (sym side) (symbols-spelled book from count)) (every-rest (subst (λ (γ : Form). Every Spelled γ) e (h .spelled)));
         stack-cells = rw (below, h .stack-cells, e, ← side) (stacked-replace x β α (s .height) stack₀ (omega (arith, h .highest, h .height)) (omega arith));
         list-cells = rw (h .listed, h .list-cells) (over-more (s .listed) p list₀ (omega arith));
       }
@@ -110,17 +111,17 @@ module _ (right : ℕ → Form) (cell : ℕ → Column → Option ℕ) (c : Colu
     counts-left : length (w .state .listed) + (counted list₀ - at .listed) ≡ counted list₀
     counts-left = omega (arith, w .holds .listed, w .holds .list-room)
 
-    pub walking-use : (book : List ℕ) (place count : ℕ) {p : ℕ} → right p ≡ symbolsFrom book place count 0 → Chosen right cell (counted stack₀) (counted list₀) c (spelledBy stack (at .height)) (at .listed) (Use p)
-        → Walking (record { height = at .height - 1 + count; listed = at .listed + 1; matched = at .matched }) (sets (set stack (at .height - 1) 0) (at .height - 1) (bytesOf (symbolsFrom book place count 0))) (set list (at .listed) p)
-    walking-use book place count {p} side k = go (chosen-by k)
+    pub walking-use : (book : List ℕ) (from count : ℕ) {p : ℕ} → right p ≡ formIn book from count → Chosen right cell (counted stack₀) (counted list₀) c (spelledBy stack (at .height)) (at .listed) (Use p)
+        → Walking (record { height = at .height - 1 + count; listed = at .listed + 1; matched = at .matched }) (sets (set stack (at .height - 1) 0) (at .height - 1) (bytesOf (formIn book from count))) (set list (at .listed) p)
+    walking-use book from count {p} side k = go (chosen-by k)
       where
-        go : Chosen right cell (counted stack₀) (counted list₀) c (w .state .stack) (length (w .state .listed)) (Use p) → Walking (record { height = at .height - 1 + count; listed = at .listed + 1; matched = at .matched }) (sets (set stack (at .height - 1) 0) (at .height - 1) (bytesOf (symbolsFrom book place count 0))) (set list (at .listed) p)
+        go : Chosen right cell (counted stack₀) (counted list₀) c (w .state .stack) (length (w .state .listed)) (Use p) → Walking (record { height = at .height - 1 + count; listed = at .listed + 1; matched = at .matched }) (sets (set stack (at .height - 1) 0) (at .height - 1) (bytesOf (formIn book from count))) (set list (at .listed) p)
         go (Chosen.uses {β = β} e f l m) =
             let one : counted list₀ - at .listed ≡ suc (counted list₀ - (at .listed + 1)) = omega (arith, w .holds .listed) in
             record {
               state = replaced p (right p ++ β) (w .state);
               same = sym (offer-use right cell (counted stack₀) (counted list₀) (counted list₀ - (at .listed + 1)) (w .state) e f m) ∙ ap (λ (l : ℕ). offer right cell (counted stack₀) (counted list₀) l c (w .state)) (sym one) ∙ w .same;
-              holds = holds-use (w .holds) book place count p e side l m;
+              holds = holds-use (w .holds) book from count p e side l m;
             }
 
     -- the machine makes no move any more, and that is the outcome
@@ -132,7 +133,7 @@ module _ (right : ℕ → Form) (cell : ℕ → Column → Option ℕ) (c : Colu
     matched {t} e f = sym (offer-match right cell (counted stack₀) (counted list₀) (counted list₀ - at .listed) (w .state) e) ∙ rw (← f) (w .same)
 
     pub walking-finish : {e : Ending} → Chosen right cell (counted stack₀) (counted list₀) c (spelledBy stack (at .height)) (at .listed) (Finish e) → Offering outcome stack₀ list₀ (finished e at) (finishedStack e at stack) list
-    unfolding finished finishedStack reported leaves causeOf
+    unfolding finished finishedStack reported final causeOf
     walking-finish k = go (chosen-by k)
       where
         h : Holds (w .state) at stack₀ list₀ stack list

@@ -23,13 +23,13 @@ use Rattle.run.specs.Demands.{Builder, Runner, Expander, Ran, Premises, 
 use Rattle.book.specs.Examples.{houseBook}
 use Rattle.table.specs.Examples.{houseTable}
 use Rattle.run.specs.Idle.{RefusesEverything, FixedOutput, FixedList, LeavesList, LeavesTable, JudgesAtFirst, InventsSteps, writing, writingOutput, untouching, untouchingBuild, judged, judgingFirst}
-use Rattle.run.specs.Machine.{begun, meets, popped, replaced, used, facing, offer, runFrom}
+use Rattle.run.specs.Machine.{begun, meets, popped, replaced, used, facing, offer, runFrom, final}
 use Rattle.run.specs.Room.{rightOf, peak}
-use Rattle.run.specs.Running.{ran, listedBy, matchedBy}
+use Rattle.run.specs.Running.{ran}
 use Rattle.run.proofs.House.{house-premises, house-admits}
 use Rattle.run.proofs.Kept.{premises-exact}
 use Rattle.run.proofs.RunTheorems.{run-place}
-use Rattle.run.proofs.Walk.{wanted-row}
+use Rattle.run.proofs.Walk.{Decided, refused, wanted-row}
 
 -- the strings and lists of examples D and A, and the string of F
 abbrev stringD : List ℕ
@@ -149,12 +149,16 @@ other-place : Longest house stringOther 1
 unfolding house houseTable house-built house-premises premises-other begun meets popped replaced used facing offer runFrom rightOf cellOf held
 other-place = run-place (premises-exact premises-other) 7 7 house-well-formed house-useful stringOther refl wanted-row
 
+decided-f : Decided (ran house houseTable stringF nines nines)
+unfolding house houseTable begun meets popped replaced used facing offer runFrom rightOf cellOf held ran
+decided-f = refused wanted-row
+
 module _ {run : Runner} (idle : JudgesAtFirst run) (meets-f : RunMeets3 houseBook houseTable stringF nines nines (run houseBook houseTable stringF nines nines)) where
   -- F is not derivable, so syntax is the reason
   syntax-f : run houseBook houseTable stringF nines nines .answer .number ≡ syntax
   unfolding house-built house-premises premises-f
   syntax-f =
-      ⊎-elim (λ n. absurd (house-not-derivable (leftmost-derives (meets-f .accepts premises-f n .1)))) (λ n. n) (idle .judges houseBook houseTable stringF nines nines premises-f)
+      ⊎-elim (λ n. absurd (house-not-derivable (leftmost-derives (meets-f .accepts premises-f n .1)))) (λ n. n) (idle .judges houseBook houseTable stringF nines nines house-serves premises-f decided-f)
 
   -- one that judges at the first token and then only moves its place breaks the place of demand 3, as F shows: F and the other string
   -- have one first token and one length, and so one place; but their longest beginnings differ
@@ -174,11 +178,11 @@ abbrev stringAnd : List ℕ
 stringAnd = 0 ∷ 1 ∷ 3 ∷ 1 ∷ []
 
 steps-in : (r : Ran) → StepsAdd houseBook houseTable stringIn nines nines r → r .answer .steps ≡ 8
-unfolding house houseTable below begun meets popped replaced used facing offer runFrom rightOf cellOf held ran listedBy matchedBy
+unfolding house houseTable below begun meets popped replaced used facing offer runFrom rightOf cellOf held ran final
 steps-in r adds = adds .sum house-serves (house-admits stringIn (omega arith) tt nines (omega arith))
 
 steps-and : (r : Ran) → StepsAdd houseBook houseTable stringAnd nines nines r → r .answer .steps ≡ 11
-unfolding house houseTable below begun meets popped replaced used facing offer runFrom rightOf cellOf held ran listedBy matchedBy
+unfolding house houseTable below begun meets popped replaced used facing offer runFrom rightOf cellOf held ran final
 steps-and r adds = adds .sum house-serves (house-admits stringAnd (omega arith) tt nines (omega arith))
 
 -- one that invents steps breaks their equation with listed productions and matched tokens
@@ -221,4 +225,4 @@ judged-numbers (suc t) n = inr refl
 
 pub judging-first-judges : JudgesAtFirst judgingFirst
 unfolding judgingFirst
-judging-first-judges = record { judges = λ book table tokens stack list h. judged-numbers (getD tokens 0 1) (length tokens); alike = λ book table stack list t u v e. rw e }
+judging-first-judges = record { judges = λ book table tokens stack list serves h enough. judged-numbers (getD tokens 0 1) (length tokens); alike = λ book table stack list t u v e. rw e }

@@ -18,7 +18,8 @@ use Rattle.table.proofs.Promise.{built-exact}
 use Rattle.run.specs.Demands.{Ran, Expanded, Premises}
 use Rattle.run.specs.Expanding.{ExpandOutcome, expansion, answeredBy}
 use Rattle.run.specs.Expanding as expanding
-use Rattle.run.specs.Running.{counted, Fits, FitTable, Barred, Admits, RunOutcome, cleared, ran, answered, expected, listedBy}
+use Rattle.run.specs.Machine.{final}
+use Rattle.run.specs.Running.{counted, Fits, FitTable, Barred, Admits, RunOutcome, cleared, ran, answered, expected}
 use Rattle.run.specs.Running as running
 use Rattle.run.proofs.OutcomeUnique.{Result, run-outcome-unique, expand-outcome-unique}
 
@@ -43,7 +44,7 @@ module _ {book table tokens : List ℕ} (h : Premises book table tokens) where
 pub record EndsRun (g : Grammar) (table tokens stack list : List ℕ) (r : Ran) : Type 0 where
   pub answer : r .answer ≡ answered (expected g table) (ran g table tokens stack list)
   pub cleared : r .stack ≡ cleared stack
-  pub written : r .list ≡ over (listedBy (ran g table tokens stack list)) list
+  pub written : r .list ≡ over (final (ran g table tokens stack list) .listed) list
 
 -- an expansion that ended in steps
 pub record EndsExpansion (g : Grammar) (list stack output : List ℕ) (r : Expanded) : Type 0 where

@@ -14,7 +14,7 @@ use Rattle.grammar.proofs.Leftmost.{leftmost-derives}
 use Rattle.run.specs.Machine.{State, Reason, full-list, full-stack, Offered, taken, stopped, begun, runFrom}
 use Rattle.run.specs.Room.{rightOf, peak}
 use Rattle.run.specs.Stopping.{Before}
-use Rattle.run.proofs.Walk.{Short, short-list, short-stack, wanted-end, wanted-token, wanted-row, Walk, Halt, accepts, left-over, unmatched, vacant, list-full, stack-full, Ran}
+use Rattle.run.proofs.Walk.{Short, short-list, short-stack, wanted-end, wanted-token, wanted-row, Walk, Halt, accepts, left-over, unmatched, vacant, list-full, stack-full, Walked}
 use Rattle.run.proofs.Count.{Counted, begun-counted, walk-counted}
 use Rattle.run.proofs.Relation.{exact-rows, walk-reached, reached-form}
 use Rattle.run.proofs.Verdict.{Derived, begun-ran, ran-derived, syntax-not-derivable}
@@ -116,5 +116,5 @@ module _ {g : Grammar} {cell : ℕ → Column → Option ℕ} {room cells : ℕ}
   -- the run of a derivable string
   pub run-outcome : Outcome room cells d (runFrom (rightOf g) cell room cells w (begun (g .start)))
   run-outcome =
-      let r : Ran (rightOf g) cell room cells w (begun (g .start)) (runFrom (rightOf g) cell room cells w (begun (g .start))) = begun-ran (g .start) w refl in
+      let r : Walked (rightOf g) cell room cells w (begun (g .start)) (runFrom (rightOf g) cell room cells w (begun (g .start))) = begun-ran (g .start) w refl in
       outcome (r .walk) (r .halt)

@@ -13,7 +13,8 @@ use Rattle.table.specs.Calls.{over}
 use Rattle.table.proofs.Promise.{Unique, OfBook, of-refusal, of-grammar, of-book-unique}
 use Rattle.run.specs.Expanding.{ExpandOutcome, expansion, answeredBy}
 use Rattle.run.specs.Expanding as expanding
-use Rattle.run.specs.Running.{FitTable, Misfit, length-given, cell, FirstStrange, Barred, bad-table, too-long, strange, no-stack, Admits, counted, cleared, ran, answered, expected, listedBy, matchedBy, wordsOf, RunOutcome, BesideOutcome}
+use Rattle.run.specs.Machine.{final}
+use Rattle.run.specs.Running.{FitTable, Misfit, length-given, cell, FirstStrange, Barred, bad-table, too-long, strange, no-stack, Admits, counted, cleared, ran, answered, expected, wordsOf, RunOutcome, BesideOutcome}
 use Rattle.run.specs.Running as running
 
 module _ {g : Grammar} {table : List ℕ} where
@@ -92,11 +93,11 @@ module _ {list stack : List ℕ} where
 
 module _ {X : Type 0} (kept : Answer → X) where
   -- refused before steps, and all is kept; or ended in steps
-  data Stepped (Bars : Answer → Type 0) (Admitted : Type 0) (end x : X) : Type 0 where
-    before-steps : {a : Answer} → Bars a → x ≡ kept a → Stepped Bars Admitted end x
-    in-steps : Admitted → x ≡ end → Stepped Bars Admitted end x
+  data Stages (Bars : Answer → Type 0) (Admitted : Type 0) (end x : X) : Type 0 where
+    before-steps : {a : Answer} → Bars a → x ≡ kept a → Stages Bars Admitted end x
+    in-steps : Admitted → x ≡ end → Stages Bars Admitted end x
 
-  stepped-unique : {Bars : Answer → Type 0} {Admitted : Type 0} {end : X} → Unique Bars → ((a : Answer) → Bars a → Admitted → ⊥) → Unique (Stepped Bars Admitted end)
+  stepped-unique : {Bars : Answer → Type 0} {Admitted : Type 0} {end : X} → Unique Bars → ((a : Answer) → Bars a → Admitted → ⊥) → Unique (Stages Bars Admitted end)
   stepped-unique same apart x y (before-steps b e) (before-steps d f) = e ∙ ap kept (same _ _ b d) ∙ sym f
   stepped-unique same apart x y (before-steps b e) (in-steps a f) = absurd (apart _ b a)
   stepped-unique same apart x y (in-steps a e) (before-steps b f) = absurd (apart _ b a)
@@ -104,7 +105,7 @@ module _ {X : Type 0} (kept : Answer → X) where
 
   -- a call that keeps everything where it is refused before steps
   abbrev Call : List ℕ → (Grammar → Answer → Type 0) → (Grammar → Type 0) → (Grammar → X) → X → Type 0
-  Call book Bars Admitted end x = OfBook book (λ a y. y ≡ kept a) (λ g y. Stepped (Bars g) (Admitted g) (end g) y) x
+  Call book Bars Admitted end x = OfBook book (λ a y. y ≡ kept a) (λ g y. Stages (Bars g) (Admitted g) (end g) y) x
 
   call-unique : (book : List ℕ) {Bars : Grammar → Answer → Type 0} {Admitted : Grammar → Type 0} (end : Grammar → X) → ((g : Grammar) → Unique (Bars g)) → ((g : Grammar) (a : Answer) → Bars g a → Admitted g → ⊥) → Unique (Call book Bars Admitted end)
   call-unique book end same apart = of-book-unique (λ a x y e f. e ∙ sym f) (λ g. stepped-unique (same g) (apart g))
@@ -120,7 +121,7 @@ module _ (book table tokens stack list : List ℕ) where
   kept a = (a, stack, list)
 
   abbrev end-of : Grammar → Result
-  end-of g = (answered (expected g table) (ran g table tokens stack list), cleared stack, over (listedBy (ran g table tokens stack list)) list)
+  end-of g = (answered (expected g table) (ran g table tokens stack list), cleared stack, over (final (ran g table tokens stack list) .listed) list)
 
   run-call : {a : Answer} {s l : List ℕ} → RunOutcome book table tokens stack list a s l → Call kept book (λ g. Barred g table tokens stack) (λ g. Admits g table tokens stack) end-of (a, s, l)
   run-call (running.refused r) = of-refusal r refl
@@ -135,7 +136,7 @@ module _ (book table tokens stack list : List ℕ) where
   kept-beside a = (wordsOf a, tokens, stack, list)
 
   abbrev end-beside : Grammar → BesideResult
-  end-beside g = (wordsOf (answered (expected g table) (ran g table tokens stack list)), drop (matchedBy (ran g table tokens stack list)) tokens, cleared stack, over (listedBy (ran g table tokens stack list)) list)
+  end-beside g = (wordsOf (answered (expected g table) (ran g table tokens stack list)), drop (final (ran g table tokens stack list) .matched) tokens, cleared stack, over (final (ran g table tokens stack list) .listed) list)
 
   beside-call : {a r s l : List ℕ} → BesideOutcome book table tokens stack list a r s l → Call kept-beside book (λ g. Barred g table tokens stack) (λ g. Admits g table tokens stack) end-beside (a, r, s, l)
   beside-call (running.refused r) = of-refusal r refl

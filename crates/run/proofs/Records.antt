@@ -8,13 +8,14 @@ use native.Mathlib.Nat.{add-zero, add-suc, suc-add, zero-add, mod-eq-of-lt}
 use native.Mathlib.Omega.{arith}
 use lib.Dec.{eqb}
 use lib.ListN.{length, getD, getElem?}
-use Rattle.grammar.specs.Grammar.{Form, Production, Grammar}
-use Rattle.grammar.specs.declared.Symbol.{Symbol}
+use Rattle.grammar.specs.Grammar.{Production, Grammar}
 use Rattle.book.proofs.Promise.{Entry, Served, served, serves-limits, serves-well-formed}
 use Rattle.book.specs.Fields.{symbolAt}
 use Rattle.book.specs.Judging.{indexOf, Serves}
 use Rattle.book.specs.declared.Reading.{Reading}
-use Rattle.run.specs.Index.{symbolsFrom, productionAt, productionsFrom, grammarIn}
+use Rattle.table.proofs.Promise.{form-spelled}
+use Rattle.table.specs.Forms.{formIn}
+use Rattle.run.specs.Index.{productionAt, productionsFrom, grammarIn}
 use Rattle.run.specs.Moves.{outlineIn, outlined, Outlines}
 use Rattle.run.specs.Room.{rightOf, isOf}
 use Rattle.run.specs.declared.Outline.{Outline}
@@ -38,13 +39,13 @@ module _ (book places : List ℕ) where
 
   module _ (o : Outline) {p : ℕ} where
     -- production p is the record at its place
-    pub right-found : {n : ℕ} → p < o .productions → n ≡ getD book (getD places p 0 + 3) 0 → rightOf (outlined book places o) p ≡ symbolsFrom book (getD places p 0) n 0
+    pub right-found : {n : ℕ} → p < o .productions → n ≡ getD book (getD places p 0 + 3) 0 → rightOf (outlined book places o) p ≡ formIn book (getD places p 0 + 4) n
     unfolding rightOf outlined productionAt
     right-found h e = rw (production-found (o .productions) 0 p h, zero-add p, e, rightOf)
 
-    pub right-missing : (at : ℕ) → o .productions ≤ p → rightOf (outlined book places o) p ≡ symbolsFrom book at 0 0
-    unfolding rightOf outlined symbolsFrom
-    right-missing at h = rw (production-missing (o .productions) 0 p h, rightOf)
+    pub right-missing : (from : ℕ) → o .productions ≤ p → rightOf (outlined book places o) p ≡ formIn book from 0
+    unfolding rightOf outlined formIn
+    right-missing from h = rw (production-missing (o .productions) 0 p h, rightOf)
 
     pub left-found : (A : ℕ) {left : ℕ} → p < o .productions → left ≡ getD book (getD places p 0 + 2) 0 → eqb left A ≡ isOf (outlined book places o) A p
     unfolding isOf outlined productionAt
@@ -53,14 +54,6 @@ module _ (book places : List ℕ) where
     pub left-missing : (A : ℕ) → o .productions ≤ p → false ≡ isOf (outlined book places o) A p
     unfolding isOf outlined
     left-missing A h = rw (production-missing (o .productions) 0 p h, isOf)
-
--- a right side, symbol by symbol
-symbols-are : (book : List ℕ) (at : ℕ) (β : Form) (i : ℕ) → ((k : ℕ) (x : Symbol) → getElem? β k ≡ some x → symbolAt book at (i + k) ≡ x) → symbolsFrom book at (length β) i ≡ β
-unfolding symbolsFrom
-symbols-are book at [] i h = refl
-symbols-are book at (x ∷ β) i h =
-    let here : symbolAt book at i ≡ x = rw (add-zero i) at (h 0 _ refl) in
-    rw (here, symbols-are book at β (suc i) (λ k y e. ap (symbolAt book at) (suc-add i k ∙ sym (add-suc i k)) ∙ h (suc k) y e))
 
 -- the productions, record by record
 productions-are : (book places : List ℕ) (ps : List Production) (i : ℕ) → ((k : ℕ) (r : Production) → getElem? ps k ≡ some r → productionAt book (getD places (i + k) 0) ≡ r) → productionsFrom book places (length ps) i ≡ ps
@@ -72,10 +65,10 @@ productions-are book places (r ∷ ps) i h =
 
 -- what a place says through the accessors is the production
 entry-production : {book : List ℕ} {at : ℕ} (r : Production) → Entry book at (r .left) (r .right) → productionAt book at ≡ r
-unfolding productionAt
+unfolding productionAt symbolAt
 entry-production {book} {at} r e =
-    let whole : symbolsFrom book at (length (r .right)) 0 ≡ r .right = symbols-are book at (r .right) 0 (λ k x f. ap (symbolAt book at) (zero-add k) ∙ e .symbols k f) in
-    λ i. record { left = e .left i; right = (ap (λ (n : ℕ). symbolsFrom book at n 0) (e .size) ∙ whole) i }
+    let whole : formIn book (at + 4) (length (r .right)) ≡ r .right = form-spelled book (at + 4) (r .right) (λ k x f. e .symbols k f) in
+    λ i. record { left = e .left i; right = (ap (formIn book (at + 4)) (e .size) ∙ whole) i }
 
 -- the index of a book that serves a grammar finds that grammar
 pub index-grammar : {book : List ℕ} {g : Grammar} → Serves book g → grammarIn book (indexOf g) ≡ g

@@ -14,7 +14,7 @@ use Rattle.grammar.specs.Machine as textbook-machine
 use Rattle.grammar.proofs.Leftmost.{spelled-append}
 use Rattle.run.specs.Machine.{State, begun, popped, replaced, runFrom}
 use Rattle.run.specs.Room.{rightOf}
-use Rattle.run.proofs.Walk.{final, Walk, here, match, expand, Ran}
+use Rattle.run.proofs.Walk.{final, Walk, here, match, expand, Walked}
 use Rattle.run.proofs.Agreement.{ran}
 use Rattle.run.proofs.Count.{halt-final}
 
@@ -103,5 +103,5 @@ module _ {g : Grammar} {cell : ℕ → Column → Option ℕ} where
   pub run-reached : Rows g cell → (room cells : ℕ) (w : List ℕ) → Reached g cell w (final (runFrom (rightOf g) cell room cells w (begun (g .start))))
   unfolding begun
   run-reached rows room cells w =
-      let r : Ran (rightOf g) cell room cells w (begun (g .start)) (runFrom (rightOf g) cell room cells w (begun (g .start))) = ran (rightOf g) cell room cells w (begun (g .start)) (omega arith) in
+      let r : Walked (rightOf g) cell room cells w (begun (g .start)) (runFrom (rightOf g) cell room cells w (begun (g .start))) = ran (rightOf g) cell room cells w (begun (g .start)) (omega arith) in
       subst (λ (s : State). Reached g cell w s) (sym (halt-final (r .halt))) (walk-reached rows (r .walk))

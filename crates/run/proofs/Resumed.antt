@@ -1,22 +1,23 @@
--- A run in progress that its buffers spell, and what an offer to it leaves.
-use mathlib.Core.Path.{_≡_, refl, sym}
+-- A run in progress that its buffers spell, and what an offer to it answers and leaves.
+use mathlib.Core.Path.{_≡_, refl, sym, ap, _∙_}
 use mathlib.Core.List.{List}
-use Prim.Native.Nat.{ℕ, _-_, _≤_, _<_}
+use Prim.Native.Nat.{ℕ, _+_, _-_, _≤_, _<_}
 use native.Mathlib.Omega.{arith}
-use lib.ListN.{length, take, take-append-drop}
+use lib.ListN.{length, length-append, take, take-append-drop}
 use lib.Seq.{length-take-le}
 use borrow.Author.Tests.{lt-ltb, le-ltb}
 use Rattle.grammar.specs.Grammar.{Grammar, Column}
 use Rattle.table.specs.Table.{columnOf, cellOf}
-use Rattle.run.specs.Machine.{State, offer}
+use Rattle.run.specs.Machine.{State, full-list, full-stack, wants-end, wants-token, wants-row, Offered, taken, stopped, final, offer}
 use Rattle.run.specs.Moves.{columnIn}
 use Rattle.run.specs.Offering.{Holds, Ready, Offering}
-use Rattle.run.specs.Resuming.{clamped, standing, offeredTo, OfferOutcome}
+use Rattle.run.specs.Resuming.{causeOf, progressOf, reported, clamped, standing, offeredTo, Offers, answerOf, OfferOutcome}
 use Rattle.run.specs.Room.{rightOf}
-use Rattle.run.specs.Running.{counted}
+use Rattle.run.specs.Running.{counted, expected, answered}
 use Rattle.run.specs.declared.Ahead.the-variants.{Next, End}
 use Rattle.run.specs.declared.Progress.{Progress}
 use Rattle.run.specs.declared.Reply.{Reply}
+use Rattle.run.proofs.Count.{Grown, gained, offer-grown}
 use Rattle.run.proofs.Stacked.{cells-spelled, length-spelled, stacked-spelled}
 
 pub column-next : {column tokens : ℕ} → column < tokens → (g : Grammar) → g .tokens ≡ tokens → columnIn (Next column) ≡ columnOf g column
@@ -49,11 +50,39 @@ standing-held {at} {stack} {list} ready =
       list-cells = rw cells (sym (take-append-drop (at .listed) list));
     }
 
+-- the reply has the answer of the outcome, where the moves are those counted
+reply-told : (g : Grammar) (table : List ℕ) (o : Offered) → final o .moves ≡ length (final o .listed) + final o .matched → answerOf g table (reported o) ≡ answered (expected g table) o
+unfolding final reported causeOf progressOf answerOf answered
+reply-told g table (taken s) e = rw e
+reply-told g table (stopped full-list s) e = rw e
+reply-told g table (stopped full-stack s) e = rw e
+reply-told g table (stopped wants-end s) e = rw e
+reply-told g table (stopped (wants-token t) s) e = rw e
+reply-told g table (stopped (wants-row A) s) e = rw e
+
+-- and from the state that the buffers spell they are
+offered-told : (g : Grammar) (table : List ℕ) (column : ℕ) {at : Progress} {stack list : List ℕ} → Ready at stack list → answerOf g table (reported (offeredTo g table column at stack list)) ≡ answered (expected g table) (offeredTo g table column at stack list)
+unfolding standing offeredTo
+offered-told g table column {at} {stack} {list} ready =
+    let cells : length (take (at .listed) list) ≡ at .listed = length-take-le (at .listed) list (omega (arith, ready .listed)) in
+    let o : Offered = offeredTo g table column at stack list in
+    let grown : Grown (standing at stack list) (final o) (gained (columnOf g column) o) = offer-grown (rightOf g) (cellOf g table) (counted stack) (counted list) (counted list - at .listed) (columnOf g column) (standing at stack list) (omega (arith, ready .listed)) in
+    reply-told g table o (omega (arith, grown .steps, grown .matches, ap length (grown .lists), length-append (take (at .listed) list) (grown .new)))
+
 module _ (g : Grammar) (table : List ℕ) (column : ℕ) {c : Column} {stack list : List ℕ} {r : Reply} {stack′ list′ : List ℕ} where
+  -- what is offered to every state that the buffers hold is offered to the one that they spell
+  spelled-offers : {at : Progress} → Ready at stack list → c ≡ columnOf g column
+      → ((s : State) → Holds s at stack list stack list → Offering (offer (rightOf g) (cellOf g table) (counted stack) (counted list) (counted list - at .listed) c s) stack list r stack′ list′)
+      → Offers (offeredTo g table column at stack list) stack list r stack′ list′
+  unfolding offeredTo
+  spelled-offers {at} ready same offers =
+      let x = offers (standing at stack list) (standing-held ready) in
+      rw (← same) (record { answer = x .answer; stack-cells = x .holds .stack-cells; list-cells = x .holds .list-cells })
+
   pub offer-resumed : (at : Progress) {from : Progress} → from ≡ clamped at (length stack) (length list) → c ≡ columnOf g column
       → ((s : State) → Holds s from stack list stack list → Offering (offer (rightOf g) (cellOf g table) (counted stack) (counted list) (counted list - from .listed) c s) stack list r stack′ list′)
       → OfferOutcome g table column at stack list r stack′ list′
-  unfolding offeredTo
   offer-resumed at {from} clamps same offers =
-      let x = offers (standing from stack list) (standing-held (rw clamps (clamped-ready at stack list))) in
-      rw (← clamps, ← same) (record { answer = x .answer; stack-cells = x .holds .stack-cells; list-cells = x .holds .list-cells })
+      let ready = clamped-ready at stack list in
+      let x : Offers (offeredTo g table column (clamped at (length stack) (length list)) stack list) stack list r stack′ list′ = spelled-offers ready same (rw clamps at offers) in
+      record { offers = x; told = ap (answerOf g table) (x .answer) ∙ offered-told g table column ready }

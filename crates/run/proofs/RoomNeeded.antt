@@ -10,7 +10,7 @@ use Rattle.grammar.specs.Machine.{Exact}
 use Rattle.run.specs.Machine.{State, Offered, begun, popped, replaced, runFrom}
 use Rattle.run.specs.Room.{rightOf}
 use Rattle.run.specs.Stopping.{RoomNeeded}
-use Rattle.run.proofs.Walk.{Decided, refused, final, Walk, here, match, expand, Halt, accepts, left-over, unmatched, vacant, list-full, stack-full, Ran}
+use Rattle.run.proofs.Walk.{Decided, refused, final, Walk, here, match, expand, Halt, accepts, left-over, unmatched, vacant, list-full, stack-full, Walked}
 use Rattle.run.proofs.Agreement.{walk-runs, ran}
 use Rattle.run.proofs.Count.{Counted, walk-grown, halt-final}
 use Rattle.run.proofs.RunTheorems.{runOf, run-more, run-steps, run-halts}
@@ -45,7 +45,7 @@ module _ {right : ℕ → Form} {cell : ℕ → Column → Option ℕ} {much man
 run-within : (right : ℕ → Form) (cell : ℕ → Column → Option ℕ) (much many room cells start : ℕ) (w : List ℕ) → Decided (runFrom right cell much many w (begun start)) → length (final (runFrom right cell much many w (begun start)) .listed) ≤ cells → final (runFrom right cell much many w (begun start)) .height ≤ room → runFrom right cell room cells w (begun start) ≡ runFrom right cell much many w (begun start)
 unfolding begun
 run-within right cell much many room cells start w q h k =
-    let r : Ran right cell much many w (begun start) (runFrom right cell much many w (begun start)) = ran right cell much many w (begun start) (omega arith) in
+    let r : Walked right cell much many w (begun start) (runFrom right cell much many w (begun start)) = ran right cell much many w (begun start) (omega arith) in
     let listed = ap (λ (s : State). length (s .listed)) (halt-final (r .halt)) in
     let height = ap (λ (s : State). s .height) (halt-final (r .halt)) in
     walk-runs (walk-within (omega arith) (omega arith) (r .walk)) (omega arith) (decided-halts (r .halt) q)
@@ -53,7 +53,7 @@ run-within right cell much many room cells start w q h k =
 run-tall : (right : ℕ → Form) (cell : ℕ → Column → Option ℕ) (room cells start : ℕ) (w : List ℕ) → 1 ≤ final (runFrom right cell room cells w (begun start)) .height
 unfolding begun
 run-tall right cell room cells start w =
-    let r : Ran right cell room cells w (begun start) (runFrom right cell room cells w (begun start)) = ran right cell room cells w (begun start) (omega arith) in
+    let r : Walked right cell room cells w (begun start) (runFrom right cell room cells w (begun start)) = ran right cell room cells w (begun start) (omega arith) in
     omega (arith, walk-higher (r .walk), ap (λ (s : State). s .height) (halt-final (r .halt)))
 
 -- every string has such an end

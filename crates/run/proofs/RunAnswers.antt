@@ -16,12 +16,13 @@ use Rattle.table.specs.Table.{cellOf}
 use Rattle.run.specs.Answering.{progressIn, Answers}
 use Rattle.run.specs.Beside.{Shown}
 use Rattle.run.specs.Checking.{Checked, barred, admitted}
-use Rattle.run.specs.Judged.{JudgedRun, ended, Ran, AccountedOn, Accounted}
-use Rattle.run.specs.Machine.{State, Offered, taken, stopped}
+use Rattle.run.specs.Judged.{JudgedRun, ended}
+use Rattle.run.specs.Accounting.{RanThrough, AccountedOn, Accounted}
+use Rattle.run.specs.Machine.{State, Offered, taken, stopped, final}
 use Rattle.run.specs.Moves.{outlineIn, outlined, Outlines}
-use Rattle.run.specs.Offering.{progressOf, reported, leaves}
+use Rattle.run.specs.Resuming.{progressOf, reported}
 use Rattle.run.specs.Room.{rightOf}
-use Rattle.run.specs.Running.{counted, Barred, bad-table, too-long, strange, no-stack, Admits, expected, answered, matchedBy, ran, RunOutcome, wordsOf, BesideOutcome}
+use Rattle.run.specs.Running.{counted, Barred, bad-table, too-long, strange, no-stack, Admits, expected, answered, ran, RunOutcome, wordsOf, BesideOutcome}
 use Rattle.run.specs.declared.Account.{Account}
 use Rattle.run.specs.declared.Outline.{Outline}
 use Rattle.run.specs.declared.Progress.{Progress}
@@ -29,25 +30,24 @@ use Rattle.run.specs.declared.Reply.{Reply}
 use Rattle.run.proofs.Count.{Counted}
 use Rattle.run.proofs.Records.{reading-grammar}
 use Rattle.run.proofs.RunTheorems.{run-steps, run-inside}
-use Rattle.run.proofs.Steps.{final-leaves}
 
-progress-reported : (o : Offered) → progressIn (reported o) ≡ progressOf (leaves o)
-unfolding reported leaves
+progress-reported : (o : Offered) → progressIn (reported o) ≡ progressOf (final o)
+unfolding reported final
 progress-reported (taken s) = refl
 progress-reported (stopped r s) = refl
 
 module _ (g : Grammar) (table tokens stack list : List ℕ) where
   -- where the run leaves the machine
   abbrev last : State
-  last = leaves (ran g table tokens stack list)
+  last = final (ran g table tokens stack list)
 
   ran-counted : Counted (counted stack) (counted list) last
   unfolding ran
-  ran-counted = subst (λ (s : State). Counted (counted stack) (counted list) s) (final-leaves (ran g table tokens stack list)) (run-steps (rightOf g) (cellOf g table) (counted stack) (counted list) (g .start) tokens)
+  ran-counted = run-steps (rightOf g) (cellOf g table) (counted stack) (counted list) (g .start) tokens
 
   pub ran-inside : last .matched ≤ length tokens
   unfolding ran
-  ran-inside = subst (λ (s : State). s .matched ≤ length tokens) (final-leaves (ran g table tokens stack list)) (run-inside (rightOf g) (cellOf g table) (counted stack) (counted list) (g .start) tokens)
+  ran-inside = run-inside (rightOf g) (cellOf g table) (counted stack) (counted list) (g .start) tokens
 
   module _ {reply : Reply} (reports : reply ≡ reported (ran g table tokens stack list)) where
     pub reply-matched : progressIn reply .matched ≡ last .matched
@@ -65,7 +65,7 @@ module _ (g : Grammar) (table tokens stack list : List ℕ) where
     ran-answered sized a = a .answer g sized (ran g table tokens stack list) reports (ran-counted .steps)
 
 -- what is left when steps have been made
-pub judged-ended : {g : Grammar} {table tokens stack list : List ℕ} {o : Outline} {reply : Reply} {r : Answer} {stack′ list′ : List ℕ} → 1 ≤ length stack → Outlines o g → Ran g table tokens stack list reply stack′ list′ → Answers o table reply r → JudgedRun g table tokens stack list r stack′ list′
+pub judged-ended : {g : Grammar} {table tokens stack list : List ℕ} {o : Outline} {reply : Reply} {r : Answer} {stack′ list′ : List ℕ} → 1 ≤ length stack → Outlines o g → RanThrough g table tokens stack list reply stack′ list′ → Answers o table reply r → JudgedRun g table tokens stack list r stack′ list′
 judged-ended {g} {table} {tokens} {stack} {list} h sized steps a = rw (ran-answered g table tokens stack list (steps .answer) sized a, steps .stack-cells, steps .list-cells) (ended h)
 
 -- a refusal before steps has a number
@@ -89,15 +89,10 @@ module _ {g : Grammar} {table tokens stack : List ℕ} where
   pub account-barred : {list : List ℕ} {a : Answer} → Checked g table tokens stack a → a .number ≢ 0 → AccountedOn g table tokens stack list (record { answer = a; matched = 0 }) stack list
   account-barred h n = AccountedOn.barred (checked-barred h n)
 
-matched-leaves : (o : Offered) → leaves o .matched ≡ matchedBy o
-unfolding leaves matchedBy
-matched-leaves (taken s) = refl
-matched-leaves (stopped r s) = refl
-
 -- what is left when steps have been made and counted
-pub account-stepped : {g : Grammar} {table tokens stack list : List ℕ} {o : Outline} {reply : Reply} {at : Progress} {r : Answer} {stack′ list′ : List ℕ} → Admits g table tokens stack → Outlines o g → Ran g table tokens stack list reply stack′ list′ → at ≡ progressIn reply → Answers o table reply r → AccountedOn g table tokens stack list (record { answer = r; matched = at .matched }) stack′ list′
+pub account-stepped : {g : Grammar} {table tokens stack list : List ℕ} {o : Outline} {reply : Reply} {at : Progress} {r : Answer} {stack′ list′ : List ℕ} → Admits g table tokens stack → Outlines o g → RanThrough g table tokens stack list reply stack′ list′ → at ≡ progressIn reply → Answers o table reply r → AccountedOn g table tokens stack list (record { answer = r; matched = at .matched }) stack′ list′
 account-stepped {g} {table} {tokens} {stack} {list} admits sized steps here a =
-    let matched = ap (λ (x : Progress). x .matched) here ∙ reply-matched g table tokens stack list (steps .answer) ∙ matched-leaves (ran g table tokens stack list) in
+    let matched = ap (λ (x : Progress). x .matched) here ∙ reply-matched g table tokens stack list (steps .answer) in
     rw (ran-answered g table tokens stack list (steps .answer) sized a, matched, steps .stack-cells, steps .list-cells) (AccountedOn.stepped admits)
 
 module _ {book table tokens stack list : List ℕ} {reading : Reading} (judged : Judged book reading) where
@@ -119,7 +114,7 @@ account-run (Accounted.served serves (AccountedOn.stepped h)) = RunOutcome.ended
 pub account-inside : {book table tokens stack list : List ℕ} {r : Account} {stack′ list′ : List ℕ} → Accounted book table tokens stack list r stack′ list′ → r .matched ≤ length tokens
 account-inside (Accounted.refused h) = omega arith
 account-inside (Accounted.served serves (AccountedOn.barred h)) = omega arith
-account-inside {table = table} {tokens = tokens} {stack = stack} {list = list} (Accounted.served {g = g} serves (AccountedOn.stepped h)) = omega (arith, ran-inside g table tokens stack list, matched-leaves (ran g table tokens stack list))
+account-inside {table = table} {tokens = tokens} {stack = stack} {list = list} (Accounted.served {g = g} serves (AccountedOn.stepped h)) = ran-inside g table tokens stack list
 
 -- the answer's words beside the part of the tokens that is left
 pub account-beside : {book table tokens stack list : List ℕ} {r : Account} {stack′ list′ : List ℕ} → Accounted book table tokens stack list r stack′ list′ → BesideOutcome book table tokens stack list (wordsOf (r .answer)) (drop (r .matched) tokens) stack′ list′

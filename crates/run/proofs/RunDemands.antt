@@ -15,9 +15,9 @@ use Rattle.book.specs.Refusals.{room, syntax}
 use Rattle.table.specs.Calls.{over}
 use Rattle.book.proofs.Promise.{serves-limits}
 use Rattle.run.specs.Demands.{Ran, Premises}
-use Rattle.run.specs.Machine.{Offered, taken}
+use Rattle.run.specs.Machine.{Offered, taken, final}
 use Rattle.run.specs.Room.{peak}
-use Rattle.run.specs.Running.{counted, ran, answered, expected, listedBy}
+use Rattle.run.specs.Running.{counted, ran, answered, expected}
 use Rattle.run.proofs.Outcome.{whole}
 use Rattle.run.proofs.Answered.{told-room, told-syntax, told-numbers, short-room}
 use Rattle.run.proofs.AnyTable.{ends-told, any-accepted}
@@ -71,7 +71,7 @@ module _ {book table tokens : List ℕ} (h : Premises book table tokens) (stack 
 
     -- with room for the derivation the run is done, lists it, and has made one step for each production and each token
     pub runs-back : {r : Ran} → length ps ≤ counted list → peak d ≤ counted stack → RunBegins grammar table tokens stack list r → (r .answer ≡ done (length ps + length tokens)) × (r .list ≡ over ps list)
-    unfolding ran answered listedBy whole
+    unfolding ran answered final whole
     runs-back l k (stackless e a b c) = absurd (omega (arith, peak-start d))
     runs-back l k (begins m e) =
         let taken-at : ran grammar table tokens stack list ≡ taken (whole d) = run-complete (premises-exact h) (counted stack) (counted list) d l k in

@@ -16,7 +16,7 @@ use Rattle.run.specs.Demands.{Ran, Premises}
 use Rattle.run.specs.Machine.{Reason, Offered}
 use Rattle.run.specs.Room.{rightOf}
 use Rattle.run.specs.Stopping.{RoomNeeded, StopsForRoom, no-stack, no-list-cell, no-stack-cells}
-use Rattle.run.specs.Running.{counted, cleared, ran, answered, expected, listedBy}
+use Rattle.run.specs.Running.{counted, cleared, ran, answered, expected}
 use Rattle.run.proofs.Walk.{final, Decided, accepted, refused}
 use Rattle.run.proofs.Count.{Counted}
 use Rattle.run.proofs.Outcome.{Outcome, enough, list-short, stack-short}
@@ -30,8 +30,8 @@ module _ {g : Grammar} {ps w : List ℕ} {d : Complete g ps w} {stack list : Lis
   stops-as e f k x = rw (e, f, k) x
 
   module _ (table : List ℕ) {r : Ran} where
-    outcome-stops : {o : Offered} → Outcome (counted stack) (counted list) d o → Counted (counted stack) (counted list) (final o) → r .answer ≡ answered (expected g table) o → r .stack ≡ cleared stack → r .list ≡ over (listedBy o) list → r .answer .number ≡ room → StopsForRoom g d stack list (r .answer) (r .stack) (r .list)
-    unfolding answered listedBy final done stop
+    outcome-stops : {o : Offered} → Outcome (counted stack) (counted list) d o → Counted (counted stack) (counted list) (final o) → r .answer ≡ answered (expected g table) o → r .stack ≡ cleared stack → r .list ≡ over (final o .listed) list → r .answer .number ≡ room → StopsForRoom g d stack list (r .answer) (r .stack) (r .list)
+    unfolding answered final done stop
     outcome-stops (enough l k) c a b e n = absurd (omega (arith, ap (λ (x : Answer). x .number) a))
     outcome-stops (list-short {s = s} at l k) c a b e n = stops-as (a ∙ ap (λ (m : ℕ). stop room (s .matched) listRoom m noSet) (c .steps)) b e (no-list-cell at l k)
     outcome-stops (stack-short {s = s} at l k m q) c a b e n = stops-as (a ∙ ap (λ (m : ℕ). stop room (s .matched) stackRoom m noSet) (c .steps)) b e (no-stack-cells at l k m)

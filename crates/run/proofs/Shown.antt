@@ -8,9 +8,9 @@ use lib.Seq.{drop-length}
 use Rattle.grammar.specs.Grammar.{Grammar}
 use Rattle.book.specs.declared.Answer.{Answer}
 use Rattle.book.specs.Answers.{done, stop}
-use Rattle.run.specs.Running.{counted, FitTable, ran, answered, expected, matchedBy, wordsOf, RunOutcome, BesideOutcome}
+use Rattle.run.specs.Running.{counted, FitTable, ran, answered, expected, wordsOf, RunOutcome, BesideOutcome}
 use Rattle.run.specs.Running as running
-use Rattle.run.specs.Machine.{Offered}
+use Rattle.run.specs.Machine.{Offered, final}
 use Rattle.run.proofs.AnyTable.{fit-rows}
 use Rattle.run.proofs.Answered.{Told, told, served, short-of-list, short-of-stack, blocked, told-done}
 use Rattle.run.proofs.RunTheorems.{run-sound}
@@ -24,19 +24,19 @@ module _ {book table tokens stack list : List ℕ} where
 
 module _ (g : Grammar) (table tokens stack list : List ℕ) where
   -- in steps, the rest begins at the place of a refusal
-  pub rest-refused : answered (expected g table) (ran g table tokens stack list) .number ≢ 0 → matchedBy (ran g table tokens stack list) ≡ answered (expected g table) (ran g table tokens stack list) .place
-  unfolding stop done matchedBy
+  pub rest-refused : answered (expected g table) (ran g table tokens stack list) .number ≢ 0 → final (ran g table tokens stack list) .matched ≡ answered (expected g table) (ran g table tokens stack list) .place
+  unfolding stop done final
   rest-refused n = go (told (expected g table) (ran g table tokens stack list)) n
     where
-      go : {o : Offered} {a : Answer} → Told (expected g table) o a → a .number ≢ 0 → matchedBy o ≡ a .place
+      go : {o : Offered} {a : Answer} → Told (expected g table) o a → a .number ≢ 0 → final o .matched ≡ a .place
       go (served s) n = absurd (n refl)
       go (short-of-list s) n = refl
       go (short-of-stack s) n = refl
       go (blocked s k) n = refl
 
   -- and is empty when all is done
-  pub rest-done : FitTable g table → answered (expected g table) (ran g table tokens stack list) .number ≡ 0 → drop (matchedBy (ran g table tokens stack list)) tokens ≡ []
-  unfolding ran matchedBy
+  pub rest-done : FitTable g table → answered (expected g table) (ran g table tokens stack list) .number ≡ 0 → drop (final (ran g table tokens stack list) .matched) tokens ≡ []
+  unfolding ran final
   rest-done fit n =
       let (s, taken-at) = told-done (told (expected g table) (ran g table tokens stack list)) n in
       let all : s .matched ≡ length tokens = run-sound (fit-rows fit) (counted stack) (counted list) tokens taken-at .matches in

@@ -4,7 +4,6 @@ use mathlib.Core.List.{List, [], _∷_, _++_, append-assoc}
 use Prim.Native.Nat.{ℕ, zero, suc, _+_, _-_, _≤_, _<_, max}
 use native.Mathlib.Decide.{decLt}
 use native.Mathlib.Nat.{add-zero, add-suc, suc-add}
-use native.Mathlib.Numerals.{add-one}
 use native.Mathlib.Omega.{arith}
 use lib.ListN.{length, getD, take, drop, set, replicate, take-append-drop, length-append, length-drop, length-replicate}
 use lib.Seq.{sets, set-comm, set-at, getD-at, drop-cons, take-suc, drop-at}
@@ -12,7 +11,7 @@ use borrow.Author.Tests.{lt-ltb, le-ltb}
 use Rattle.grammar.specs.Grammar.{Form, Every, nothing, each}
 use Rattle.grammar.specs.declared.Symbol.{Symbol}
 use Rattle.book.specs.Fields.{symbolOfByte, symbolAt}
-use Rattle.run.specs.Index.{symbolsFrom}
+use Rattle.table.specs.Forms.{formIn}
 use Rattle.run.specs.Offering.{Spelled}
 use Rattle.run.specs.Stack.{byteOf, bytesOf, spelledBy, stacked}
 
@@ -29,10 +28,10 @@ byte-of-symbol b = go (decLt b 128)
 pub byte-spelled : (b : ℕ) → Spelled (symbolOfByte b)
 byte-spelled b = record { same = ap symbolOfByte (byte-of-symbol b) }
 
-pub symbols-spelled : (book : List ℕ) (at n i : ℕ) → Every Spelled (symbolsFrom book at n i)
-unfolding symbolsFrom symbolAt
-symbols-spelled book at zero i = nothing
-symbols-spelled book at (suc n) i = each (byte-spelled _) (symbols-spelled book at n (suc i))
+pub symbols-spelled : (book : List ℕ) (from n : ℕ) → Every Spelled (formIn book from n)
+unfolding formIn
+symbols-spelled book from zero = nothing
+symbols-spelled book from (suc n) = each (byte-spelled _) (symbols-spelled book (suc from) n)
 
 pub cells-spelled : (cells : List ℕ) (height : ℕ) → Every Spelled (spelledBy cells height)
 unfolding spelledBy
@@ -54,10 +53,10 @@ unfolding bytesOf
 length-bytes [] = refl
 length-bytes (x ∷ α) = length-append (bytesOf α) (byteOf x ∷ []) ∙ (omega (arith, length-bytes α))
 
-pub length-symbols : (book : List ℕ) (at n i : ℕ) → length (symbolsFrom book at n i) ≡ n
-unfolding symbolsFrom
-length-symbols book at zero i = refl
-length-symbols book at (suc n) i = ap suc (length-symbols book at n (suc i))
+pub length-symbols : (book : List ℕ) (from n : ℕ) → length (formIn book from n) ≡ n
+unfolding formIn
+length-symbols book from zero = refl
+length-symbols book from (suc n) = ap suc (length-symbols book (suc from) n)
 
 pub length-spelled : (cells : List ℕ) (height : ℕ) → length (spelledBy cells height) ≡ height
 unfolding spelledBy
@@ -73,23 +72,24 @@ set-above : (us l : List ℕ) (i j v : ℕ) → i + length us ≤ j → sets (se
 set-above [] l i j v h = refl
 set-above (u ∷ us) l i j v h = ap (λ (m : List ℕ). sets m (suc i) us) (set-comm l j i v u (λ e. omega arith)) ∙ set-above us (set l i u) (suc i) j v (omega arith)
 
-pub push-start : (book : List ℕ) (at height count : ℕ) (stack : List ℕ) → sets stack height (bytesOf (symbolsFrom book at (height + count - height) 0)) ≡ sets stack height (bytesOf (symbolsFrom book at count 0))
-push-start book at height count stack = let same : height + count - height ≡ count = omega arith in rw same
+pub push-start : (book : List ℕ) (at height count : ℕ) (stack : List ℕ) → sets stack height (bytesOf (formIn book (at + 4 + 0) (height + count - height))) ≡ sets stack height (bytesOf (formIn book (at + 4) count))
+push-start book at height count stack = let same : height + count - height ≡ count = omega arith in rw (same, add-zero)
 
 -- a loop that writes the symbols from the top down puts them on the stack
 pub push-turn : (book : List ℕ) (at height top i : ℕ) (stack : List ℕ) {v : ℕ} → height < top → v ≡ byteOf (symbolAt book at i)
-    → sets (set stack (top - 1) v) height (bytesOf (symbolsFrom book at (top - 1 - height) (i + 1))) ≡ sets stack height (bytesOf (symbolsFrom book at (top - height) i))
-unfolding bytesOf symbolsFrom
+    → sets (set stack (top - 1) v) height (bytesOf (formIn book (at + 4 + (i + 1)) (top - 1 - height))) ≡ sets stack height (bytesOf (formIn book (at + 4 + i) (top - height)))
+unfolding bytesOf formIn symbolAt
 push-turn book at height top i stack {v} h e =
-    let rest : List ℕ = bytesOf (symbolsFrom book at (top - 1 - height) (suc i)) in
+    let rest : List ℕ = bytesOf (formIn book (suc (at + 4 + i)) (top - 1 - height)) in
     let more : top - height ≡ suc (top - 1 - height) = omega arith in
-    let reach : height + length rest ≡ top - 1 = omega (arith, length-bytes (symbolsFrom book at (top - 1 - height) (suc i)), length-symbols book at (top - 1 - height) (suc i)) in
-    rw (add-one i, more, e)
+    let reach : height + length rest ≡ top - 1 = omega (arith, length-bytes (formIn book (suc (at + 4 + i)) (top - 1 - height)), length-symbols book (suc (at + 4 + i)) (top - 1 - height)) in
+    let next : at + 4 + (i + 1) ≡ suc (at + 4 + i) = omega arith in
+    rw (next, more, e)
     (set-above rest stack height (top - 1) (byteOf (symbolAt book at i)) (omega arith)
     ∙ sym (sets-append rest (byteOf (symbolAt book at i) ∷ []) stack height ∙ ap (λ (k : ℕ). set (sets stack height rest) k (byteOf (symbolAt book at i))) reach))
 
-pub push-over : (book : List ℕ) (at height top i : ℕ) (stack : List ℕ) → top ≤ height → sets stack height (bytesOf (symbolsFrom book at (top - height) i)) ≡ stack
-unfolding symbolsFrom bytesOf
+pub push-over : (book : List ℕ) (at height top i : ℕ) (stack : List ℕ) → top ≤ height → sets stack height (bytesOf (formIn book (at + 4 + i) (top - height))) ≡ stack
+unfolding formIn bytesOf
 push-over book at height top i stack h = let none : top - height ≡ 0 = omega arith in rw none
 
 zeros : (m n : ℕ) → n < m → replicate {A = ℕ} (m - n) 0 ≡ 0 ∷ replicate (m - suc n) 0

@@ -14,12 +14,13 @@ use Rattle.grammar.specs.declared.Symbol.the-variants.{Nonterminal}
 use Rattle.book.specs.Fields.{symbolOfByte}
 use Rattle.table.specs.Calls.{over}
 use Rattle.table.specs.Table.{cellOf}
-use Rattle.run.specs.Judged.{Stepped}
+use Rattle.run.specs.Accounting.{Stepped}
 use Rattle.run.specs.Machine.{State, Reason, Offered, taken, stopped, begun, offer, runFrom}
 use Rattle.run.specs.Moves.{columnIn, outlined}
-use Rattle.run.specs.Offering.{Spelled, Holds, Ready, Offering, progressOf, reported, leaves}
+use Rattle.run.specs.Offering.{Spelled, Holds, Ready, Offering}
+use Rattle.run.specs.Resuming.{progressOf, reported}
 use Rattle.run.specs.Room.{rightOf}
-use Rattle.run.specs.Running.{counted, listedBy, ran, cleared}
+use Rattle.run.specs.Running.{counted, ran, cleared}
 use Rattle.run.specs.Stack.{byteOf, bytesOf, stacked}
 use Rattle.run.specs.declared.Ahead.the-variants.{Next, End}
 use Rattle.run.specs.declared.Cause.{Cause}
@@ -31,16 +32,6 @@ use Rattle.run.proofs.Count.{Grown, gained, offer-grown}
 use Rattle.run.proofs.Offer.{run-taken, run-stopped}
 use Rattle.run.proofs.Stacked.{length-stacked, stacked-again}
 use Rattle.run.proofs.Walk.{final}
-
-pub final-leaves : (o : Offered) → final o ≡ leaves o
-unfolding final leaves
-final-leaves (taken s) = refl
-final-leaves (stopped r s) = refl
-
-listed-leaves : (o : Offered) → leaves o .listed ≡ listedBy o
-unfolding leaves listedBy
-listed-leaves (taken s) = refl
-listed-leaves (stopped r s) = refl
 
 pub length-over : (ps list : List ℕ) → length ps ≤ length list → length (over ps list) ≡ length list
 length-over ps list h = simp (length-append, length-drop) (omega arith)
@@ -180,20 +171,20 @@ module _ (book places : List ℕ) (o : Outline) (table tokens stack₀ list₀ :
           let same : offer right cell (counted stack) (counted list) (counted list - at .listed) c (w .state) ≡ next = rw (room, cells, ahead, w .holds .listed) in
           subst (λ (x : Offered). Offering x stack list r stack′ list′) same (offers (w .state) (w .holds))
 
-      grown : Grown (w .state) (leaves next) (gained (front rest) next)
-      grown = subst (λ (e : State). Grown (w .state) e (gained (front rest) next)) (final-leaves next) (offer-grown right cell (counted stack₀) (counted list₀) left (front rest) (w .state) (omega (arith, w .holds .list-room, w .list-length)))
+      grown : Grown (w .state) (final next) (gained (front rest) next)
+      grown = offer-grown right cell (counted stack₀) (counted list₀) left (front rest) (w .state) (omega (arith, w .holds .list-room, w .list-length))
 
-      lists-on : list′ ≡ over (leaves next .listed) list₀
+      lists-on : list′ ≡ over (final next .listed) list₀
       lists-on =
-          let longer : length (w .state .listed) ≤ length (leaves next .listed) = omega (arith, ap length (grown .lists), length-append (w .state .listed) (grown .new)) in
-          offering .holds .list-cells ∙ ap (over (leaves next .listed)) (w .lists) ∙ over-over (w .state .listed) (leaves next .listed) list₀ longer
+          let longer : length (w .state .listed) ≤ length (final next .listed) = omega (arith, ap length (grown .lists), length-append (w .state .listed) (grown .new)) in
+          offering .holds .list-cells ∙ ap (over (final next .listed)) (w .lists) ∙ over-over (w .state .listed) (final next .listed) list₀ longer
 
       -- the outcome of the last offer is the run's
       ends : next ≡ whole → Ends r stack′ list′
       ends same =
           record {
             answer = offering .answer ∙ ap reported same;
-            lists = lists-on ∙ ap (λ (x : Offered). over (leaves x .listed) list₀) same ∙ ap (λ (ps : List ℕ). over ps list₀) (listed-leaves whole);
+            lists = lists-on ∙ ap (λ (x : Offered). over (final x .listed) list₀) same;
             stack-length = holds-stack-length (offering .holds) ∙ w .stack-length;
             list-length = holds-list-length (offering .holds) ∙ w .list-length;
           }
@@ -210,7 +201,7 @@ module _ (book places : List ℕ) (o : Outline) (table tokens stack₀ list₀ :
       running-over e h = subst (λ (y : Reply). Ends y stack′ list′) e (ends (end-ends right cell (counted stack₀) (counted list₀) (w .state) rest (drop-of-length-le tokens h) ∙ w .same))
 
       pub running-next : {x : Progress} → r ≡ Taken x → at .matched < length tokens → Running x stack′ list′ × (x .matched ≡ at .matched + 1)
-      unfolding reported progressOf leaves
+      unfolding reported progressOf final
       running-next {x} e h = go next refl
         where
           go : (y : Offered) → next ≡ y → Running x stack′ list′ × (x .matched ≡ at .matched + 1)
@@ -218,7 +209,7 @@ module _ (book places : List ℕ) (o : Outline) (table tokens stack₀ list₀ :
           go (taken s) f =
               let here : x ≡ progressOf s = let answer : r ≡ reported (taken s) = offering .answer ∙ ap reported f in cc in
               let (on, one) = taken-on right cell (counted stack₀) (counted list₀) (w .state) rest (drop (suc (at .matched)) tokens) (drop-cons tokens (at .matched) 0 h) f in
-              let left-in : leaves next ≡ s = ap leaves f in
+              let left-in : final next ≡ s = ap final f in
               let matched : x .matched ≡ at .matched + 1 = omega (arith, ap (λ (z : Progress). z .matched) here, ap (λ (z : State). z .matched) left-in, grown .matches, one, w .holds .matched) in (
                 record {
                   state = s;
@@ -242,7 +233,7 @@ stepped-from {g} {table} {tokens} stack {list} b h =
     let same : ran g table tokens (set stack 0 b) list ≡ ran g table tokens stack list = ran-room g table tokens list (set stack 0 b) stack (length-set stack 0 b) in
     record {
       answer = h .answer ∙ ap reported same;
-      lists = h .lists ∙ ap (λ (x : Offered). over (listedBy x) list) same;
+      lists = h .lists ∙ ap (λ (x : Offered). over (final x .listed) list) same;
       stack-length = h .stack-length ∙ length-set stack 0 b;
       list-length = h .list-length;
     }

@@ -9,7 +9,7 @@ use lib.Seq.{sets, length-sets}
 use Rattle.grammar.specs.Grammar.{Form, Column}
 use Rattle.grammar.specs.declared.Symbol.{Symbol}
 use Rattle.table.specs.Table.{cellOf}
-use Rattle.run.specs.Index.{symbolsFrom}
+use Rattle.table.specs.Forms.{formIn}
 use Rattle.run.specs.Machine.{State}
 use Rattle.run.specs.Moves.{outlined, RightSide, Chosen}
 use Rattle.run.specs.Offering.{Holds, Ready, Offering, finished, finishedStack}
@@ -85,7 +85,7 @@ module _ (book places : List ℕ) (o : Outline) (table : List ℕ) (c : Column) 
             record { some-symbol = some-symbol; list-left = l; stack-left = omega arith }
 
     pub turning-use : {m : Move} {p count place : ℕ} {after : List ℕ} → RightSide book places o p count → Chosen right cell (counted stack) cells c (spelledBy stack height) listed m → m ≡ Use p
-        → place ≡ getD places p 0 → after ≡ sets (set stack (height - 1) 0) (height - 1) (bytesOf (symbolsFrom book place count 0)) → Turning after (set list listed p) (height - 1 + count) (listed + 1)
+        → place ≡ getD places p 0 → after ≡ sets (set stack (height - 1) 0) (height - 1) (bytesOf (formIn book (place + 4) count)) → Turning after (set list listed p) (height - 1 + count) (listed + 1)
     turning-use {p = p} {count = count} side k same at e =
         let fits = use-fits side k same in
         record {
@@ -93,7 +93,7 @@ module _ (book places : List ℕ) (o : Outline) (table : List ℕ) (c : Column) 
           listed-fits = omega (arith, fits .list-left);
           stack-length = ap length e ∙ simp (length-sets, length-set) (t .stack-length);
           list-length = simp length-set (t .list-length);
-          walks = λ s h. rw (e, at) (walking-use right cell c s at₀ stack₀ list₀ (t .walks s h) book (getD places p 0) count (side .symbols) (by-room k same));
+          walks = λ s h. rw (e, at) (walking-use right cell c s at₀ stack₀ list₀ (t .walks s h) book (getD places p 0 + 4) count (side .symbols) (by-room k same));
         }
 
     pub turning-finish : {m : Move} {e : Ending} {r : Reply} {after : List ℕ} → Chosen right cell (counted stack) cells c (spelledBy stack height) listed m → m ≡ Finish e

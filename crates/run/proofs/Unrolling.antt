@@ -9,9 +9,9 @@ use lib.Seq.{sets, drop-nil}
 use Rattle.grammar.specs.Grammar.{Form, Grammar, Every, nothing, each}
 use Rattle.grammar.specs.declared.Symbol.the-variants.{Token, Nonterminal}
 use Rattle.table.specs.Calls.{over}
+use Rattle.table.specs.Forms.{formIn}
 use Rattle.run.specs.Expanding.{opened, expansion}
-use Rattle.run.specs.Expansion.{Progress, Ending, complete, unfit, full-stack, full-output, Expanded, ended, wrote, applied, expandFrom}
-use Rattle.run.specs.Index.{symbolsFrom}
+use Rattle.run.specs.Expansion.{Course, Upshot, complete, unfit, full-stack, full-output, Expansion, ended, wrote, applied, expandFrom}
 use Rattle.run.specs.Moves.{outlined, RightSide}
 use Rattle.run.specs.Offering.{Spelled}
 use Rattle.run.specs.Room.{rightOf, isOf}
@@ -41,15 +41,15 @@ module _ (book places : List ℕ) (o : Outline) (list stack₀ output₀ : List 
   abbrev right : ℕ → Form
   right = rightOf (outlined book places o)
 
-  abbrev runs : List ℕ → Form → Progress → Expanded
+  abbrev runs : List ℕ → Form → Course → Expansion
   runs = expandFrom fits right (counted stack₀) (counted output₀)
 
-  abbrev whole : Expanded
+  abbrev whole : Expansion
   whole = expansion (outlined book places o) (counted stack₀) (counted output₀) list
 
   pub record Unrolled (stack output : List ℕ) (height used written : ℕ) : Type 0 where
     pub form : Form
-    pub progress : Progress
+    pub progress : Course
     pub same : runs (drop used list) form progress ≡ whole
     pub height-is : height ≡ length form
     pub used-is : used ≡ progress .used
@@ -145,11 +145,11 @@ module _ (book places : List ℕ) (o : Outline) (list stack₀ output₀ : List 
         where
           go : Turns fits right (counted stack₀) (counted output₀) (drop used list) (u .form) (length (u .progress .written)) (Apply p) → ApplyFits count
           go (Turns.applies {β = β} e f g h) =
-              let many : length (right p) ≡ count = ap length (side .symbols) ∙ length-symbols book (getD places p 0) count 0 in
+              let many : length (right p) ≡ count = ap length (side .symbols) ∙ length-symbols book (getD places p 0 + 4) count in
               record { some-symbol = omega (arith, u .height-is, ap length e); list-left = drop-next list used f .1; stack-left = omega (arith, u .height-is, ap length e, length-append (right p) β) }
 
       pub unrolled-apply : {m : Turn} {p count place : ℕ} {after : List ℕ} → RightSide book places o p count → Turns fits right (counted stack) cells (drop used list) (spelledBy stack height) written m → m ≡ Apply p
-          → place ≡ getD places p 0 → after ≡ sets (set stack (height - 1) 0) (height - 1) (bytesOf (symbolsFrom book place count 0)) → Unrolled after output (height - 1 + count) (used + 1) written
+          → place ≡ getD places p 0 → after ≡ sets (set stack (height - 1) 0) (height - 1) (bytesOf (formIn book (place + 4) count)) → Unrolled after output (height - 1 + count) (used + 1) written
       unfolding applied
       unrolled-apply {p = p} {count = count} {after = after} side k same at cells-are = go (by-form k same)
         where
@@ -157,7 +157,7 @@ module _ (book places : List ℕ) (o : Outline) (list stack₀ output₀ : List 
           go (Turns.applies {A = A} {β = β} {qs = qs} e f g h) =
               let n : height ≡ suc (length β) = u .height-is ∙ ap length e in
               let below : height - 1 ≡ length β = omega arith in
-              let many : length (right p) ≡ count = ap length (side .symbols) ∙ length-symbols book (getD places p 0) count 0 in
+              let many : length (right p) ≡ count = ap length (side .symbols) ∙ length-symbols book (getD places p 0 + 4) count in
               let long = length-append (right p) β in
               let (rest, inside) = drop-next list used f in
               record {
@@ -171,19 +171,19 @@ module _ (book places : List ℕ) (o : Outline) (list stack₀ output₀ : List 
                 highest = omega arith;
                 stack-room = omega (arith, u .stack-room);
                 output-room = u .output-room;
-                spelled = every-append (subst (λ (γ : Form). Every Spelled γ) (sym (side .symbols)) (symbols-spelled book (getD places p 0) count 0)) (every-rest (subst (λ (γ : Form). Every Spelled γ) e (u .spelled)));
+                spelled = every-append (subst (λ (γ : Form). Every Spelled γ) (sym (side .symbols)) (symbols-spelled book (getD places p 0 + 4) count)) (every-rest (subst (λ (γ : Form). Every Spelled γ) e (u .spelled)));
                 stack-cells = cells-are ∙ rw (at, below, u .stack-cells, e, ← side .symbols) (stacked-replace (Nonterminal A) (right p) β (u .progress .height) stack₀ (omega (arith, u .highest, u .height-is)) (omega arith));
                 output-cells = u .output-cells;
               }
 
       -- where no move is made
-      closes : (e : Ending) {f : Finale} → f ≡ finaleOf e → runs (drop used list) (u .form) (u .progress) ≡ ended e (u .progress) → Unfolds (outlined book places o) list stack₀ output₀ (record { finale = f; used = used; written = written }) stack output
+      closes : (e : Upshot) {f : Finale} → f ≡ finaleOf e → runs (drop used list) (u .form) (u .progress) ≡ ended e (u .progress) → Unfolds (outlined book places o) list stack₀ output₀ (record { finale = f; used = used; written = written }) stack output
       unfolding unfolded ended
       closes e f k =
           let last : whole ≡ ended e (u .progress) = sym (u .same) ∙ k in
           record {
             answer = (λ i. record { finale = f i; used = u .used-is i; written = u .written-is i }) ∙ ap unfolded (sym last);
-            written = u .output-cells ∙ ap (λ (x : Expanded). over (x .progress .written) output₀) (sym last);
+            written = u .output-cells ∙ ap (λ (x : Expansion). over (x .progress .written) output₀) (sym last);
             stack-length = unrolled-stack;
             output-length = unrolled-output;
           }
@@ -192,7 +192,7 @@ module _ (book places : List ℕ) (o : Outline) (list stack₀ output₀ : List 
       unfolding finaleOf
       unrolled-close k same = go (by-form k same)
         where
-          from : (ps : List ℕ) (α : Form) → drop used list ≡ ps → u .form ≡ α → {x : Expanded} → runs ps α (u .progress) ≡ x → runs (drop used list) (u .form) (u .progress) ≡ x
+          from : (ps : List ℕ) (α : Form) → drop used list ≡ ps → u .form ≡ α → {x : Expansion} → runs ps α (u .progress) ≡ x → runs (drop used list) (u .form) (u .progress) ≡ x
           from ps α f g h = rw (f, g) h
 
           go : {f : Finale} → Turns fits right (counted stack₀) (counted output₀) (drop used list) (u .form) (length (u .progress .written)) (Close f) → Unfolds (outlined book places o) list stack₀ output₀ (record { finale = f; used = used; written = written }) stack output
@@ -209,7 +209,7 @@ unfolds-from {g} {list} stack {output} b h =
     let same : expansion g (counted (set stack 0 b)) (counted output) list ≡ expansion g (counted stack) (counted output) list = ap (λ (n : ℕ). expansion g (min n 65535) (counted output) list) (length-set stack 0 b) in
     record {
       answer = h .answer ∙ ap unfolded same;
-      written = h .written ∙ ap (λ (x : Expanded). over (x .progress .written) output) same;
+      written = h .written ∙ ap (λ (x : Expansion). over (x .progress .written) output) same;
       stack-length = h .stack-length ∙ length-set stack 0 b;
       output-length = h .output-length;
     }

@@ -13,7 +13,7 @@ use Rattle.grammar.proofs.Machine.{run-leftmost}
 use Rattle.grammar.proofs.Theorems.{stopped-not-derivable, viable-prefix}
 use Rattle.run.specs.Machine.{State, Reason, Offered, taken, stopped, begun, runFrom}
 use Rattle.run.specs.Room.{rightOf}
-use Rattle.run.proofs.Walk.{Syntax, Halt, accepts, left-over, unmatched, vacant, list-full, stack-full, Walk, Ran}
+use Rattle.run.proofs.Walk.{Syntax, Halt, accepts, left-over, unmatched, vacant, list-full, stack-full, Walk, Walked}
 use Rattle.run.proofs.Agreement.{ran}
 use Rattle.run.proofs.Relation.{Rows, exact-rows, Reads, walk-reads}
 
@@ -33,9 +33,9 @@ module _ {right : ℕ → Form} {cell : ℕ → Column → Option ℕ} {room cel
   halt-taken (accepts h f) = (f, h, refl)
 
   -- an outcome of a run from the start, with its walk
-  pub begun-ran : (start : ℕ) (w : List ℕ) {o : Offered} → runFrom right cell room cells w (begun start) ≡ o → Ran right cell room cells w (begun start) o
+  pub begun-ran : (start : ℕ) (w : List ℕ) {o : Offered} → runFrom right cell room cells w (begun start) ≡ o → Walked right cell room cells w (begun start) o
   unfolding begun
-  begun-ran start w f = subst (λ (o : Offered). Ran right cell room cells w (begun start) o) f (ran right cell room cells w (begun start) (omega arith))
+  begun-ran start w f = subst (λ (o : Offered). Walked right cell room cells w (begun start) o) f (ran right cell room cells w (begun start) (omega arith))
 
 module _ {g : Grammar} {cell : ℕ → Column → Option ℕ} where
   reads-derived : {w z : List ℕ} {s : State} → Reads g cell w (begun (g .start)) z s → z ≡ [] → s .stack ≡ [] → Derived g w s
@@ -70,10 +70,10 @@ module _ {g : Grammar} {cell : ℕ → Column → Option ℕ} where
     reads-as rows {w} {z} {s = s} r e = subst (λ (x : State). Reads g cell w s z x) e (walk-reads rows r)
 
     -- what is taken is derived by its list
-    pub ran-derived : Rows g cell → {w : List ℕ} {s : State} → Ran (rightOf g) cell room cells w (begun (g .start)) (taken s) → Derived g w s
+    pub ran-derived : Rows g cell → {w : List ℕ} {s : State} → Walked (rightOf g) cell room cells w (begun (g .start)) (taken s) → Derived g w s
     ran-derived rows r = let (f, h, e) = halt-taken (r .halt) in reads-derived (reads-as rows (r .walk) e) (front-end (r .rest) f) h
 
-    module _ (exact : Exact g cell) {w : List ℕ} {r : Reason} {s : State} (stop : Ran (rightOf g) cell room cells w (begun (g .start)) (stopped r s)) (syntax : Syntax r) where
+    module _ (exact : Exact g cell) {w : List ℕ} {r : Reason} {s : State} (stop : Walked (rightOf g) cell room cells w (begun (g .start)) (stopped r s)) (syntax : Syntax r) where
       -- what stops by syntax is not derivable
       pub syntax-not-derivable : ¬ Derivable g w
       syntax-not-derivable =

@@ -11,7 +11,7 @@ use Rattle.grammar.specs.Machine.{front}
 use Rattle.run.specs.Machine.{State, full-list, full-stack, wants-end, wants-token, wants-row, Offered, taken, stopped, popped, replaced}
 -- why it ends, and in which state
 pub use Rattle.run.specs.Stopping.{Syntax, wanted-end, wanted-token, wanted-row, Short, short-list, short-stack, Decided, accepted, refused}
-unfoldable pub use Rattle.run.specs.Stopping.{final}
+unfoldable pub use Rattle.run.specs.Machine.{final}
 
 module _ (right : ℕ → Form) (cell : ℕ → Column → Option ℕ) (room cells : ℕ) where
   -- Walk z e w s: from the state s with w unread the machine comes to the state e with z unread
@@ -30,13 +30,13 @@ module _ (right : ℕ → Form) (cell : ℕ → Column → Option ℕ) (room cel
     stack-full : {p A : ℕ} {α : Form} → s .stack ≡ Nonterminal A ∷ α → cell A c ≡ some p → length (s .listed) < cells → room < length (right p ++ α) → Halt c s (stopped full-stack s)
 
   -- from the state s, with w unread, it walks to where it halts with the outcome o
-  pub record Ran (w : List ℕ) (s : State) (o : Offered) : Type 0 where
+  pub record Walked (w : List ℕ) (s : State) (o : Offered) : Type 0 where
     pub rest : List ℕ
     pub last : State
     pub walk : Walk rest last w s
     pub halt : Halt (front rest) last o
 
   -- offered the first column of w, it comes to where that is matched, or it halts
-  pub data Answers (w : List ℕ) (s : State) : Offered → Type 0 where
-    goes-on : {t : ℕ} {y : List ℕ} {e : State} → w ≡ t ∷ y → Walk y e w s → Answers w s (taken e)
-    ends : {e : State} {o : Offered} → Walk w e w s → Halt (front w) e o → Answers w s o
+  pub data ComesTo (w : List ℕ) (s : State) : Offered → Type 0 where
+    goes-on : {t : ℕ} {y : List ℕ} {e : State} → w ≡ t ∷ y → Walk y e w s → ComesTo w s (taken e)
+    ends : {e : State} {o : Offered} → Walk w e w s → Halt (front w) e o → ComesTo w s o

@@ -1,5 +1,5 @@
 -- The paper's number, detail and expected set for each cause of a stop, as the code has them.
--- Document 01, "Refusals and their numbers" and "Running and expanding".
+-- Document 01, "Refusals and their numbers" and "Running and expanding". Only contracts inside the crate cite what stands here.
 use mathlib.Core.Path.{_≡_}
 use mathlib.Core.List.{List}
 use Prim.Native.Nat.{ℕ, _+_}
@@ -9,9 +9,9 @@ use Rattle.sets.specs.Calls.{number}
 use Rattle.sets.specs.declared.Set.{Set}
 use Rattle.book.specs.Refusals.{room, syntax, stackRoom, listRoom}
 use Rattle.book.specs.declared.Answer.{Answer}
-use Rattle.run.specs.Machine.{Reason, Offered}
+use Rattle.run.specs.Machine.{Reason, Offered, final}
 use Rattle.run.specs.Moves.{Outlines}
-use Rattle.run.specs.Offering.{causeOf, reported, leaves}
+use Rattle.run.specs.Resuming.{causeOf, reported}
 use Rattle.run.specs.Running.{filledBelow, expected, answered}
 use Rattle.run.specs.declared.Cause.the-variants.{FullList, FullStack, WantsEnd, WantsToken, WantsRow}
 use Rattle.run.specs.declared.Cause.{Cause}
@@ -52,4 +52,4 @@ progressIn (Stopped cause at) = at
 
 -- r is the answer to the outcome that the code has as this reply
 pub record Answers (o : Outline) (table : List ℕ) (reply : Reply) (r : Answer) : Type 0 where
-  pub answer : (g : Grammar) → Outlines o g → (outcome : Offered) → reply ≡ reported outcome → leaves outcome .moves ≡ length (leaves outcome .listed) + leaves outcome .matched → r ≡ answered (expected g table) outcome
+  pub answer : (g : Grammar) → Outlines o g → (outcome : Offered) → reply ≡ reported outcome → final outcome .moves ≡ length (final outcome .listed) + final outcome .matched → r ≡ answered (expected g table) outcome

@@ -1,5 +1,5 @@
 -- What is checked before steps: the table, the number of tokens, the tokens, a stack cell.
--- Document 01, "Refusals and their numbers".
+-- Document 01, "Refusals and their numbers". Only contracts inside the crate cite what stands here.
 use mathlib.Core.List.{List}
 use Prim.Native.Nat.{ℕ, _≤_, _<_}
 use lib.ListN.{length, getD}

@@ -14,7 +14,8 @@ use Rattle.table.specs.Calls.{over}
 use Rattle.table.specs.Numbers.{FirstSets, FollowSets}
 use Rattle.table.specs.Table.{size, TableOf, BuiltWithoutConflict}
 use Rattle.run.specs.Room.{peak}
-use Rattle.run.specs.Running.{counted, Admits, ran, listedBy, matchedBy}
+use Rattle.run.specs.Machine.{final}
+use Rattle.run.specs.Running.{counted, Admits, ran}
 
 -- what building leaves: the answer, both set buffers, the table
 pub record Built : Type 0 where
@@ -88,7 +89,7 @@ pub record RunMeets3 (book table tokens stack list : List ℕ) (r : Ran) : Type 
 -- steps = productions listed + tokens matched, as the definition's machine counts them (that the list holds these is in the outcome); 0 in an
 -- answer before steps
 pub record StepsAdd (book table tokens stack list : List ℕ) (r : Ran) : Type 0 where
-  pub sum : {g : Grammar} → Serves book g → Admits g table tokens stack → r .answer .steps ≡ length (listedBy (ran g table tokens stack list)) + matchedBy (ran g table tokens stack list)
+  pub sum : {g : Grammar} → Serves book g → Admits g table tokens stack → r .answer .steps ≡ length (final (ran g table tokens stack list) .listed) + final (ran g table tokens stack list) .matched
   pub none : ((g : Grammar) → Serves book g → ¬ Admits g table tokens stack) → r .answer .steps ≡ 0
 
 -- the demands of an outcome function: every call meets them

@@ -11,20 +11,20 @@ use Rattle.book.specs.Answers.{done, refusal, stop, noSet}
 use Rattle.book.specs.Judging.{Refuses, Serves}
 use Rattle.book.specs.Refusals.{limit, room, production, stackRoom, outputRoom}
 use Rattle.table.specs.Calls.{over}
-use Rattle.run.specs.Expansion.{Progress, Ending, complete, unfit, full-stack, full-output, Expanded, expandFrom}
+use Rattle.run.specs.Expansion.{Course, Upshot, complete, unfit, full-stack, full-output, Expansion, expandFrom}
 use Rattle.run.specs.Room.{rightOf, isOf}
 use Rattle.run.specs.Running.{counted, cleared}
 
 -- nothing is written or used, and the start symbol alone is on the stack
-unfoldable pub opened : Progress
+unfoldable pub opened : Course
 opened = record { written = []; used = 0; moves = 0; height = 1 }
 
 -- the expansion of ps by the productions of g, with so many cells of stack and output
-abbrev pub expansion : Grammar → ℕ → ℕ → List ℕ → Expanded
+abbrev pub expansion : Grammar → ℕ → ℕ → List ℕ → Expansion
 expansion g cells output ps = expandFrom (isOf g) (rightOf g) cells output ps (Nonterminal (g .start) ∷ []) opened
 
 -- the paper's number and values for each way to end
-unfoldable pub answeredBy : Expanded → Answer
+unfoldable pub answeredBy : Expansion → Answer
 answeredBy e = elim (e .ending) [
   | complete ↦ done (e .progress .moves)
   | unfit ↦ stop production (e .progress .used) 0 (e .progress .moves) noSet
@@ -41,13 +41,13 @@ pub data ExpandOutcome (book list stack output : List ℕ) : Answer → List ℕ
 
 -- of n productions: one move for each one used and each token written, and no more used, written or stacked than there is;
 -- the start symbol's cell counts in any case
-pub record Counted (cells output n : ℕ) (s : Progress) : Type 0 where
+pub record Spent (cells output n : ℕ) (s : Course) : Type 0 where
   pub moves : s .moves ≡ s .used + length (s .written)
   pub used : s .used ≤ n
   pub written : length (s .written) ≤ output
   pub height : s .height ≤ max 1 cells
 
 -- the expansion ends for no want of room
-pub data WithRoom : Ending → Type 0 where
+pub data WithRoom : Upshot → Type 0 where
   completes : WithRoom complete
   misfits : WithRoom unfit

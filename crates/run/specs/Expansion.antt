@@ -9,48 +9,48 @@ use Rattle.grammar.specs.declared.Symbol.the-variants.{Token, Nonterminal}
 use Rattle.grammar.specs.Grammar.{Form}
 
 -- the tokens written and the productions used so far; the moves made; the greatest height of the stack so far
-pub record Progress : Type 0 where
+pub record Course : Type 0 where
   pub written : List ℕ
   pub used : ℕ
   pub moves : ℕ
   pub height : ℕ
 
 -- why the expansion ends: it is complete, the list does not fit, or stack or output is too short
-pub data Ending : Type 0 where
-  complete : Ending
-  unfit : Ending
-  full-stack : Ending
-  full-output : Ending
+pub data Upshot : Type 0 where
+  complete : Upshot
+  unfit : Upshot
+  full-stack : Upshot
+  full-output : Upshot
 
-pub record Expanded : Type 0 where
-  pub ending : Ending
-  pub progress : Progress
+pub record Expansion : Type 0 where
+  pub ending : Upshot
+  pub progress : Course
 
-unfoldable pub ended : Ending → Progress → Expanded
+unfoldable pub ended : Upshot → Course → Expansion
 ended e s = record { ending = e; progress = s }
 
-unfoldable pub wrote : ℕ → Progress → Progress
+unfoldable pub wrote : ℕ → Course → Course
 wrote t s = record { written = s .written ++ (t ∷ []); used = s .used; moves = suc (s .moves); height = s .height }
 
-unfoldable pub applied : Form → Progress → Progress
+unfoldable pub applied : Form → Course → Course
 applied β s = record { written = s .written; used = suc (s .used); moves = suc (s .moves); height = max (s .height) (length β) }
 
 -- whether production p is one of A, its right side, and how many cells of stack and output count as room
 module _ (fits : ℕ → ℕ → Bool) (right : ℕ → Form) (room output : ℕ) where
   -- tokens on top are written, until the stack is empty or a nonterminal stands on top
-  unfoldable pub writing : (Progress → Expanded) → (ℕ → Form → Progress → Expanded) → Form → Progress → Expanded
+  unfoldable pub writing : (Course → Expansion) → (ℕ → Form → Course → Expansion) → Form → Course → Expansion
   writing empty apply [] s = empty s
   writing empty apply (Token t ∷ α) s = elim (ltb (length (s .written)) output) [ true ↦ writing empty apply α (wrote t s) | false ↦ ended full-output s ]
   writing empty apply (Nonterminal A ∷ α) s = apply A α s
 
   -- a number that is no production of A does not fit; then the stack must not be too long
-  unfoldable pub applying : (Form → Progress → Expanded) → ℕ → ℕ → Form → Progress → Expanded
+  unfoldable pub applying : (Form → Course → Expansion) → ℕ → ℕ → Form → Course → Expansion
   applying next p A α s =
       elim (fits A p) [
         | true ↦ elim (leb (length (right p ++ α)) room) [ true ↦ next (right p ++ α) (applied (right p ++ α) s) | false ↦ ended full-stack s ]
         | false ↦ ended unfit s
       ]
 
-  unfoldable pub expandFrom : List ℕ → Form → Progress → Expanded
+  unfoldable pub expandFrom : List ℕ → Form → Course → Expansion
   expandFrom [] α s = writing (ended complete) (λ A β s. ended unfit s) α s
   expandFrom (p ∷ ps) α s = writing (ended unfit) (λ A β s. applying (expandFrom ps) p A β s) α s

@@ -6,10 +6,14 @@ use mathlib.Core.List.{List, _∷_}
 use Prim.Native.Nat.{ℕ, zero, suc}
 use lib.ListN.{length, getD}
 use lib.Seq.{sets}
+use Rattle.grammar.specs.Grammar.{Grammar}
 use Rattle.book.specs.declared.Answer.{Answer}
 use Rattle.book.specs.Answers.{done, stop, noSet}
+use Rattle.book.specs.Judging.{Serves}
 use Rattle.book.specs.Refusals.{syntax}
 use Rattle.run.specs.Demands.{Builder, Runner, Expander, Premises}
+use Rattle.run.specs.Running.{ran}
+use Rattle.run.specs.Stopping.{Decided}
 
 -- it refuses everything, with whatever number
 pub record RefusesEverything (run : Runner) : Type 0 where
@@ -31,9 +35,9 @@ pub record LeavesList (run : Runner) : Type 0 where
 pub record LeavesTable (build : Builder) : Type 0 where
   pub untouched : (book first follow table : List ℕ) → build book first follow table .table ≡ table
 
--- it accepts or refuses for syntax by the first token, and only its place moves, with the length
+-- where the room is enough it accepts or refuses for syntax, by the first token, and only its place moves, with the length
 pub record JudgesAtFirst (run : Runner) : Type 0 where
-  pub judges : (book table tokens stack list : List ℕ) → Premises book table tokens → (run book table tokens stack list .answer .number ≡ 0) ⊎ (run book table tokens stack list .answer .number ≡ syntax)
+  pub judges : (book table tokens stack list : List ℕ) → {g : Grammar} → Serves book g → Premises book table tokens → Decided (ran g table tokens stack list) → (run book table tokens stack list .answer .number ≡ 0) ⊎ (run book table tokens stack list .answer .number ≡ syntax)
   pub alike : (book table stack list : List ℕ) (t : ℕ) (u v : List ℕ) → length u ≡ length v → run book table (t ∷ u) stack list .answer ≡ run book table (t ∷ v) stack list .answer
 
 -- its steps go by the number of tokens alone

@@ -1,20 +1,16 @@
 -- The grammar that a reading's index finds in a book: what running on a judged book goes by, for every reading and every book.
 -- Document 01, "The book".
 use mathlib.Core.List.{List, [], _∷_}
-use Prim.Native.Nat.{ℕ, zero, suc, _+_, _%_}
+use Prim.Native.Nat.{ℕ, zero, suc, _%_}
 use lib.ListN.{getD}
-use Rattle.grammar.specs.Grammar.{Form, Production, Grammar}
+use Rattle.grammar.specs.Grammar.{Production, Grammar}
 use Rattle.book.specs.declared.Reading.{Reading}
-use Rattle.book.specs.Fields.{symbolAt}
-
--- so many symbols of the record at a place, from symbol i on
-unfoldable pub symbolsFrom : List ℕ → ℕ → ℕ → ℕ → Form
-symbolsFrom book at zero i = []
-symbolsFrom book at (suc count) i = symbolAt book at i ∷ symbolsFrom book at count (suc i)
+use Rattle.book.specs.Fields.{leftAt}
+use Rattle.table.specs.Forms.{rightAt}
 
 -- the production whose record stands at a place
 unfoldable pub productionAt : List ℕ → ℕ → Production
-productionAt book at = record { left = getD book (at + 2) 0; right = symbolsFrom book at (getD book (at + 3) 0) 0 }
+productionAt book at = record { left = leftAt book at; right = rightAt book at }
 
 unfoldable pub productionsFrom : List ℕ → List ℕ → ℕ → ℕ → List Production
 productionsFrom book places zero p = []

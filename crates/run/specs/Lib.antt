@@ -1,3 +1,4 @@
+pub mod Accounting
 pub mod Answering
 pub mod Beside
 pub mod Checking

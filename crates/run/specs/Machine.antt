@@ -29,6 +29,11 @@ pub data Offered : Type 0 where
   taken : State → Offered
   stopped : Reason → State → Offered
 
+-- the state in which an outcome leaves the machine
+unfoldable pub final : Offered → State
+final (taken s) = s
+final (stopped r s) = s
+
 -- the start symbol stands on the stack, and with that steps have begun
 unfoldable pub begun : ℕ → State
 begun start = record { stack = Nonterminal start ∷ []; listed = []; matched = 0; moves = 0; height = 1 }

@@ -1,5 +1,5 @@
 -- What the machine does next, one case each: what the top of the stack says to a column, and what the room allows.
--- Document 01, "Running and expanding".
+-- Document 01, "Running and expanding". Only contracts inside the crate cite what stands here.
 use mathlib.Core.Path.{_≡_}
 use mathlib.Core.Logic.{_≢_}
 use mathlib.Core.List.{List, [], _∷_, _++_}
@@ -10,7 +10,8 @@ use Rattle.grammar.specs.Grammar.{Form, Grammar, Column, token, endmark}
 use Rattle.grammar.specs.declared.Symbol.the-variants.{Token, Nonterminal}
 use Rattle.grammar.specs.declared.Symbol.{Symbol}
 use Rattle.book.specs.declared.Reading.{Reading}
-use Rattle.run.specs.Index.{symbolsFrom, productionsFrom}
+use Rattle.table.specs.Forms.{formIn}
+use Rattle.run.specs.Index.{productionsFrom}
 use Rattle.run.specs.Room.{rightOf}
 use Rattle.run.specs.declared.Ahead.the-variants.{Next, End}
 use Rattle.run.specs.declared.Ahead.{Ahead}
@@ -41,7 +42,7 @@ pub record Outlines (o : Outline) (g : Grammar) : Type 0 where
 
 -- the right side of production p is the first so many symbols of its record, of which there are at most 255
 pub record RightSide (book places : List ℕ) (o : Outline) (p count : ℕ) : Type 0 where
-  pub symbols : rightOf (outlined book places o) p ≡ symbolsFrom book (getD places p 0) count 0
+  pub symbols : rightOf (outlined book places o) p ≡ formIn book (getD places p 0 + 4) count
   pub few : count < 256
 
 -- the byte at a distance in the record of each of the first productions, by number, and 0 from there on

@@ -1,5 +1,5 @@
 -- An offer as the code has it: a run in progress by its counts and its buffers, and what becomes of it.
--- Document 01, "Running and expanding".
+-- Document 01, "Running and expanding". Only contracts inside the crate cite what stands here.
 use mathlib.Core.Path.{_≡_}
 use mathlib.Core.List.{List}
 use Prim.Native.Nat.{ℕ, _+_, _-_, _^_, _≤_, _<_}
@@ -8,36 +8,15 @@ use Rattle.grammar.specs.Grammar.{Every}
 use Rattle.grammar.specs.declared.Symbol.{Symbol}
 use Rattle.book.specs.Fields.{symbolOfByte}
 use Rattle.table.specs.Calls.{over}
-use Rattle.run.specs.Machine.{State, Reason, full-list, full-stack, wants-end, wants-token, wants-row, Offered, taken, stopped}
+use Rattle.run.specs.Machine.{State, Offered, final}
+use Rattle.run.specs.Resuming.{progressOf, reported}
 use Rattle.run.specs.Running.{counted}
 use Rattle.run.specs.Stack.{byteOf, stacked}
-use Rattle.run.specs.declared.Cause.the-variants.{FullList, FullStack, WantsEnd, WantsToken, WantsRow}
-use Rattle.run.specs.declared.Cause.{Cause}
 use Rattle.run.specs.declared.Ending.the-variants.{Accept, Match, Stop}
 use Rattle.run.specs.declared.Ending.{Ending}
 use Rattle.run.specs.declared.Progress.{Progress}
 use Rattle.run.specs.declared.Reply.the-variants.{Taken, Stopped}
 use Rattle.run.specs.declared.Reply.{Reply}
-
-unfoldable pub causeOf : Reason → Cause
-causeOf full-list = FullList
-causeOf full-stack = FullStack
-causeOf wants-end = WantsEnd
-causeOf (wants-token t) = WantsToken t
-causeOf (wants-row A) = WantsRow A
-
-unfoldable pub progressOf : State → Progress
-progressOf s = record { height = length (s .stack); listed = length (s .listed); matched = s .matched }
-
--- what the code says of an outcome
-unfoldable pub reported : Offered → Reply
-reported (taken s) = Taken (progressOf s)
-reported (stopped r s) = Stopped (causeOf r) (progressOf s)
-
--- the state in which an outcome leaves the machine
-unfoldable pub leaves : Offered → State
-leaves (taken s) = s
-leaves (stopped r s) = s
 
 -- the symbol is spelled by its byte
 pub record Spelled (x : Symbol) : Type 0 where
@@ -65,7 +44,7 @@ pub record Ready (at : Progress) (stack list : List ℕ) : Type 0 where
 -- what an offer with the outcome o answers and leaves
 pub record Offering (o : Offered) (stack₀ list₀ : List ℕ) (r : Reply) (stack list : List ℕ) : Type 0 where
   pub answer : r ≡ reported o
-  pub holds : Holds (leaves o) (progressOf (leaves o)) stack₀ list₀ stack list
+  pub holds : Holds (final o) (progressOf (final o)) stack₀ list₀ stack list
 
 -- a token that is matched is popped, and its cell is 0
 unfoldable pub finished : Ending → Progress → Reply

@@ -10,15 +10,30 @@ use Rattle.book.specs.Answers.{done, stop, noSet}
 use Rattle.book.specs.Refusals.{room, syntax, stackRoom, listRoom}
 use Rattle.table.specs.Calls.{over}
 use Rattle.table.specs.Table.{columnOf, cellOf}
-use Rattle.run.specs.Machine.{State, wants-end, wants-token, wants-row, Offered, offer}
-use Rattle.run.specs.Offering.{reported, leaves}
+use Rattle.run.specs.Machine.{State, Reason, full-list, full-stack, wants-end, wants-token, wants-row, Offered, taken, stopped, final, offer}
 use Rattle.run.specs.Room.{rightOf}
-use Rattle.run.specs.Running.{counted, expected}
+use Rattle.run.specs.Running.{counted, expected, answered}
 use Rattle.run.specs.Stack.{spelledBy, stacked}
 use Rattle.run.specs.declared.Cause.the-variants.{FullList, FullStack, WantsEnd, WantsToken, WantsRow}
+use Rattle.run.specs.declared.Cause.{Cause}
 use Rattle.run.specs.declared.Progress.{Progress}
 use Rattle.run.specs.declared.Reply.the-variants.{Taken, Stopped}
 use Rattle.run.specs.declared.Reply.{Reply}
+
+unfoldable pub causeOf : Reason → Cause
+causeOf full-list = FullList
+causeOf full-stack = FullStack
+causeOf wants-end = WantsEnd
+causeOf (wants-token t) = WantsToken t
+causeOf (wants-row A) = WantsRow A
+
+unfoldable pub progressOf : State → Progress
+progressOf s = record { height = length (s .stack); listed = length (s .listed); matched = s .matched }
+
+-- what the code says of an outcome
+unfoldable pub reported : Offered → Reply
+reported (taken s) = Taken (progressOf s)
+reported (stopped r s) = Stopped (causeOf r) (progressOf s)
 
 -- the counts as far as they count, of buffers that are so long
 unfoldable pub clamped : Progress → (stack list : ℕ) → Progress
@@ -34,11 +49,8 @@ offeredTo g table column at stack list = offer (rightOf g) (cellOf g table) (cou
 -- what the offer answers and leaves: the stack from the bottom up, 0 in the cells that were in use, and what stood beyond
 pub record Offers (o : Offered) (stack list : List ℕ) (r : Reply) (stack′ list′ : List ℕ) : Type 0 where
   pub answer : r ≡ reported o
-  pub stack-cells : stack′ ≡ stacked (leaves o .stack) (leaves o .height) stack
-  pub list-cells : list′ ≡ over (leaves o .listed) list
-
-abbrev pub OfferOutcome : Grammar → List ℕ → ℕ → Progress → (stack list : List ℕ) → Reply → (stack′ list′ : List ℕ) → Type 0
-OfferOutcome g table column at stack list = Offers (offeredTo g table column (clamped at (length stack) (length list)) stack list) stack list
+  pub stack-cells : stack′ ≡ stacked (final o .stack) (final o .height) stack
+  pub list-cells : list′ ≡ over (final o .listed) list
 
 -- the paper's number and values for each reply of an offer, on a book's grammar and a table
 unfoldable pub answerOf : Grammar → List ℕ → Reply → Answer
@@ -48,3 +60,8 @@ answerOf g table (Stopped FullStack at) = stop room (at .matched) stackRoom (at 
 answerOf g table (Stopped WantsEnd at) = stop syntax (at .matched) 0 (at .listed + at .matched) (expected g table wants-end)
 answerOf g table (Stopped (WantsToken t) at) = stop syntax (at .matched) 0 (at .listed + at .matched) (expected g table (wants-token t))
 answerOf g table (Stopped (WantsRow A) at) = stop syntax (at .matched) 0 (at .listed + at .matched) (expected g table (wants-row A))
+
+-- an offer for all that it may be lent: the counts as far as they count, and the paper's values of the reply those of the machine's outcome
+pub record OfferOutcome (g : Grammar) (table : List ℕ) (column : ℕ) (at : Progress) (stack list : List ℕ) (r : Reply) (stack′ list′ : List ℕ) : Type 0 where
+  pub offers : Offers (offeredTo g table column (clamped at (length stack) (length list)) stack list) stack list r stack′ list′
+  pub told : answerOf g table r ≡ answered (expected g table) (offeredTo g table column (clamped at (length stack) (length list)) stack list)

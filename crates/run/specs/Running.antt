@@ -19,7 +19,7 @@ use Rattle.book.specs.Refusals.{room, limit, token, syntax, stackRoom, listRoom
 use Rattle.book.specs.Refusals as refusals
 use Rattle.table.specs.Calls.{over}
 use Rattle.table.specs.Table.{size, rowAt, held, cellOf}
-use Rattle.run.specs.Machine.{Reason, full-list, full-stack, wants-end, wants-token, wants-row, Offered, taken, stopped, begun, runFrom}
+use Rattle.run.specs.Machine.{Reason, full-list, full-stack, wants-end, wants-token, wants-row, Offered, taken, stopped, begun, runFrom, final}
 use Rattle.run.specs.Room.{rightOf}
 
 -- of a lent buffer at most 65,535 cells count
@@ -86,14 +86,6 @@ answered e (stopped wants-end s) = stop syntax (s .matched) 0 (s .moves) (e want
 answered e (stopped (wants-token t) s) = stop syntax (s .matched) 0 (s .moves) (e (wants-token t))
 answered e (stopped (wants-row A) s) = stop syntax (s .matched) 0 (s .moves) (e (wants-row A))
 
-unfoldable pub listedBy : Offered → List ℕ
-listedBy (taken s) = s .listed
-listedBy (stopped r s) = s .listed
-
-unfoldable pub matchedBy : Offered → ℕ
-matchedBy (taken s) = s .matched
-matchedBy (stopped r s) = s .matched
-
 -- the machine on a book's grammar, a table, and the room of the lent buffers
 unfoldable pub ran : Grammar → (table tokens stack list : List ℕ) → Offered
 ran g table tokens stack list = runFrom (rightOf g) (cellOf g table) (counted stack) (counted list) tokens (begun (g .start))
@@ -106,7 +98,7 @@ cleared stack = replicate (length stack) 0
 pub data RunOutcome (book table tokens stack list : List ℕ) : Answer → List ℕ → List ℕ → Type 0 where
   refused : {a : Answer} → Refuses book a → RunOutcome book table tokens stack list a stack list
   barred : {g : Grammar} {a : Answer} → Serves book g → Barred g table tokens stack a → RunOutcome book table tokens stack list a stack list
-  ended : {g : Grammar} → Serves book g → Admits g table tokens stack → RunOutcome book table tokens stack list (answered (expected g table) (ran g table tokens stack list)) (cleared stack) (over (listedBy (ran g table tokens stack list)) list)
+  ended : {g : Grammar} → Serves book g → Admits g table tokens stack → RunOutcome book table tokens stack list (answered (expected g table) (ran g table tokens stack list)) (cleared stack) (over (final (ran g table tokens stack list) .listed) list)
 
 -- number, place, detail, steps and expected set
 unfoldable pub wordsOf : Answer → List ℕ
@@ -116,4 +108,4 @@ wordsOf a = a .number ∷ a .place ∷ a .detail ∷ a .steps ∷ number (a .exp
 pub data BesideOutcome (book table tokens stack list : List ℕ) : List ℕ → List ℕ → List ℕ → List ℕ → Type 0 where
   refused : {a : Answer} → Refuses book a → BesideOutcome book table tokens stack list (wordsOf a) tokens stack list
   barred : {g : Grammar} {a : Answer} → Serves book g → Barred g table tokens stack a → BesideOutcome book table tokens stack list (wordsOf a) tokens stack list
-  ended : {g : Grammar} → Serves book g → Admits g table tokens stack → BesideOutcome book table tokens stack list (wordsOf (answered (expected g table) (ran g table tokens stack list))) (drop (matchedBy (ran g table tokens stack list)) tokens) (cleared stack) (over (listedBy (ran g table tokens stack list)) list)
+  ended : {g : Grammar} → Serves book g → Admits g table tokens stack → BesideOutcome book table tokens stack list (wordsOf (answered (expected g table) (ran g table tokens stack list))) (drop (final (ran g table tokens stack list) .matched) tokens) (cleared stack) (over (final (ran g table tokens stack list) .listed) list)

@@ -11,7 +11,7 @@ use Rattle.book.specs.declared.Answer.{Answer}
 use Rattle.book.specs.Answers.{refusal, stop, noSet}
 use Rattle.book.specs.Refusals.{room, stackRoom, listRoom}
 use Rattle.table.specs.Calls.{over}
-use Rattle.run.specs.Machine.{State, Reason, full-list, full-stack, wants-end, wants-token, wants-row, Offered, taken, stopped, begun, runFrom}
+use Rattle.run.specs.Machine.{State, Reason, full-list, full-stack, wants-end, wants-token, wants-row, Offered, taken, stopped, begun, runFrom, final}
 use Rattle.run.specs.Room.{rightOf}
 use Rattle.run.specs.Running.{counted, cleared}
 
@@ -30,11 +30,6 @@ pub data Short : Reason → Type 0 where
 pub data Decided : Offered → Type 0 where
   accepted : {s : State} → Decided (taken s)
   refused : {r : Reason} {s : State} → Syntax r → Decided (stopped r s)
-
--- the state in which an outcome leaves the machine
-unfoldable pub final : Offered → State
-final (taken s) = s
-final (stopped r s) = s
 
 -- the run of a grammar's machine from its start
 abbrev pub runOf : Grammar → (ℕ → Column → Option ℕ) → ℕ → ℕ → List ℕ → Offered

@@ -1,5 +1,5 @@
 -- What an expansion does next, one case each, and what the code says of one that has ended.
--- Document 01, "Running and expanding".
+-- Document 01, "Running and expanding". Only contracts inside the crate cite what stands here.
 use mathlib.Core.Path.{_≡_}
 use mathlib.Core.Bool.{Bool, true, false}
 use mathlib.Core.List.{List, [], _∷_, _++_}
@@ -12,7 +12,7 @@ use Rattle.book.specs.Refusals.{room, production, stackRoom, outputRoom}
 use Rattle.book.specs.declared.Answer.{Answer}
 use Rattle.table.specs.Calls.{over}
 use Rattle.run.specs.Expanding.{expansion, answeredBy}
-use Rattle.run.specs.Expansion.{Ending, complete, unfit, full-stack, full-output, Expanded}
+use Rattle.run.specs.Expansion.{Upshot, complete, unfit, full-stack, full-output, Expansion}
 use Rattle.run.specs.Running.{counted, cleared}
 use Rattle.run.specs.declared.Ahead.the-variants.{Next, End}
 use Rattle.run.specs.declared.Ahead.{Ahead}
@@ -40,13 +40,13 @@ module _ (fits : ℕ → ℕ → Bool) (right : ℕ → Form) (cells output : �
     no-output : {t : ℕ} {β : Form} → α ≡ Token t ∷ β → output ≤ written → Turns ps α written (Close NoOutput)
     writes : {t : ℕ} {β : Form} → α ≡ Token t ∷ β → written < output → Turns ps α written (Write t)
 
-unfoldable pub finaleOf : Ending → Finale
+unfoldable pub finaleOf : Upshot → Finale
 finaleOf complete = Complete
 finaleOf unfit = Unfit
 finaleOf full-stack = NoStack
 finaleOf full-output = NoOutput
 
-unfoldable pub unfolded : Expanded → Unfolding
+unfoldable pub unfolded : Expansion → Unfolding
 unfolded e = record { finale = finaleOf (e .ending); used = e .progress .used; written = length (e .progress .written) }
 
 -- steps made from the start, before the stack is cleared

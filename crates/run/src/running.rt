@@ -3,7 +3,8 @@ ghost use Prim.Native.Nat.{_≤_};
 ghost use lib.ListN.{length, drop};
 ghost use Rattle.grammar.specs.Machine.{front};
 ghost use Rattle.run.specs.Index.{grammarIn};
-ghost use Rattle.run.specs.Judged.{JudgedRun, Stepped, Ran, AccountedOn, Accounted};
+ghost use Rattle.run.specs.Judged.{JudgedRun};
+ghost use Rattle.run.specs.Accounting.{Stepped, RanThrough, AccountedOn, Accounted};
 ghost use Rattle.run.specs.Moves.{columnIn, outlined, Lengths};
 ghost use Rattle.run.specs.Running.{cleared, RunOutcome};
 use crate::Account;
@@ -103,7 +104,7 @@ pub(crate) fn run_on(
     list: &mut [u8],
 ) -> Reply
     requires { ⌜ 1 ≤ length (now stack) ⌝ }
-    ensures { λ r. ⌜ Ran (outlined (now (book .entry)) (now (places .entry)) outline) (now (table .entry)) (now (tokens .entry)) (now (stack .entry)) (now (list .entry)) r (now (stack .exit)) (now (list .exit)) ⌝ }
+    ensures { λ r. ⌜ RanThrough (outlined (now (book .entry)) (now (places .entry)) outline) (now (table .entry)) (now (tokens .entry)) (now (stack .entry)) (now (list .entry)) r (now (stack .exit)) (now (list .exit)) ⌝ }
 {
     let lengths = gather(book, places, outline.productions, LENGTH);
     let reply = offer_all(book, places, &lengths, outline, table, tokens, stack, list);

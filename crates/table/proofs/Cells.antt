@@ -15,6 +15,7 @@ use lib.ListN.{getD}
 use Rattle.grammar.specs.Grammar.{Form, Grammar, Column, token, endmark, column, Rule, Lookahead, Claims, Conflict, Cell, vacant}
 use Rattle.grammar.specs.Machine.{Exact}
 use Rattle.grammar.proofs.Leftmost.{rule-same}
+use Rattle.grammar.proofs.Sets.{lookahead-not-empty}
 use Rattle.sets.specs.Sets.{endMark, member, columnPlace}
 use Rattle.book.specs.Book.{Limits}
 use Rattle.book.proofs.Promise.{read-limits}
@@ -22,7 +23,7 @@ use Rattle.table.specs.Numbers.{placeOf, IsSet}
 use Rattle.table.specs.Table.{size, columnOf, rowAt, columnAt, ClaimsCell, held, TableOf, BuiltWithoutConflict, cellOf}
 use Rattle.table.proofs.Known.{Proper, below, end-mark, proper-token, lookahead-proper, claims-row, claims-proper}
 use Rattle.table.proofs.Joins.{Reason}
-use Rattle.table.proofs.Members.{at-column, lookahead-no-empty}
+use Rattle.table.proofs.Members.{at-column}
 
 -- the number of a column: column T is the end mark
 pub columnNumber : Grammar → Column → ℕ
@@ -102,7 +103,7 @@ module _ {g : Grammar} (limits : Limits g) where
   -- a production claims a cell exactly if it is of the cell's row, and its lookahead's number has the bit of the cell's column
   pub claims-exactly : {p A : ℕ} {α : Form} {x : ℕ} → Rule g p A α → IsSet x (Lookahead g A α) → (i : ℕ)
       → ClaimsCell g i p ↔ ((A ≡ rowAt g i) × (member (columnPlace (i % (g .tokens + 1)) (g .tokens)) x ≡ true))
-  claims-exactly {p} {A} {α} {x} rule set i = (claimed, λ h. claims (h .0) (at-column (Lookahead g A α) lookahead-no-empty (set .sound _ (h .1))))
+  claims-exactly {p} {A} {α} {x} rule set i = (claimed, λ h. claims (h .0) (at-column (Lookahead g A α) lookahead-not-empty (set .sound _ (h .1))))
     where
       j : ℕ
       j = i % (g .tokens + 1)

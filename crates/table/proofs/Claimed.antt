@@ -10,6 +10,7 @@ use lib.ListN.{length, getD}
 use borrow.Author.Tests.{ne-eqb}
 use Rattle.grammar.specs.Grammar.{Form, Grammar, Rule, Lookahead, Cell, only}
 use Rattle.grammar.specs.Grammar.{vacant as empty}
+use Rattle.book.proofs.Promise.{below-rule}
 use Rattle.table.specs.declared.claims.Contest.{Contest}
 use Rattle.table.specs.Numbers.{IsSet}
 use Rattle.table.specs.Table.{size, rowAt, columnAt, ClaimsCell, held, TableOf, FirstConflict}
@@ -17,16 +18,15 @@ use Rattle.table.specs.Forms.{Indexes}
 use Rattle.table.specs.Trail.{FirstAt, FollowAt}
 use Rattle.table.specs.Steps.{lookaheadOf}
 use Rattle.table.specs.Claims.{bookClaims, Laid, Holds, lowest, vacant, Ledger}
-use Rattle.table.proofs.Known.{rule-inside}
 use Rattle.table.proofs.Closed.{lookahead-is}
 use Rattle.table.proofs.Cells.{claims-exactly}
 use Rattle.table.proofs.Spelled.{indexes-limits, left-is, right-is, rule-at}
 
 -- within a list the default does not matter
-within : (l : List ℕ) (i d e : ℕ) → i < length l → getD l i d ≡ getD l i e
-within [] i d e h = absurd (omega arith)
-within (x ∷ l) zero d e h = refl
-within (x ∷ l) (suc i) d e h = within l i d e (omega arith)
+pub getD-inside : (l : List ℕ) (i d e : ℕ) → i < length l → getD l i d ≡ getD l i e
+getD-inside [] i d e h = absurd (omega arith)
+getD-inside (x ∷ l) zero d e h = refl
+getD-inside (x ∷ l) (suc i) d e h = getD-inside l i d e (omega arith)
 
 held-number : (p : ℕ) → p < 255 → held p ≡ some p
 unfolding held
@@ -64,7 +64,7 @@ module _ {g : Grammar} {book places fs ys : List ℕ} {count T : ℕ} (index : I
       let here : bookClaims book places fs ys (g .tokens) i p = record { of-row = left-is index (k .rule) ∙ row; has-bit = bit } in
       record {
         claim = subst (λ (t : ℕ). bookClaims book places fs ys t i p) (sym same) here;
-        turn = inl (omega (arith, index .counted, rule-inside (k .rule)));
+        turn = inl (omega (arith, index .counted, below-rule (k .rule)));
       }
 
   module _ {table : List ℕ} {contest : Contest} (ledger : Ledger (Laid (bookClaims book places fs ys T) count 0) table contest) where
@@ -86,7 +86,7 @@ module _ {g : Grammar} {book places fs ys : List ℕ} {count T : ℕ} (index : I
 
     -- the cells of which none is contested are the table
     pub ledger-table : length table ≡ size g → size g ≤ contest .cell → TableOf g table
-    ledger-table sized past = record { sized = sized; cells = λ i h. rw (within table i 255 0 (omega arith)) (cell i h (ledger .held i (omega arith))) }
+    ledger-table sized past = record { sized = sized; cells = λ i h. rw (getD-inside table i 255 0 (omega arith)) (cell i h (ledger .held i (omega arith))) }
       where
         cell : (i : ℕ) → i < size g → {byte : ℕ} → Holds (Laid (bookClaims book places fs ys T) count 0 i) byte → Cell g (rowAt g i) (columnAt g i) (held byte)
         cell i h (lowest {p = p} c fewer) =

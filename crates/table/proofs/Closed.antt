@@ -10,7 +10,7 @@ use lib.Seq.{length-take-le, getD-take}
 use Rattle.grammar.specs.declared.Symbol.the-variants.{Nonterminal}
 use Rattle.grammar.specs.Grammar.{Form, Grammar, Column, token, endmark, Member, column, Every, each, Rule, First, Follow, Lookahead, Known, known-token, known-nonterminal}
 use Rattle.grammar.proofs.Join.{Family, End, ended, Join, over, here, begins, past, Behind, join-cases}
-use Rattle.grammar.proofs.Sets.{merged, FirstOf, FollowOf, first-of-closed, first-complete, follow-complete, first-join, join-lookahead, lookahead-join}
+use Rattle.grammar.proofs.Sets.{merged, FirstOf, FollowOf, first-of-closed, first-complete, follow-complete, first-join, join-lookahead, lookahead-join, first-not-end, follow-not-empty, lookahead-not-empty}
 use Rattle.grammar.proofs.Sets as textbook
 use Rattle.sets.specs.Sets.{width, emptyString, member, only}
 use Rattle.sets.proofs.Promise.{only-fits}
@@ -20,7 +20,7 @@ use Rattle.table.specs.Trail.{trail, Sound, FirstSound, FollowSound, Set
 use Rattle.table.proofs.Known.{Proper, below, end-mark, proper-token}
 use Rattle.table.proofs.Trail.{trail-fits}
 use Rattle.table.proofs.Joins.{Reason, Reasons, Covers, ProperFamily, trail-covers, trail-reasons}
-use Rattle.table.proofs.Members.{reasons-inside, at-merged, at-column, first-no-end, follow-no-empty, lookahead-no-empty, first-reasons, follow-reasons, first-proper, end-covers}
+use Rattle.table.proofs.Members.{reasons-inside, at-merged, at-column, first-reasons, follow-reasons, first-proper, end-covers}
 use Rattle.table.proofs.Additions.{behind-every, first-trail-inside}
 
 -- the family of sets that words are: columns of the grammar whose bit is set
@@ -72,7 +72,7 @@ module _ {g : Grammar} where
 
     -- FIRST: sound and closed is exact
     pub first-words-exact : {fs : List ℕ} → ((A : ℕ) → A < g .nonterminals → getD fs A 0 < 2 ^ width) → FirstSound g fs → FirstClosed g fs → FirstAt g fs
-    first-words-exact {fs} fits s c = record { each = λ A a. record { fits = fits A a; sound = s .each A a .reason; complete = λ k i. go A (at-merged (First g (Nonterminal A ∷ [])) first-no-end i) } }
+    first-words-exact {fs} fits s c = record { each = λ A a. record { fits = fits A a; sound = s .each A a .reason; complete = λ k i. go A (at-merged (First g (Nonterminal A ∷ [])) first-not-end i) } }
       where
         go : (A : ℕ) {k : ℕ} → Reason merged (FirstOf g A) k → member k (getD fs A 0) ≡ true
         go A r = rw (r .place) at (first-complete (first-family-closed c) A (r .column) (r .holds) .bit)
@@ -97,7 +97,7 @@ module _ {g : Grammar} where
               }
 
       pub follow-words-exact : {ys : List ℕ} → ((A : ℕ) → A < g .nonterminals → getD ys A 0 < 2 ^ width) → FollowSound g ys → FollowClosed g fs ys → FollowAt g ys
-      follow-words-exact {ys} fits s c = record { each = λ A a. record { fits = fits A a; sound = s .each A a .reason; complete = λ k i. go A (at-column (Follow g A) follow-no-empty i) } }
+      follow-words-exact {ys} fits s c = record { each = λ A a. record { fits = fits A a; sound = s .each A a .reason; complete = λ k i. go A (at-column (Follow g A) follow-not-empty i) } }
         where
           go : (A : ℕ) {k : ℕ} → Reason column (FollowOf g A) k → member k (getD ys A 0) ≡ true
           go A r = rw (r .place) at (follow-complete first-of-closed (follow-family-closed c) A (r .column) (r .holds) .bit)
@@ -108,7 +108,7 @@ module _ {g : Grammar} where
           record {
             fits = trail-fits limits fs (λ A a. first .each A a .fits) (only-fits width emptyString (omega arith)) known;
             sound = first-trail-inside limits (sets-sound first) known .reason;
-            complete = λ k i. go (at-merged (First g α) first-no-end i);
+            complete = λ k i. go (at-merged (First g α) first-not-end i);
           }
         where
           go : {k : ℕ} → Reason merged (λ c. First g α (merged c)) k → member k (trail fs (only emptyString) α) ≡ true
@@ -120,7 +120,7 @@ module _ {g : Grammar} where
           record {
             fits = trail-fits limits fs (λ B b. first .each B b .fits) (follow .each A left .fits) known;
             sound = reasons-inside column (Lookahead g A α) (λ c j. join-lookahead (join-cases j)) joins .reason;
-            complete = λ k i. go (at-column (Lookahead g A α) lookahead-no-empty i);
+            complete = λ k i. go (at-column (Lookahead g A α) lookahead-not-empty i);
           }
         where
           left : A < g .nonterminals

@@ -7,7 +7,7 @@ use lib.ListN.{length}
 use Rattle.grammar.specs.declared.Symbol.the-variants.{Nonterminal}
 use Rattle.grammar.specs.Grammar.{column, First, Follow}
 use Rattle.grammar.specs.House.{house}
-use Rattle.grammar.proofs.Sets.{merged}
+use Rattle.grammar.proofs.Sets.{merged, first-not-end, follow-not-empty}
 use Rattle.grammar.proofs.Tests.{below}
 use Rattle.grammar.proofs.Worked.{firstTest, followTest}
 use Rattle.grammar.proofs.WorkedForm.{formTest}
@@ -22,17 +22,17 @@ use Rattle.table.specs.Calls.{over, BuildOutcome, conflict, served}
 use Rattle.book.specs.Examples.{houseBook}
 use Rattle.book.proofs.Promise.{house-serves}
 use Rattle.table.specs.Examples.{houseFirstSets, houseFollowSets, houseTable, conflictedHouseBook, conflictedHouse, nestedBook, nestedGrammar}
-use Rattle.table.proofs.Members.{at-merged, at-column, first-no-end, follow-no-empty}
+use Rattle.table.proofs.Members.{at-merged, at-column}
 use Rattle.table.proofs.Worked.{placesTest, rowsTest, sets-tested, tableTest, table-tested, claimTest, othersTest, earlierTest, workedFirst, workedFollow, workedUseful, useful-tested, conflict-tested}
 
 -- its FIRST and FOLLOW are those that 01 lists
 pub house-first-sets : FirstSets house houseFirstSets
 unfolding house houseFirst houseFirstSets placesTest rowsTest
-house-first-sets = sets-tested merged house houseFirst house-first-exact (λ A k a. at-merged (First house (Nonterminal A ∷ [])) first-no-end a) houseFirstSets refl tt tt
+house-first-sets = sets-tested merged house houseFirst house-first-exact (λ A k a. at-merged (First house (Nonterminal A ∷ [])) first-not-end a) houseFirstSets refl tt tt
 
 pub house-follow-sets : FollowSets house houseFollowSets
 unfolding house houseFirst houseFollow houseFollowSets placesTest rowsTest
-house-follow-sets = sets-tested column house houseFollow house-follow-exact (λ A k a. at-column (Follow house A) follow-no-empty a) houseFollowSets refl tt tt
+house-follow-sets = sets-tested column house houseFollow house-follow-exact (λ A k a. at-column (Follow house A) follow-not-empty a) houseFollowSets refl tt tt
 
 -- and so is its table
 pub house-table-of : TableOf house houseTable

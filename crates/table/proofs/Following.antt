@@ -19,10 +19,11 @@ use Rattle.sets.specs.Calls.{setAt, stored}
 use Rattle.sets.proofs.Promise.{member-none, only-fits}
 use Rattle.book.specs.Book.{Limits}
 use Rattle.book.specs.Judging.{AllUseful}
-use Rattle.table.specs.Forms.{leftAt, tailAt, Narrow, Readable, Indexes}
+use Rattle.book.proofs.Promise.{below-rule}
+use Rattle.book.specs.Fields.{leftAt}
+use Rattle.table.specs.Forms.{tailAt, Narrow, Readable, Indexes}
 use Rattle.table.specs.Trail.{trail, Halts, Inside, FirstSound, FollowSound, FirstAt, Grown, FollowClosed}
 use Rattle.table.specs.Steps.{spread, walked, followStep, passed, followSteps, Walkable, TailAt, Tails, FollowFound}
-use Rattle.table.proofs.Known.{rule-inside}
 use Rattle.table.proofs.Trail.{halts-same, trail-monotone}
 use Rattle.table.proofs.Joins.{only-there}
 use Rattle.table.proofs.Additions.{behind-below, behind-dropped, behind-tail, follow-begun, follow-addition-sound}
@@ -187,7 +188,7 @@ module _ (book places : List ℕ) (count start : ℕ) (fs : List ℕ) where
               n = getD from p 0
 
               below : p < count
-              below = omega (arith, index .counted, rule-inside rule)
+              below = omega (arith, index .counted, below-rule rule)
 
               place : Dec (0 < n) → Behind A v (drop n β) ⊎ Halts fs v
               place (yes positive) = behind-tail n (rw (tail-is index rule n) at (tails .each p below .halts positive)) b

@@ -7,10 +7,11 @@ use lib.ListN.{length, getD, replicate}
 use Rattle.grammar.specs.Grammar.{Form, Grammar, each, Rule}
 use Rattle.sets.specs.Sets.{width, emptyString, Subset, only}
 use Rattle.sets.proofs.Promise.{only-fits}
-use Rattle.table.specs.Forms.{leftAt, rightAt, Readable, Indexes}
+use Rattle.book.proofs.Promise.{below-rule}
+use Rattle.book.specs.Fields.{leftAt}
+use Rattle.table.specs.Forms.{rightAt, Readable, Indexes}
 use Rattle.table.specs.Trail.{trail, FirstSound, FirstClosed}
 use Rattle.table.specs.Steps.{firstStep, passed, firstSteps, FirstFound}
-use Rattle.table.proofs.Known.{rule-inside}
 use Rattle.table.proofs.Additions.{sound-none, first-addition-sound}
 use Rattle.table.proofs.Closed.{first-words-exact}
 use Rattle.table.proofs.Growth.{Expands, expands-united, united-nothing, passed-keeps, passed-expands, passed-nothing}
@@ -59,7 +60,7 @@ module _ (book places : List ℕ) (count : ℕ) where
     where
       go : (p A : ℕ) (β : Form) → Rule g p A β → Subset (trail cells (only emptyString) β) (getD cells A 0)
       go p A β rule =
-          let unchanged : firstSteps book places p cells ≡ cells = passed-nothing first-expands count cells same p (omega (arith, index .counted, rule-inside rule)) in
+          let unchanged : firstSteps book places p cells ≡ cells = passed-nothing first-expands count cells same p (omega (arith, index .counted, below-rule rule)) in
           let inside : A < length cells = omega (arith, indexes-limits index .well-formed .left-known rule, indexes-limits index .nonterminals-fit) in
           united-nothing cells A (trail cells (only emptyString) β) inside (rw (left-is index rule, right-is index rule) at unchanged)
 

@@ -6,9 +6,9 @@ use mathlib.Core.List.{List, [], _∷_}
 use Prim.Native.Nat.{ℕ, _<_}
 use lib.ListN.{getD}
 use Rattle.grammar.specs.declared.Symbol.the-variants.{Nonterminal}
-use Rattle.grammar.specs.Grammar.{Form, Grammar, Column, token, endmark, Member, column, empty, nothing, each, known-nonterminal, WellFormed, First, Follow, Lookahead, follow}
+use Rattle.grammar.specs.Grammar.{Grammar, Column, token, endmark, Member, column, empty, nothing, each, known-nonterminal, WellFormed, First, Follow}
 use Rattle.grammar.proofs.Join.{End, ended}
-use Rattle.grammar.proofs.Sets.{merged, FirstOf, FollowOf}
+use Rattle.grammar.proofs.Sets.{merged, FirstOf, FollowOf, first-not-end, follow-not-empty}
 use Rattle.sets.specs.Sets.{emptyString, member, only}
 use Rattle.table.specs.Numbers.{placeOf, At}
 use Rattle.table.specs.Trail.{Inside, FirstSound}
@@ -34,20 +34,11 @@ at-column P n {k} a = go (a .member) (a .place) (a .in-set)
     go empty e h = absurd (n h)
 
 module _ {g : Grammar} where
-  pub first-no-end : {α : Form} → ¬ First g α (column endmark)
-  first-no-end f = elim f [ ]
-
-  pub follow-no-empty : {A : ℕ} → ¬ Follow g A empty
-  follow-no-empty f = elim f [ ]
-
-  pub lookahead-no-empty : {A : ℕ} {α : Form} → ¬ Lookahead g A α empty
-  lookahead-no-empty (follow v f) = follow-no-empty f
-
   pub first-reasons : {fs : List ℕ} → FirstSound g fs → (A : ℕ) → A < g .nonterminals → Reasons merged (FirstOf g A) (getD fs A 0)
-  first-reasons s A a = record { reason = λ k m. at-merged (First g (Nonterminal A ∷ [])) first-no-end (s .each A a .reason k m) }
+  first-reasons s A a = record { reason = λ k m. at-merged (First g (Nonterminal A ∷ [])) first-not-end (s .each A a .reason k m) }
 
   pub follow-reasons : {A x : ℕ} → Inside (Follow g A) x → Reasons column (FollowOf g A) x
-  follow-reasons {A} h = record { reason = λ k m. at-column (Follow g A) follow-no-empty (h .reason k m) }
+  follow-reasons {A} h = record { reason = λ k m. at-column (Follow g A) follow-not-empty (h .reason k m) }
 
   pub first-proper : WellFormed g → ProperFamily g (FirstOf g)
   first-proper well = record { proper = λ A t a f. first-known well (each (known-nonterminal a) nothing) f }

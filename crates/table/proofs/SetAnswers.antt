@@ -14,11 +14,10 @@ use Rattle.sets.proofs.Promise.{exactly-unique, number-unique}
 use Rattle.book.specs.declared.Answer.{Answer}
 use Rattle.book.specs.Answers.{refusal}
 use Rattle.book.specs.Book.{symbolOf}
-use Rattle.book.proofs.Promise.{symbolOf-known}
+use Rattle.book.proofs.Promise.{symbolOf-known, below-rule}
 use Rattle.table.specs.declared.SetAnswer.{SetAnswer}
 use Rattle.table.specs.Calls.{SetIs, NoSet, LookaheadOutcome, FirstStranger, FirstOutcome}
 use Rattle.table.specs.Calls as calls
-use Rattle.table.proofs.Known.{rule-inside}
 use Rattle.table.proofs.Outcomes.{Unique, either-unique, OfBook, of-refusal, of-grammar, of-book-unique}
 
 set-answer-same : (r s : SetAnswer) → r .answer ≡ s .answer → r .set ≡ s .set → r ≡ s
@@ -54,7 +53,7 @@ module _ (book : List ℕ) (production : ℕ) where
   pub lookahead-outcome-unique : {r s : SetAnswer} → LookaheadOutcome book production r → LookaheadOutcome book production s → r ≡ s
   lookahead-outcome-unique {r} {s} o p =
       of-book-unique no-set-unique
-      (λ g. either-unique (λ x y a b. no-set-unique _ x y (a .is) (b .is)) (looked-unique g) (λ x y n l. omega (arith, n .past, rule-inside (l .rule))))
+      (λ g. either-unique (λ x y a b. no-set-unique _ x y (a .is) (b .is)) (looked-unique g) (λ x y n l. omega (arith, n .past, below-rule (l .rule))))
       r s (lookahead-of-book o) (lookahead-of-book p)
 
 pub stranger-unique : {g : Grammar} {symbols : List ℕ} {i j : ℕ} → FirstStranger g symbols i → FirstStranger g symbols j → i ≡ j

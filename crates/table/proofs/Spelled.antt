@@ -12,11 +12,11 @@ use Rattle.grammar.specs.declared.Symbol.{Symbol}
 use Rattle.grammar.specs.declared.Symbol.the-variants.{Token, Nonterminal}
 use Rattle.grammar.specs.Grammar.{Form, Grammar, Every, nothing, each, Rule, Known, known-token, known-nonterminal}
 use Rattle.sets.specs.Sets.{endMark}
-use Rattle.book.specs.Fields.{symbolOfByte, symbolAt}
+use Rattle.book.specs.Fields.{symbolOfByte, symbolAt, leftAt}
 use Rattle.book.specs.Book.{Limits}
 use Rattle.book.specs.Judging.{indexOf}
 use Rattle.book.proofs.Promise.{Entry, serves-limits, served, rule-below}
-use Rattle.table.specs.Forms.{formIn, leftAt, rightAt, tailAt, Narrow, narrow-token, narrow-nonterminal, Readable, Indexes}
+use Rattle.table.specs.Forms.{formIn, rightAt, tailAt, Narrow, narrow-token, narrow-nonterminal, Readable, Indexes}
 
 module _ (bytes : List ℕ) where
   -- one symbol, and what lies behind it

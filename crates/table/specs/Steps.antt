@@ -9,8 +9,9 @@ use Rattle.grammar.specs.declared.Symbol.the-variants.{Token, Nonterminal}
 use Rattle.grammar.specs.Grammar.{Form, Grammar}
 use Rattle.sets.specs.Sets.{emptyString, only, united, joined}
 use Rattle.sets.specs.Calls.{setAt, stored}
+use Rattle.book.specs.Fields.{leftAt}
 use Rattle.table.specs.Trail.{symbolSet, trail, Halts, FirstAt, FollowAt}
-use Rattle.table.specs.Forms.{leftAt, rightAt, tailAt, Readable, Indexes}
+use Rattle.table.specs.Forms.{rightAt, tailAt, Readable, Indexes}
 
 -- set number n united with x
 abbrev pub unitedAt : List ℕ → ℕ → ℕ → List ℕ

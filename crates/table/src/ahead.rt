@@ -1,7 +1,8 @@
 ghost use mathlib.Core.Path.{_≡_};
 ghost use Rattle.grammar.specs.Grammar.{Every};
 ghost use Rattle.sets.specs.Calls.{number, setAt};
-ghost use Rattle.table.specs.Forms.{leftAt, rightAt, Narrow};
+ghost use Rattle.book.specs.Fields.{leftAt};
+ghost use Rattle.table.specs.Forms.{rightAt, Narrow};
 ghost use Rattle.table.specs.Trail.{trail};
 use crate::forms::trail_of;
 use book::fields::left_at;

@@ -2,7 +2,7 @@
 use mathlib.Core.Path.{sym}
 use lib.ListN.{List·getD-eq-default}
 use borrow.Author.Needs.{needs}
-use Rattle.run.proofs.Deciding.{getD-inside}
+use Rattle.table.proofs.Promise.{getD-inside}
 use Rattle.run.proofs.moves.cell_at.Statement.{statement}
 use Rattle.run.proofs.moves.cell_at.Tie as tie
 

@@ -1,11 +1,10 @@
 -- The invariant: with what is left put on top, the stack is the whole answer.
-use mathlib.Core.Path.{_≡_, ap, sym, _∙_}
+use mathlib.Core.Path.{_≡_, sym, _∙_}
 use Prim.Native.Nat.{_+_, _-_, _≤_}
-use native.Mathlib.Omega.{arith}
-use lib.ListN.{length, length-set}
+use lib.ListN.{length}
 use lib.Seq.{sets}
 use borrow.Author.Needs.{needs}
-use Rattle.run.specs.Index.{symbolsFrom}
+use Rattle.table.specs.Forms.{formIn}
 use Rattle.run.specs.Stack.{bytesOf}
 use Rattle.run.proofs.Stacked.{push-start, push-turn, push-over}
 use Rattle.run.proofs.stack.push.Statement.{statement}
@@ -13,7 +12,7 @@ use Rattle.run.proofs.stack.push.Tie as tie
 
 abbrev Inv-loop : tie.InvT-loop
 Inv-loop book at count stack₀ height top₀ i₀ stack top i =
-    (height ≤ top) × (top + i ≡ height + count) × (length stack ≡ length stack₀) × (sets stack height (bytesOf (symbolsFrom book at (top - height) i)) ≡ sets stack₀ height (bytesOf (symbolsFrom book at count 0)))
+    (height ≤ top) × (top + i ≡ height + count) × (length stack ≡ length stack₀) × (sets stack height (bytesOf (formIn book (at + 4 + i) (top - height))) ≡ sets stack₀ height (bytesOf (formIn book (at + 4) count)))
 
 abbrev μ-loop : tie.MeasureT-loop
 μ-loop book at count stack₀ height top₀ i₀ stack top i = top
