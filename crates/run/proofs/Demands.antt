@@ -20,7 +20,7 @@ use Rattle.run.specs.Expanding.{ExpandOutcome, expansion}
 use Rattle.run.specs.Promised.{KeepsBuild, KeepsRun, KeepsExpand}
 use Rattle.run.specs.Room.{peak, LongestList}
 use Rattle.run.specs.Machine.{final}
-use Rattle.run.specs.Running.{counted, Admits, RunOutcome}
+use Rattle.run.specs.Running.{counted, ran, Admits, RunOutcome}
 use Rattle.run.proofs.Answered.{told-numbers}
 use Rattle.run.proofs.BuildDemands.{done-exactly, conflict-exactly, done-exactly-if}
 use Rattle.run.proofs.ExpandDemands.{ends-moves, done-complete, done-exact, unfit-exact, unfit-place, expands-to, complete-room-iff}
@@ -76,7 +76,7 @@ module _ (book table tokens stack list : List ℕ) (r : Ran) (o : RunOutcome boo
 
   -- a derivable string that is refused for room: the detail, the place, the steps and what is listed then
   pub run-place-room : (h : Premises book table tokens) {ps : List ℕ} (d : Complete (h .built .grammar) ps tokens)
-      → r .answer .number ≡ room → StopsForRoom (h .built .grammar) d stack list (r .answer) (r .stack) (r .list)
+      → r .answer .number ≡ room → StopsForRoom (h .built .grammar) d (ran (h .built .grammar) table tokens stack list) stack list (r .answer) (r .stack) (r .list)
   run-place-room h d n = room-place h stack list d (run-begins book table tokens stack list r o h) n
 
   -- any string, derivable or not: done or syntax exactly if list and stack have the room that the string needs, of which 65,535 cells count, so that one that needs more is never decided

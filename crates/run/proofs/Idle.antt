@@ -25,7 +25,7 @@ use Rattle.table.specs.Examples.{houseTable}
 use Rattle.run.specs.Idle.{RefusesEverything, FixedOutput, FixedList, LeavesList, LeavesTable, JudgesAtFirst, InventsSteps, writing, writingOutput, untouching, untouchingBuild, judged, judgingFirst}
 use Rattle.run.specs.Machine.{begun, meets, popped, replaced, used, facing, offer, runFrom, final}
 use Rattle.run.specs.Room.{rightOf, peak}
-use Rattle.run.specs.Running.{ran}
+use Rattle.run.specs.Running.{Admits, ran}
 use Rattle.run.proofs.House.{house-premises, house-admits}
 use Rattle.run.proofs.Kept.{premises-exact}
 use Rattle.run.proofs.RunTheorems.{run-place}
@@ -165,7 +165,7 @@ module _ {run : Runner} (idle : JudgesAtFirst run) (meets-f : RunMeets3 houseBoo
   pub judges-at-first-fails : ¬ RunMeets3 houseBook houseTable stringOther nines nines (run houseBook houseTable stringOther nines nines)
   unfolding house-built house-premises premises-f premises-other
   judges-at-first-fails meets-other =
-      let same : run houseBook houseTable stringF nines nines .answer ≡ run houseBook houseTable stringOther nines nines .answer = idle .alike houseBook houseTable nines nines 0 (1 ∷ 1 ∷ []) (0 ∷ 0 ∷ []) refl in
+      let same : run houseBook houseTable stringF nines nines .answer ≡ run houseBook houseTable stringOther nines nines .answer = idle .alike houseBook houseTable nines nines 0 (1 ∷ 1 ∷ []) (0 ∷ 0 ∷ []) premises-f premises-other refl in
       let f = meets-f .place premises-f syntax-f in
       let other = meets-other .place premises-other (rw same at syntax-f) in
       omega (arith, place-determined f house-place, place-determined other other-place, ap (λ (a : Answer). a .place) same)
@@ -177,20 +177,28 @@ stringIn = 0 ∷ 1 ∷ 2 ∷ 1 ∷ []
 abbrev stringAnd : List ℕ
 stringAnd = 0 ∷ 1 ∷ 3 ∷ 1 ∷ []
 
+admits-in : Admits house houseTable stringIn nines
+unfolding below
+admits-in = house-admits stringIn (omega arith) tt nines (omega arith)
+
+admits-and : Admits house houseTable stringAnd nines
+unfolding below
+admits-and = house-admits stringAnd (omega arith) tt nines (omega arith)
+
 steps-in : (r : Ran) → StepsAdd houseBook houseTable stringIn nines nines r → r .answer .steps ≡ 8
-unfolding house houseTable below begun meets popped replaced used facing offer runFrom rightOf cellOf held ran final
-steps-in r adds = adds .sum house-serves (house-admits stringIn (omega arith) tt nines (omega arith))
+unfolding house houseTable begun meets popped replaced used facing offer runFrom rightOf cellOf held ran final
+steps-in r adds = adds .sum house-serves admits-in
 
 steps-and : (r : Ran) → StepsAdd houseBook houseTable stringAnd nines nines r → r .answer .steps ≡ 11
-unfolding house houseTable below begun meets popped replaced used facing offer runFrom rightOf cellOf held ran final
-steps-and r adds = adds .sum house-serves (house-admits stringAnd (omega arith) tt nines (omega arith))
+unfolding house houseTable begun meets popped replaced used facing offer runFrom rightOf cellOf held ran final
+steps-and r adds = adds .sum house-serves admits-and
 
 -- one that invents steps breaks their equation with listed productions and matched tokens
 pub invents-steps-fails : {run : Runner} → InventsSteps run
     → StepsAdd houseBook houseTable stringIn nines nines (run houseBook houseTable stringIn nines nines) → ¬ StepsAdd houseBook houseTable stringAnd nines nines (run houseBook houseTable stringAnd nines nines)
 invents-steps-fails idle adds-in adds-and =
-    let one = idle .told houseBook houseTable stringIn nines nines in
-    let other = idle .told houseBook houseTable stringAnd nines nines in
+    let one = idle .told houseBook houseTable stringIn nines nines house-serves admits-in in
+    let other = idle .told houseBook houseTable stringAnd nines nines house-serves admits-and in
     omega (arith, steps-in _ adds-in, steps-and _ adds-and, one, other)
 
 -- there are programs of each kind
@@ -208,7 +216,7 @@ writing-fixed a cells = record { fixed = λ book table tokens tokens′ stack li
 
 pub writing-invents : (a : Answer) (cells : List ℕ) → InventsSteps (writing a cells)
 unfolding writing
-writing-invents a cells = record { steps = λ n. a .steps; told = λ book table tokens stack list. refl }
+writing-invents a cells = record { steps = λ n. a .steps; told = λ book table tokens stack list serves admits. refl }
 
 pub untouching-leaves : (a : Answer) → LeavesList (untouching a)
 unfolding untouching
@@ -225,4 +233,4 @@ judged-numbers (suc t) n = inr refl
 
 pub judging-first-judges : JudgesAtFirst judgingFirst
 unfolding judgingFirst
-judging-first-judges = record { judges = λ book table tokens stack list serves h enough. judged-numbers (getD tokens 0 1) (length tokens); alike = λ book table stack list t u v e. rw e }
+judging-first-judges = record { judges = λ book table tokens stack list serves h enough. judged-numbers (getD tokens 0 1) (length tokens); alike = λ book table stack list t u v h k e. rw e }

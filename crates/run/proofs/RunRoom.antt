@@ -25,16 +25,16 @@ use Rattle.run.proofs.Kept.{premises-exact, RunBegins, stackless, begin
 use Rattle.run.proofs.AnyTable.{ends-told}
 use Rattle.run.proofs.RunTheorems.{run-steps, run-room}
 
-module _ {g : Grammar} {ps w : List ℕ} {d : Complete g ps w} {stack list : List ℕ} where
-  stops-as : {a b : Answer} {s t l m : List ℕ} → a ≡ b → s ≡ t → l ≡ m → StopsForRoom g d stack list b t m → StopsForRoom g d stack list a s l
+module _ {g : Grammar} {ps w : List ℕ} {d : Complete g ps w} {o : Offered} {stack list : List ℕ} where
+  stops-as : {a b : Answer} {s t l m : List ℕ} → a ≡ b → s ≡ t → l ≡ m → StopsForRoom g d o stack list b t m → StopsForRoom g d o stack list a s l
   stops-as e f k x = rw (e, f, k) x
 
-  module _ (table : List ℕ) {r : Ran} where
-    outcome-stops : {o : Offered} → Outcome (counted stack) (counted list) d o → Counted (counted stack) (counted list) (final o) → r .answer ≡ answered (expected g table) o → r .stack ≡ cleared stack → r .list ≡ over (final o .listed) list → r .answer .number ≡ room → StopsForRoom g d stack list (r .answer) (r .stack) (r .list)
-    unfolding answered final done stop
-    outcome-stops (enough l k) c a b e n = absurd (omega (arith, ap (λ (x : Answer). x .number) a))
-    outcome-stops (list-short {s = s} at l k) c a b e n = stops-as (a ∙ ap (λ (m : ℕ). stop room (s .matched) listRoom m noSet) (c .steps)) b e (no-list-cell at l k)
-    outcome-stops (stack-short {s = s} at l k m q) c a b e n = stops-as (a ∙ ap (λ (m : ℕ). stop room (s .matched) stackRoom m noSet) (c .steps)) b e (no-stack-cells at l k m)
+module _ {g : Grammar} {ps w : List ℕ} {d : Complete g ps w} {stack list : List ℕ} (stacked : 1 ≤ length stack) (table : List ℕ) {r : Ran} where
+  outcome-stops : {o : Offered} → Outcome (counted stack) (counted list) d o → Counted (counted stack) (counted list) (final o) → r .answer ≡ answered (expected g table) o → r .stack ≡ cleared stack → r .list ≡ over (final o .listed) list → r .answer .number ≡ room → StopsForRoom g d o stack list (r .answer) (r .stack) (r .list)
+  unfolding answered final done stop
+  outcome-stops (enough l k) c a b e n = absurd (omega (arith, ap (λ (x : Answer). x .number) a))
+  outcome-stops (list-short {s = s} at l k) c a b e n = stops-as (a ∙ ap (λ (m : ℕ). stop room (s .matched) listRoom m noSet) (c .steps)) b e (no-list-cell stacked refl at l k)
+  outcome-stops (stack-short {s = s} at l k m q) c a b e n = stops-as (a ∙ ap (λ (m : ℕ). stop room (s .matched) stackRoom m noSet) (c .steps)) b e (no-stack-cells stacked refl at l k m)
 
 decided-numbers : {e : Reason → Set} {o : Offered} {a : Answer} → Decided o → Told e o a → (a .number ≡ 0) ⊎ (a .number ≡ syntax)
 unfolding done stop
@@ -51,11 +51,11 @@ told-decided (short-of-stack s) k = absurd (⊎-elim (λ n. omega arith) (λ n. 
 told-decided (blocked s q) k = refused q
 
 module _ {book table tokens : List ℕ} (h : Premises book table tokens) (stack list : List ℕ) where
-  pub room-place : {ps : List ℕ} (d : Complete (h .built .grammar) ps tokens) {r : Ran} → RunBegins (h .built .grammar) table tokens stack list r → r .answer .number ≡ room → StopsForRoom (h .built .grammar) d stack list (r .answer) (r .stack) (r .list)
+  pub room-place : {ps : List ℕ} (d : Complete (h .built .grammar) ps tokens) {r : Ran} → RunBegins (h .built .grammar) table tokens stack list r → r .answer .number ≡ room → StopsForRoom (h .built .grammar) d (ran (h .built .grammar) table tokens stack list) stack list (r .answer) (r .stack) (r .list)
   unfolding ran
   room-place d (stackless e a b c) n = stops-as a b c (no-stack e)
   room-place d (begins k e) n =
-      outcome-stops table (run-room (premises-exact h) (counted stack) (counted list) d (omega arith))
+      outcome-stops k table (run-room (premises-exact h) (counted stack) (counted list) d (omega arith))
       (run-steps (rightOf (h .built .grammar)) (cellOf (h .built .grammar) table) (counted stack) (counted list) (h .built .grammar .start) tokens)
       (e .answer) (e .cleared) (e .written) n
 

@@ -12,7 +12,7 @@ use Rattle.book.specs.Answers.{done, stop, noSet}
 use Rattle.book.specs.Judging.{Serves}
 use Rattle.book.specs.Refusals.{syntax}
 use Rattle.run.specs.Demands.{Builder, Runner, Expander, Premises}
-use Rattle.run.specs.Running.{ran}
+use Rattle.run.specs.Running.{Admits, ran}
 use Rattle.run.specs.Stopping.{Decided}
 
 -- it refuses everything, with whatever number
@@ -38,12 +38,12 @@ pub record LeavesTable (build : Builder) : Type 0 where
 -- where the room is enough it accepts or refuses for syntax, by the first token, and only its place moves, with the length
 pub record JudgesAtFirst (run : Runner) : Type 0 where
   pub judges : (book table tokens stack list : List ℕ) → {g : Grammar} → Serves book g → Premises book table tokens → Decided (ran g table tokens stack list) → (run book table tokens stack list .answer .number ≡ 0) ⊎ (run book table tokens stack list .answer .number ≡ syntax)
-  pub alike : (book table stack list : List ℕ) (t : ℕ) (u v : List ℕ) → length u ≡ length v → run book table (t ∷ u) stack list .answer ≡ run book table (t ∷ v) stack list .answer
+  pub alike : (book table stack list : List ℕ) (t : ℕ) (u v : List ℕ) → Premises book table (t ∷ u) → Premises book table (t ∷ v) → length u ≡ length v → run book table (t ∷ u) stack list .answer ≡ run book table (t ∷ v) stack list .answer
 
--- its steps go by the number of tokens alone
+-- where steps begin, they go by the number of tokens alone
 pub record InventsSteps (run : Runner) : Type 0 where
   pub steps : ℕ → ℕ
-  pub told : (book table tokens stack list : List ℕ) → run book table tokens stack list .answer .steps ≡ steps (length tokens)
+  pub told : (book table tokens stack list : List ℕ) {g : Grammar} → Serves book g → Admits g table tokens stack → run book table tokens stack list .answer .steps ≡ steps (length tokens)
 
 -- the plainest of each kind: one answer, and the same cells written from the front as far as there is room
 unfoldable pub writing : Answer → List ℕ → Runner

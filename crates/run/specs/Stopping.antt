@@ -51,8 +51,8 @@ pub record Before (g : Grammar) (ps w : List ℕ) (p : ℕ) (below : Form) (s : 
   pub on-top : s .stack ≡ Nonterminal row ∷ below
   pub form : LeftmostSteps g (Nonterminal (g .start) ∷ []) (s .listed) (spelled (take (s .matched) w) ++ s .stack)
 
--- what a run leaves that stops for room: no stack cell; or right before the first production of the derivation for which the list is full, or whose right side does not fit the stack
-pub data StopsForRoom (g : Grammar) {ps w : List ℕ} (d : Complete g ps w) (stack list : List ℕ) : Answer → List ℕ → List ℕ → Type 0 where
-  no-stack : length stack ≡ 0 → StopsForRoom g d stack list (refusal room 0 stackRoom) stack list
-  no-list-cell : {p : ℕ} {below : Form} {s : State} → Before g ps w p below s → length (s .listed) ≡ counted list → s .height ≤ counted stack → StopsForRoom g d stack list (stop room (s .matched) listRoom (length (s .listed) + s .matched) noSet) (cleared stack) (over (s .listed) list)
-  no-stack-cells : {p : ℕ} {below : Form} {s : State} → Before g ps w p below s → length (s .listed) < counted list → s .height ≤ counted stack → counted stack < length (rightOf g p ++ below) → StopsForRoom g d stack list (stop room (s .matched) stackRoom (length (s .listed) + s .matched) noSet) (cleared stack) (over (s .listed) list)
+-- what a run with the outcome o leaves that stops for room: no stack cell; or, in the state of o, right before the first production of the derivation for which the list is full, or whose right side does not fit the stack
+pub data StopsForRoom (g : Grammar) {ps w : List ℕ} (d : Complete g ps w) (o : Offered) (stack list : List ℕ) : Answer → List ℕ → List ℕ → Type 0 where
+  no-stack : length stack ≡ 0 → StopsForRoom g d o stack list (refusal room 0 stackRoom) stack list
+  no-list-cell : {p : ℕ} {below : Form} {s : State} → 1 ≤ length stack → o ≡ stopped full-list s → Before g ps w p below s → length (s .listed) ≡ counted list → s .height ≤ counted stack → StopsForRoom g d o stack list (stop room (s .matched) listRoom (length (s .listed) + s .matched) noSet) (cleared stack) (over (s .listed) list)
+  no-stack-cells : {p : ℕ} {below : Form} {s : State} → 1 ≤ length stack → o ≡ stopped full-stack s → Before g ps w p below s → length (s .listed) < counted list → s .height ≤ counted stack → counted stack < length (rightOf g p ++ below) → StopsForRoom g d o stack list (stop room (s .matched) stackRoom (length (s .listed) + s .matched) noSet) (cleared stack) (over (s .listed) list)

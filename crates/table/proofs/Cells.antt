@@ -2,7 +2,7 @@
 -- and a table built without conflict has exact cells.
 use mathlib.Core.Path.{_≡_, sym, ap, _∙_, subst₂}
 use mathlib.Core.Bool.{true}
-use mathlib.Core.Logic.{_≢_, _↔_}
+use mathlib.Core.Logic.{_↔_}
 use mathlib.Core.List.{List}
 use mathlib.Core.Option.{none}
 use Prim.Native.Nat.{ℕ, _+_, _*_, _%_, _≤_, _<_}
@@ -20,7 +20,7 @@ use Rattle.sets.specs.Sets.{endMark, member, columnPlace}
 use Rattle.book.specs.Book.{Limits}
 use Rattle.book.proofs.Promise.{read-limits}
 use Rattle.table.specs.Numbers.{placeOf, IsSet}
-use Rattle.table.specs.Table.{size, columnOf, rowAt, columnAt, ClaimsCell, held, TableOf, BuiltWithoutConflict, cellOf}
+use Rattle.table.specs.Table.{size, columnOf, rowAt, columnAt, ClaimsCell, held, TableOf, BuiltWithoutConflict, cellOf, ContestedCell}
 use Rattle.table.proofs.Known.{Proper, below, end-mark, proper-token, lookahead-proper, claims-row, claims-proper}
 use Rattle.table.proofs.Joins.{Reason}
 use Rattle.table.proofs.Members.{at-column}
@@ -79,16 +79,6 @@ module _ (g : Grammar) where
 
   pub row-inside : {i : ℕ} → i < size g → rowAt g i < g .nonterminals
   row-inside h = div-lt-iff-lt-mul {k = g .tokens + 1} (omega arith) .1 h
-
--- some cell of the table has two claimants
-pub record ContestedCell (g : Grammar) : Type 0 where
-  pub cell : ℕ
-  pub inside : cell < size g
-  pub one : ℕ
-  pub other : ℕ
-  pub distinct : one ≢ other
-  pub claims-one : ClaimsCell g cell one
-  pub claims-other : ClaimsCell g cell other
 
 module _ {g : Grammar} (limits : Limits g) where
   column-determined : {c : Column} → Proper g c → (j : ℕ) → placeOf (column c) ≡ columnPlace j (g .tokens) → columnOf g j ≡ c

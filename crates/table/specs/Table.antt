@@ -1,7 +1,7 @@
 -- The LL(1) table as bytes, its claims and conflicts by cell, and a table built without conflict, whoever made it.
 -- Document 01, "Sets and table", refusals 8 and 9, and "Running and expanding".
 use mathlib.Core.Path.{_≡_}
-use mathlib.Core.Logic.{_⊎_}
+use mathlib.Core.Logic.{_⊎_, _≢_}
 use mathlib.Core.Bool.{true, false, _&&_}
 use mathlib.Core.List.{List}
 use mathlib.Core.Option.{Option, some, none}
@@ -38,6 +38,16 @@ held byte = elim (eqb byte 255) [ true ↦ none | false ↦ some byte ]
 pub record TableOf (g : Grammar) (table : List ℕ) : Type 0 where
   pub sized : length table ≡ size g
   pub cells : (i : ℕ) → i < size g → Cell g (rowAt g i) (columnAt g i) (held (getD table i 255))
+
+-- some cell of the table has two claimants
+pub record ContestedCell (g : Grammar) : Type 0 where
+  pub cell : ℕ
+  pub inside : cell < size g
+  pub one : ℕ
+  pub other : ℕ
+  pub distinct : one ≢ other
+  pub claims-one : ClaimsCell g cell one
+  pub claims-other : ClaimsCell g cell other
 
 -- cell i is the first with two claimants, of which p is the lowest and q the next lowest
 pub record FirstConflict (g : Grammar) (i p q : ℕ) : Type 0 where

@@ -8,7 +8,7 @@ use lib.ListN.{getD}
 use Rattle.grammar.specs.declared.Symbol.{Symbol}
 use Rattle.grammar.specs.declared.Symbol.the-variants.{Token, Nonterminal}
 use Rattle.grammar.specs.Grammar.{Form, Grammar, Member, Rule, First, Follow}
-use Rattle.grammar.proofs.Join.{Behind}
+use Rattle.grammar.specs.Occurrence.{Behind}
 use Rattle.sets.specs.Sets.{endMark, emptyString, member, Subset, only, joined}
 use Rattle.table.specs.Numbers.{At, IsSet}
 
