@@ -32,6 +32,9 @@ use Rattle.run.proofs.RunRoom.{room-place, decides-exactly}
 use Rattle.run.proofs.RoomNeeded.{room-needed}
 -- and each promise allows one outcome
 pub use Rattle.run.proofs.OutcomeUnique.{run-outcome-unique, beside-outcome-unique, expand-outcome-unique}
+pub use Rattle.run.proofs.OnReading.{judged-run-unique, offer-outcome-unique, shown-unique}
+-- on the reading of a book that serves, a run on the judged book is the run
+pub use Rattle.run.proofs.OnReading.{judged-run-run}
 
 -- demand 2: sets and tables have no member missing and none added, and a conflict is found exactly if two productions claim one cell
 pub build-meets2 : (book first follow table : List ℕ) (r : Built) → BuildOutcome book first follow table (r .answer) (r .first) (r .follow) (r .table) → BuildMeets2 book first follow table r
