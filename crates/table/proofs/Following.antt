@@ -1,7 +1,7 @@
 -- FOLLOW is found: every pass keeps its soundness; after a pass over whole right sides all is there that does not come from FOLLOW of
 -- their left sides; and where a pass over their tails changes nothing the sets are closed, so exact.
 use mathlib.Core.Path.{_≡_, refl, sym, _∙_}
-use mathlib.Core.Bool.{true, false≢true}
+use mathlib.Core.Bool.{Bool, true, _&&_, false≢true}
 use mathlib.Core.Logic.{_⊎_, inl, inr}
 use mathlib.Core.List.{List, [], _∷_}
 use Prim.Native.Nat.{ℕ, zero, suc, _+_, _^_, _≤_, _<_}
@@ -23,13 +23,13 @@ use Rattle.book.proofs.Promise.{below-rule}
 use Rattle.book.specs.Fields.{leftAt}
 use Rattle.table.specs.Forms.{tailAt, Narrow, Readable, Indexes}
 use Rattle.table.specs.Trail.{trail, Halts, Inside, FirstSound, FollowSound, FirstAt, Grown, FollowClosed}
-use Rattle.table.specs.Steps.{spread, walked, followStep, passed, followSteps, Walkable, TailAt, Tails, FollowFound}
+use Rattle.table.specs.Steps.{Made, spread, walked, followStep, passed, followSteps, Walkable, TailAt, Tails, FollowFound}
 use Rattle.table.proofs.Trail.{halts-same, trail-monotone}
 use Rattle.table.proofs.Joins.{only-there}
 use Rattle.table.proofs.Additions.{behind-below, behind-dropped, behind-tail, follow-begun, follow-addition-sound}
 use Rattle.table.proofs.Closed.{follow-words-exact, sets-sound}
-use Rattle.table.proofs.Growth.{grown-same, Expands, expands-united, expands-then, united-there, passed-keeps, passed-expands, passed-fires, passed-nothing}
-use Rattle.table.proofs.Rounds.{Fits, fits-none, stored-fits, united-at-fits, trail-narrow, Refines, Round, round-first, round-last, fits-after, so-far-after}
+use Rattle.table.proofs.Growth.{grown-same, Expands, expands-united, expands-then, united-there, made-then, passed-keeps, passed-expands, passed-fires, passed-nothing}
+use Rattle.table.proofs.Rounds.{Fits, fits-none, stored-fits, united-at-fits, trail-narrow, Refines, Round}
 use Rattle.table.proofs.Spelled.{indexes-limits, left-is, tail-is, form-dropped, rule-at}
 
 spread-expands : (s : Symbol) (x : ℕ) → Expands (spread s x)
@@ -48,6 +48,11 @@ module _ (fs : List ℕ) (k : ℕ) where
   walked-expands [] = record { grows = λ cells. grown-same; keeps = λ cells. refl }
   walked-expands (s ∷ α) = expands-then (walked-expands α) (spread-expands s (trail fs k α))
 
+  -- one symbol more, and whether the walk so far changed nothing
+  pub made-walked : (s : Symbol) (α : Form) {xs ys zs : List ℕ} (a b : Bool) → Made (walked fs k α) xs ys a → Made (spread s (trail fs k α)) ys zs b → Made (walked fs k (s ∷ α)) xs zs (a && b)
+  unfolding walked
+  made-walked s α a b walk next = made-then (walked-expands α) (spread-expands s (trail fs k α)) a b walk next
+
   walked-fits : Fits fs → k < 2 ^ width → {α : Form} → Every Narrow α → (cells : List ℕ) → Fits cells → Fits (walked fs k α cells)
   unfolding walked
   walked-fits firsts small nothing cells fits = fits
@@ -63,6 +68,14 @@ module _ (fs : List ℕ) (k : ℕ) where
   -- one that changes nothing has nothing to add
   walked-nothing : {A : ℕ} {v β : Form} → Behind A v β → (cells : List ℕ) → A < length cells → walked fs k β cells ≡ cells → Subset (trail fs k v) (getD cells A 0)
   walked-nothing {A} {v} b cells inside same j m = rw same at (walked-fires b cells inside j m)
+
+pub follow-expands : (book places fs from : List ℕ) (p : ℕ) → Expands (followSteps book places fs from p)
+unfolding followStep
+follow-expands book places fs from p =
+    record {
+      grows = λ cells. walked-expands fs (setAt cells (leftAt book (getD places p 0))) (tailAt book (getD places p 0) (getD from p 0)) .grows cells;
+      keeps = λ cells. walked-expands fs (setAt cells (leftAt book (getD places p 0))) (tailAt book (getD places p 0) (getD from p 0)) .keeps cells;
+    }
 
 -- a walk over a right side keeps FOLLOW sound, where it starts inside FOLLOW of the left side
 walked-sound : {g : Grammar} → Limits g → AllUseful g → {fs : List ℕ} → FirstSound g fs → {p B : ℕ} {β : Form} → Rule g p B β → {k : ℕ} → Inside (Follow g B) k
@@ -122,14 +135,6 @@ module _ (book places : List ℕ) (count start : ℕ) (fs : List ℕ) where
     abbrev pub followPass : List ℕ → List ℕ
     followPass = passed (followSteps book places fs from) count
 
-    follow-expands : (p : ℕ) → Expands (followSteps book places fs from p)
-    unfolding followStep
-    follow-expands p =
-        record {
-          grows = λ cells. walked-expands fs (setAt cells (leftAt book (getD places p 0))) (tailAt book (getD places p 0) (getD from p 0)) .grows cells;
-          keeps = λ cells. walked-expands fs (setAt cells (leftAt book (getD places p 0))) (tailAt book (getD places p 0) (getD from p 0)) .keeps cells;
-        }
-
     follow-step-fits : Readable book places count → Fits fs → (p : ℕ) → p < count → (cells : List ℕ) → Fits cells → Fits (followSteps book places fs from p cells)
     unfolding followStep
     follow-step-fits readable firsts p h cells fits =
@@ -147,10 +152,10 @@ module _ (book places : List ℕ) (count start : ℕ) (fs : List ℕ) where
     pub follow-refines : Readable book places count → Fits fs → Refines FollowSoFar followPass
     follow-refines readable firsts =
         record {
-          expands = passed-expands follow-expands count;
+          expands = passed-expands (follow-expands book places fs from) count;
           fits = passed-keeps Fits count (follow-step-fits readable firsts);
           keeps = λ cells so-far g index started exact.
-              let grown : Grown cells (followPass cells) = passed-expands follow-expands count .grows cells in
+              let grown : Grown cells (followPass cells) = passed-expands (follow-expands book places fs from) count .grows cells in
               let s = so-far g index started exact in
               record {
                 sound = passed-keeps (FollowSound g) count (follow-step-sound index exact) cells (s .sound);
@@ -195,29 +200,23 @@ module _ (book places : List ℕ) (count start : ℕ) (fs : List ℕ) where
               place (no none) = let whole : n ≡ 0 = omega arith in rw whole (inl b)
 
               unchanged : followSteps book places fs from p cells ≡ cells
-              unchanged = passed-nothing follow-expands count cells same p below
+              unchanged = passed-nothing (follow-expands book places fs from) count cells same p below
 
               by-place : Behind A v (drop n β) ⊎ Halts fs v → Subset (trail fs (getD cells B 0) v) (getD cells A 0)
               by-place (inl b′) = walked-nothing fs (getD cells B 0) b′ cells (occurs-inside rule b cells sized) (rw (left-is index rule, tail-is index rule n) at unchanged)
               by-place (inr h) = rw (halts-same h (getD cells B 0) 0) (so-far .seeds p below .seeded rule b)
 
   module _ (readable : Readable book places count) (firsts : Fits fs) where
-    -- from the end mark behind the start symbol, a pass over whole right sides, and the first over their tails
-    pub follow-first-round : (none from : List ℕ) → ((p : ℕ) → getD none p 0 ≡ 0) → {cells before after : List ℕ} → cells ≡ stored (replicate 64 0) start (only endMark)
-        → before ≡ followPass none cells → after ≡ followPass from before → Round FollowSoFar (followPass from) before after
-    follow-first-round none from whole {cells} {before} begun once next = round-first (follow-refines from readable firsts) sized-before fits-before so-far next
+    -- from the end mark behind the start symbol, a pass over whole right sides
+    pub follow-begun-round : (none : List ℕ) → ((p : ℕ) → getD none p 0 ≡ 0) → {cells after : List ℕ} → cells ≡ stored (replicate 64 0) start (only endMark)
+        → after ≡ followPass none cells → Round FollowSoFar after
+    follow-begun-round none whole {cells} {after} begun once = rw once (record { sized = passed-expands (follow-expands book places fs none) count .keeps cells ∙ sized; fits = passed-keeps Fits count (follow-step-fits none readable firsts) cells fits; so-far = so-far })
       where
         sized : length cells ≡ 64
         sized = rw begun (length-set (replicate 64 0) start (only endMark))
 
-        sized-before : length before ≡ 64
-        sized-before = rw once (passed-expands (follow-expands none) count .keeps cells ∙ sized)
-
         fits : Fits cells
         fits = rw begun (stored-fits (replicate 64 0) start (only endMark) (fits-none 64) (only-fits width endMark (omega arith)))
-
-        fits-before : Fits before
-        fits-before = rw once (passed-keeps Fits count (follow-step-fits none readable firsts) cells fits)
 
         ended : {g : Grammar} → Indexes book places count g → start ≡ g .start → member endMark (getD cells start 0) ≡ true
         ended index started =
@@ -225,23 +224,20 @@ module _ (book places : List ℕ) (count start : ℕ) (fs : List ℕ) where
             let there : getD cells start 0 ≡ only endMark = rw begun (getD-set-same (replicate 64 0) start (only endMark) 0 inside) in
             rw there (only-there endMark)
 
-        so-far : FollowSoFar before
+        so-far : FollowSoFar (followPass none cells)
         so-far g index started exact =
-            rw once
-            (record {
+            record {
               sound = passed-keeps (FollowSound g) count (follow-step-sound none index exact) cells (rw (begun, started) (follow-begun {g = g} 64));
-              ended = passed-expands (follow-expands none) count .grows cells .keeps start endMark (ended index started);
-              seeds = passed-fires (follow-expands none) seeds-grow count cells (λ p h xs same. step-seeds none index (whole p) xs (same ∙ sized));
-            })
+              ended = passed-expands (follow-expands book places fs none) count .grows cells .keeps start endMark (ended index started);
+              seeds = passed-fires (follow-expands book places fs none) seeds-grow count cells (λ p h xs same. step-seeds none index (whole p) xs (same ∙ sized));
+            }
 
-    -- where a pass changes nothing, the sets are FOLLOW
-    pub follow-found : {from before after : List ℕ} → Tails book places count fs from → Round FollowSoFar (followPass from) before after → before ≡ after → FollowFound book places count start fs after
-    follow-found {from} tails round same =
-        let refines = follow-refines from readable firsts in
-        record {
-          sized = round .sized-after;
-          found = λ g index started exact.
-              let s = so-far-after refines round g index started exact in
-              follow-words-exact (indexes-limits index) exact (λ A a. fits-after refines round .each A) (s .sound)
-              (follow-closed from index started tails (round .sized-after) s (round-last refines round same));
-        }
+  -- where a pass changes nothing, the sets are FOLLOW
+  pub follow-found : {from cells : List ℕ} → Tails book places count fs from → Round FollowSoFar cells → followPass from cells ≡ cells → FollowFound book places count start fs cells
+  follow-found {from} tails round same =
+      record {
+        sized = round .sized;
+        found = λ g index started exact.
+            let s = round .so-far g index started exact in
+            follow-words-exact (indexes-limits index) exact (λ A a. round .fits .each A) (s .sound) (follow-closed from index started tails (round .sized) s same);
+      }

@@ -15,8 +15,12 @@ use Rattle.table.specs.Steps.{firstStep, passed, firstSteps, FirstFound}
 use Rattle.table.proofs.Additions.{sound-none, first-addition-sound}
 use Rattle.table.proofs.Closed.{first-words-exact}
 use Rattle.table.proofs.Growth.{Expands, expands-united, united-nothing, passed-keeps, passed-expands, passed-nothing}
-use Rattle.table.proofs.Rounds.{Fits, fits-none, united-at-fits, trail-narrow, Refines, Round, round-first, round-last, fits-after, so-far-after}
+use Rattle.table.proofs.Rounds.{Fits, fits-none, united-at-fits, trail-narrow, Refines, Round}
 use Rattle.table.proofs.Spelled.{indexes-limits, left-is, right-is, rule-at}
+
+pub first-expands : (book places : List ℕ) (p : ℕ) → Expands (firstSteps book places p)
+unfolding firstStep
+first-expands book places p = expands-united (leftAt book (getD places p 0)) (λ fs. trail fs (only emptyString) (rightAt book (getD places p 0)))
 
 module _ (book places : List ℕ) (count : ℕ) where
   -- what each pass of FIRST keeps
@@ -25,10 +29,6 @@ module _ (book places : List ℕ) (count : ℕ) where
 
   abbrev pub firstPass : List ℕ → List ℕ
   firstPass = passed (firstSteps book places) count
-
-  first-expands : (p : ℕ) → Expands (firstSteps book places p)
-  unfolding firstStep
-  first-expands p = expands-united (leftAt book (getD places p 0)) (λ fs. trail fs (only emptyString) (rightAt book (getD places p 0)))
 
   first-step-fits : Readable book places count → (p : ℕ) → p < count → (cells : List ℕ) → Fits cells → Fits (firstSteps book places p cells)
   unfolding firstStep
@@ -45,14 +45,14 @@ module _ (book places : List ℕ) (count : ℕ) where
   pub first-refines : Readable book places count → Refines FirstSoFar firstPass
   first-refines readable =
       record {
-        expands = passed-expands first-expands count;
+        expands = passed-expands (first-expands book places) count;
         fits = passed-keeps Fits count (first-step-fits readable);
         keeps = λ cells sound g index. passed-keeps (FirstSound g) count (first-step-sound index) cells (sound g index);
       }
 
   -- before the first pass no set has a member
-  pub first-first-round : Readable book places count → {after : List ℕ} → after ≡ firstPass (replicate 64 0) → Round FirstSoFar firstPass (replicate 64 0) after
-  first-first-round readable next = round-first (first-refines readable) refl (fits-none 64) (λ g index. sound-none 64) next
+  pub first-begun : Round FirstSoFar (replicate 64 0)
+  first-begun = record { sized = refl; fits = fits-none 64; so-far = λ g index. sound-none 64 }
 
   first-closed : {g : Grammar} (index : Indexes book places count g) {cells : List ℕ} → length cells ≡ 64 → firstPass cells ≡ cells → FirstClosed g cells
   unfolding firstStep
@@ -60,17 +60,14 @@ module _ (book places : List ℕ) (count : ℕ) where
     where
       go : (p A : ℕ) (β : Form) → Rule g p A β → Subset (trail cells (only emptyString) β) (getD cells A 0)
       go p A β rule =
-          let unchanged : firstSteps book places p cells ≡ cells = passed-nothing first-expands count cells same p (omega (arith, index .counted, below-rule rule)) in
+          let unchanged : firstSteps book places p cells ≡ cells = passed-nothing (first-expands book places) count cells same p (omega (arith, index .counted, below-rule rule)) in
           let inside : A < length cells = omega (arith, indexes-limits index .well-formed .left-known rule, indexes-limits index .nonterminals-fit) in
           united-nothing cells A (trail cells (only emptyString) β) inside (rw (left-is index rule, right-is index rule) at unchanged)
 
   -- where a pass changes nothing, the sets are FIRST
-  pub first-found : Readable book places count → {before after : List ℕ} → Round FirstSoFar firstPass before after → before ≡ after → FirstFound book places count after
-  first-found readable round same =
-      let refines = first-refines readable in
+  pub first-found : {cells : List ℕ} → Round FirstSoFar cells → firstPass cells ≡ cells → FirstFound book places count cells
+  first-found round same =
       record {
-        sized = round .sized-after;
-        found = λ g index.
-            first-words-exact (indexes-limits index) (λ A a. fits-after refines round .each A) (so-far-after refines round g index)
-            (first-closed index (round .sized-after) (round-last refines round same));
+        sized = round .sized;
+        found = λ g index. first-words-exact (indexes-limits index) (λ A a. round .fits .each A) (round .so-far g index) (first-closed index (round .sized) same);
       }

@@ -1,20 +1,21 @@
 -- Families of sets that grow: two that lie in each other are the same, steps that only add, passes of such steps and where one
 -- changes nothing, and that a pass which changes something makes the sum of the sets larger.
 use mathlib.Core.Path.{_≡_, refl, sym, ap, _∙_, subst}
-use mathlib.Core.Bool.{true}
+use mathlib.Core.Bool.{Bool, true, false, _&&_}
 use mathlib.Core.Logic.{_≢_, _⊎_, inl, inr}
 use mathlib.Core.List.{List, [], _∷_, _++_}
 use Prim.Native.Nat.{ℕ, zero, suc, _+_, _*_, _≤_, _<_}
 use native.Mathlib.Decide.{ℕ-discrete, decLt}
 use native.Mathlib.Nat.{suc-mul}
+use native.Mathlib.Numerals.{add-one}
 use native.Mathlib.Omega.{arith}
 use lib.ListN.{length, getD, set, take, drop, length-set}
-use lib.Seq.{ext-getD, getD-set-same, getD-set-other, set-out}
+use lib.Seq.{ext-getD, getD-set-same, getD-set-other, set-getD, set-out}
 use Rattle.sets.specs.Sets.{member, Subset, united}
-use Rattle.sets.specs.Calls.{setAt, stored}
+use Rattle.sets.specs.Calls.{Decides, setAt, stored}
 use Rattle.sets.proofs.Promise.{subset-le, or-left, or-right}
 use Rattle.table.specs.Trail.{Grown}
-use Rattle.table.specs.Steps.{unitedAt, passed}
+use Rattle.table.specs.Steps.{Made, unitedAt, passed}
 
 pub grown-same : {fs : List ℕ} → Grown fs fs
 grown-same = record { keeps = λ A k m. m }
@@ -66,12 +67,36 @@ expands-united n x = record { grows = λ cells. grown-united cells n (x cells); 
 pub expands-then : {f h : List ℕ → List ℕ} → Expands f → Expands h → Expands (λ cells. h (f cells))
 expands-then {f} {h} e d = record { grows = λ cells. grown-further (e .grows cells) (d .grows (f cells)); keeps = λ cells. d .keeps (f cells) ∙ e .keeps cells }
 
+-- uniting changes nothing if the set stays as it was
+pub made-united : (cells : List ℕ) (n x : ℕ) {after : List ℕ} (r : Bool) → after ≡ unitedAt cells n x → Decides r (getD after n 0 ≡ getD cells n 0) → Made (λ xs. unitedAt xs n x) cells after r
+made-united cells n x {after} r made there = record { made = made; same = go r there }
+  where
+    stays : Dec (n < length cells) → getD (unitedAt cells n x) n 0 ≡ getD cells n 0 → unitedAt cells n x ≡ cells
+    stays (yes inside) e = ap (set cells n) (sym (getD-set-same cells n (united (setAt cells n) x) 0 inside) ∙ e) ∙ set-getD cells n 0
+    stays (no out) e = set-out cells n (united (setAt cells n) x) (omega arith)
+
+    go : (r : Bool) → Decides r (getD after n 0 ≡ getD cells n 0) → Decides r (after ≡ cells)
+    go true e = made ∙ stays (decLt n (length cells)) (rw made at e)
+    go false d = λ same. d (ap (λ (xs : List ℕ). getD xs n 0) same)
+
 -- where one step after another changes nothing, neither does
 pub nothing-then : {f h : List ℕ → List ℕ} → Expands f → Expands h → (cells : List ℕ) → h (f cells) ≡ cells → (f cells ≡ cells) × (h cells ≡ cells)
 nothing-then {f} {h} e d cells same =
     let back : Grown (f cells) cells = subst (λ (xs : List ℕ). Grown (f cells) xs) same (d .grows (f cells)) in
     let first : f cells ≡ cells = grown-both (f cells) cells (e .keeps cells) back (e .grows cells) in
     (first, ap h (sym first) ∙ same)
+
+-- one step after another changes nothing if neither does
+pub made-then : {f h : List ℕ → List ℕ} → Expands f → Expands h → {xs ys zs : List ℕ} (a b : Bool) → Made f xs ys a → Made h ys zs b → Made (λ cells. h (f cells)) xs zs (a && b)
+made-then {f} {h} e d {xs} {ys} {zs} a b m n = record { made = made; same = both a b (m .same) (n .same) }
+  where
+    made : zs ≡ h (f xs)
+    made = n .made ∙ ap h (m .made)
+
+    both : (a b : Bool) → Decides a (ys ≡ xs) → Decides b (zs ≡ ys) → Decides (a && b) (zs ≡ xs)
+    both true true p q = q ∙ p
+    both true false p q = λ same. q (same ∙ sym p)
+    both false b p q = λ same. p (m .made ∙ nothing-then e d xs (sym made ∙ same) .0)
 
 module _ {step : ℕ → List ℕ → List ℕ} where
   -- what every step keeps, a pass keeps
@@ -85,6 +110,11 @@ module _ {step : ℕ → List ℕ → List ℕ} where
     unfolding passed
     passed-expands zero = record { grows = λ cells. grown-same; keeps = λ cells. refl }
     passed-expands (suc n) = expands-then (passed-expands n) (expands n)
+
+    -- one step more, and whether the pass so far changed nothing
+    pub made-next : (n : ℕ) {xs ys zs : List ℕ} (a b : Bool) → Made (passed step n) xs ys a → Made (step n) ys zs b → Made (passed step (n + 1)) xs zs (a && b)
+    unfolding passed
+    made-next n a b pass next = rw add-one (made-then (passed-expands n) (expands n) a b pass next)
 
     -- what holds after a step, and of whatever grows from there, holds after the pass
     pub passed-fires : {Q : ℕ → List ℕ → Type 0} → ((p : ℕ) (xs ys : List ℕ) → Grown xs ys → Q p xs → Q p ys)

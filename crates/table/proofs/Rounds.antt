@@ -1,6 +1,7 @@
 -- Passes until one changes nothing: sets that fit their width stay so, each pass keeps what holds so far, and one that changes
 -- something leaves less to come.
 use mathlib.Core.Path.{_≡_, sym, ap, _∙_}
+use mathlib.Core.Bool.{Bool, true, false}
 use mathlib.Core.Logic.{_≢_}
 use mathlib.Core.List.{List}
 use Prim.Native.Nat.{ℕ, zero, suc, _-_, _*_, _^_, _≤_, _<_}
@@ -11,10 +12,10 @@ use lib.Seq.{getD-set-same, getD-set-other, set-out}
 use Rattle.grammar.specs.Grammar.{Form, Every, nothing, each}
 use Rattle.sets.specs.Sets.{width, emptyString, only, united}
 use Rattle.sets.specs.Calls.{setAt, stored}
-use Rattle.sets.proofs.Promise.{only-fits, united-fits, joined-fits}
+use Rattle.sets.proofs.Promise.{only-fits, united-fits, joined-fits, decides-true, decides-false}
 use Rattle.table.specs.Forms.{Narrow, narrow-token, narrow-nonterminal}
 use Rattle.table.specs.Trail.{trail, symbolSet, Grown}
-use Rattle.table.specs.Steps.{unitedAt}
+use Rattle.table.specs.Steps.{Made, unitedAt}
 use Rattle.table.proofs.Growth.{Expands, total, total-bound, total-grows}
 
 -- every set fits its width
@@ -27,39 +28,30 @@ pub record Refines (S : List ℕ → Type 0) (pass : List ℕ → List ℕ) : Ty
   pub fits : (cells : List ℕ) → Fits cells → Fits (pass cells)
   pub keeps : (cells : List ℕ) → S cells → S (pass cells)
 
--- 64 sets of which S holds so far, and one pass more
-pub record Round (S : List ℕ → Type 0) (pass : List ℕ → List ℕ) (before after : List ℕ) : Type 0 where
-  pub sized : length before ≡ 64
-  pub sized-after : length after ≡ 64
-  pub fits : Fits before
-  pub so-far : S before
-  pub next : after ≡ pass before
+-- 64 sets of which S holds so far
+pub record Round (S : List ℕ → Type 0) (cells : List ℕ) : Type 0 where
+  pub sized : length cells ≡ 64
+  pub fits : Fits cells
+  pub so-far : S cells
 
-module _ {S : List ℕ → Type 0} {pass : List ℕ → List ℕ} (refines : Refines S pass) where
-  pub round-first : {before after : List ℕ} → length before ≡ 64 → Fits before → S before → after ≡ pass before → Round S pass before after
-  round-first {before} sized fits s next = record { sized = sized; sized-after = rw next (refines .expands .keeps before ∙ sized); fits = fits; so-far = s; next = next }
+module _ {S : List ℕ → Type 0} {pass : List ℕ → List ℕ} (refines : Refines S pass) {before after : List ℕ} {r : Bool} (round : Round S before) (made : Made pass before after r) where
+  pub round-next : Round S after
+  round-next =
+      rw (made .made)
+      (record { sized = refines .expands .keeps before ∙ round .sized; fits = refines .fits before (round .fits); so-far = refines .keeps before (round .so-far) })
 
-  module _ {before after : List ℕ} (round : Round S pass before after) where
-    pub fits-after : Fits after
-    fits-after = rw (round .next) (refines .fits before (round .fits))
+  -- a pass that changes something leaves less to come
+  pub round-nearer : r ≡ false → 64 * 2 ^ width - total after < 64 * 2 ^ width - total before
+  round-nearer told =
+      let differ : before ≢ after = λ same. decides-false _ r (made .same) told (sym same) in
+      let grown : Grown before after = rw (made .made) (refines .expands .grows before) in
+      let larger : total before < total after = total-grows before after (round .sized ∙ sym (round-next .sized)) grown differ in
+      let bounded : total after ≤ 64 * 2 ^ width = rw (round-next .sized) at (total-bound (2 ^ width) after (round-next .fits .each)) in
+      omega arith
 
-    pub so-far-after : S after
-    so-far-after = rw (round .next) (refines .keeps before (round .so-far))
-
-    pub round-next : {further : List ℕ} → further ≡ pass after → Round S pass after further
-    round-next next = round-first (round .sized-after) fits-after so-far-after next
-
-    -- where it changes nothing, so does the next
-    pub round-last : before ≡ after → pass after ≡ after
-    round-last same = ap pass (sym same) ∙ sym (round .next)
-
-    -- a pass that changes something leaves less to come
-    pub round-nearer : before ≢ after → 64 * 2 ^ width - total after < 64 * 2 ^ width - total before
-    round-nearer differ =
-        let grown : Grown before after = rw (round .next) (refines .expands .grows before) in
-        let larger : total before < total after = total-grows before after (round .sized ∙ sym (round .sized-after)) grown differ in
-        let bounded : total after ≤ 64 * 2 ^ width = rw (round .sized-after) at (total-bound (2 ^ width) after (fits-after .each)) in
-        omega arith
+-- where a pass changes nothing, neither does the next
+pub round-last : {pass : List ℕ → List ℕ} {before after : List ℕ} {r : Bool} → Made pass before after r → r ≡ true → pass after ≡ after
+round-last {pass} {r = r} made told = ap pass (decides-true _ r (made .same) told) ∙ sym (made .made)
 
 none-fits : (n A : ℕ) → getD (replicate n 0) A 0 < 2 ^ width
 none-fits zero A = omega arith

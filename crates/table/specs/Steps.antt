@@ -1,6 +1,7 @@
 -- What working out FIRST and FOLLOW does to a family of sets: one production, then each once in order; and what it comes to.
 -- Document 01, "Sets and table". Only contracts inside the crate cite what stands here.
 use mathlib.Core.Path.{_≡_}
+use mathlib.Core.Bool.{Bool}
 use mathlib.Core.List.{List, [], _∷_}
 use Prim.Native.Nat.{ℕ, zero, suc, _+_, _≤_, _<_}
 use lib.ListN.{length, getD}
@@ -8,10 +9,16 @@ use Rattle.grammar.specs.declared.Symbol.{Symbol}
 use Rattle.grammar.specs.declared.Symbol.the-variants.{Token, Nonterminal}
 use Rattle.grammar.specs.Grammar.{Form, Grammar}
 use Rattle.sets.specs.Sets.{emptyString, only, united, joined}
-use Rattle.sets.specs.Calls.{setAt, stored}
+use Rattle.sets.specs.Calls.{number, Decides, setAt, stored}
 use Rattle.book.specs.Fields.{leftAt}
+use Rattle.table.specs.declared.follow.Passed.{Passed}
 use Rattle.table.specs.Trail.{symbolSet, trail, Halts, FirstAt, FollowAt}
 use Rattle.table.specs.Forms.{rightAt, tailAt, Readable, Indexes}
+
+-- a step is made on a family of sets, and settled says whether it changed nothing
+pub record Made (step : List ℕ → List ℕ) (before after : List ℕ) (settled : Bool) : Type 0 where
+  pub made : after ≡ step before
+  pub same : Decides settled (after ≡ before)
 
 -- set number n united with x
 abbrev pub unitedAt : List ℕ → ℕ → ℕ → List ℕ
@@ -26,10 +33,10 @@ unfoldable pub spread : Symbol → ℕ → List ℕ → List ℕ
 spread (Token t) x ys = ys
 spread (Nonterminal A) x ys = unitedAt ys A x
 
--- one symbol with k behind it: k adds to its FOLLOW, and r is its set joined with k
-pub record PassedOver (fs : List ℕ) (s : Symbol) (k : ℕ) (ys : List ℕ) (r : ℕ) (after : List ℕ) : Type 0 where
-  pub added : after ≡ spread s k ys
-  pub ahead : r ≡ joined emptyString (symbolSet fs s) k
+-- one symbol with k behind it: k adds to its FOLLOW, and what lies before it is its set joined with k
+pub record PassedOver (fs : List ℕ) (s : Symbol) (k : ℕ) (ys : List ℕ) (r : Passed) (after : List ℕ) : Type 0 where
+  pub added : Made (spread s k) ys after (r .settled)
+  pub ahead : number (r .ahead) ≡ joined emptyString (symbolSet fs s) k
 
 -- each symbol of a form, from the right, with the trail of what lies behind it
 unfoldable pub walked : List ℕ → ℕ → Form → List ℕ → List ℕ

@@ -164,14 +164,13 @@ pub(crate) fn enter(
     requires { ⌜ Enterable (now book) reading (now first) (now follow) (now table) ⌝ }
     ensures { λ r. ⌜ ((g : Grammar) → Serves (now (book .entry)) g → Entered g (now (table .entry)) r (now (table .exit))) ⌝ }
 {
-    let places = reading.places;
     let count = reading.productions as usize;
     let tokens = reading.tokens;
     let cells = reading.nonterminals as usize * (tokens as usize + 1);
     let mut claimed = vacant();
     tabulate(
         book,
-        &places,
+        &reading.places,
         count,
         tokens,
         first,

@@ -2,9 +2,9 @@ ghost use mathlib.Core.Path.{_≡_};
 ghost use Prim.Native.Nat.{_≤_, _<_};
 ghost use lib.ListN.{length, take};
 ghost use Rattle.sets.specs.Sets.{width, only};
-ghost use Rattle.sets.specs.Calls.{number, Decides};
+ghost use Rattle.sets.specs.Calls.{number};
 ghost use Rattle.table.specs.Calls.{over};
-ghost use Rattle.table.specs.Steps.{unitedAt};
+ghost use Rattle.table.specs.Steps.{Made, unitedAt};
 use sets::Set;
 use sets::load;
 use sets::none;
@@ -21,29 +21,13 @@ pub(crate) fn single(member: u8) -> Set
     with(none(), member)
 }
 
-// Set number n united with x.
-pub(crate) fn unite(sets: &mut [u64], n: usize, x: Set)
-    ensures { λ r. ⌜ now (sets .exit) ≡ unitedAt (now (sets .entry)) n (number x) ⌝ }
+// Set number n united with x, and whether that changed nothing.
+pub(crate) fn unite(sets: &mut [u64], n: usize, x: Set) -> bool
+    ensures { λ r. ⌜ Made (λ cells. unitedAt cells n (number x)) (now (sets .entry)) (now (sets .exit)) r ⌝ }
 {
-    let grown = union(load(sets, n), x);
-    store(sets, n, grown);
-}
-
-// Whether two families are the same.
-pub(crate) fn same_sets(one: &[u64], other: &[u64]) -> bool
-    ensures { λ r. ⌜ Decides r (now (one .entry) ≡ now (other .entry)) ⌝ }
-{
-    if one.len() != other.len() {
-        return false;
-    }
-    let mut n: usize = 0;
-    while n < one.len() {
-        if !same(load(one, n), load(other, n)) {
-            return false;
-        }
-        n += 1;
-    }
-    true
+    let before = load(sets, n);
+    store(sets, n, union(before, x));
+    same(load(sets, n), before)
 }
 
 // The first so many sets into the front of a lent buffer.

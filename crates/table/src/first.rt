@@ -1,8 +1,8 @@
 ghost use mathlib.Core.Path.{_≡_};
+ghost use lib.ListN.{replicate};
 ghost use Rattle.grammar.specs.Grammar.{Every};
 ghost use Rattle.table.specs.Forms.{rightAt, Narrow, Readable};
-ghost use Rattle.table.specs.Steps.{firstStep, firstSteps, passed, FirstFound};
-use crate::families::same_sets;
+ghost use Rattle.table.specs.Steps.{Made, firstStep, firstSteps, passed, FirstFound};
 use crate::families::single;
 use crate::families::unite;
 use crate::forms::trail_of;
@@ -11,40 +11,35 @@ use book::fields::length_at;
 use book::fields::place_at;
 use sets::EMPTY_STRING;
 
-// The right side of the record at a place adds to FIRST of its left side.
-fn first_step(book: &[u8], place: u16, first: &mut [u64])
+// The right side of the record at a place adds to FIRST of its left side, or changes nothing.
+fn first_step(book: &[u8], place: u16, first: &mut [u64]) -> bool
     requires { ⌜ Every Narrow (rightAt (now book) place) ⌝ }
-    ensures { λ r. ⌜ now (first .exit) ≡ firstStep (now (book .entry)) place (now (first .entry)) ⌝ }
+    ensures { λ r. ⌜ Made (firstStep (now (book .entry)) place) (now (first .entry)) (now (first .exit)) r ⌝ }
 {
     let at = place as usize;
     let length = length_at(book, at) as usize;
     let begun = trail_of(book, at + 4, length, first, single(EMPTY_STRING));
-    unite(first, left_at(book, at) as usize, begun.set);
+    unite(first, left_at(book, at) as usize, begun.set)
 }
 
-// Each record once, in order.
-fn first_pass(book: &[u8], places: &[u16], count: usize, first: &mut [u64])
+// Each record once, in order, and whether that changed nothing.
+fn first_pass(book: &[u8], places: &[u16], count: usize, first: &mut [u64]) -> bool
     requires { ⌜ Readable (now book) (now places) count ⌝ }
-    ensures { λ r. ⌜ now (first .exit) ≡ passed (firstSteps (now (book .entry)) (now (places .entry))) count (now (first .entry)) ⌝ }
+    ensures { λ r. ⌜ Made (passed (firstSteps (now (book .entry)) (now (places .entry))) count) (now (first .entry)) (now (first .exit)) r ⌝ }
 {
+    let mut settled = true;
     let mut p: usize = 0;
     while p < count {
-        first_step(book, place_at(places, p), first);
+        settled = settled & first_step(book, place_at(places, p), first);
         p += 1;
     }
+    settled
 }
 
-// FIRST of each nonterminal: passes until one changes nothing.
-pub(crate) fn firsts(book: &[u8], places: &[u16], count: usize) -> [u64; 64]
-    requires { ⌜ Readable (now book) (now places) count ⌝ }
-    ensures { λ r. ⌜ FirstFound (now (book .entry)) (now (places .entry)) count r ⌝ }
+// FIRST of each nonterminal, from sets without members: passes until one changes nothing.
+pub(crate) fn firsts(book: &[u8], places: &[u16], count: usize, first: &mut [u64; 64])
+    requires { ⌜ Readable (now book) (now places) count × (now first ≡ replicate 64 0) ⌝ }
+    ensures { λ r. ⌜ FirstFound (now (book .entry)) (now (places .entry)) count (now (first .exit)) ⌝ }
 {
-    let mut before = [0u64; 64];
-    let mut sets = [0u64; 64];
-    first_pass(book, places, count, &mut sets);
-    while !same_sets(&before, &sets) {
-        before = sets;
-        first_pass(book, places, count, &mut sets);
-    }
-    sets
+    while !first_pass(book, places, count, first) {}
 }

@@ -1,12 +1,11 @@
 ghost use mathlib.Core.Path.{_≡_};
 ghost use Prim.Native.Nat.{_+_, _≤_};
-ghost use lib.ListN.{getD};
+ghost use lib.ListN.{getD, replicate};
 ghost use Rattle.grammar.specs.Grammar.{Every};
 ghost use Rattle.sets.specs.Calls.{number};
 ghost use Rattle.book.specs.Fields.{symbolOfByte};
 ghost use Rattle.table.specs.Forms.{rightAt, Narrow, Readable};
-ghost use Rattle.table.specs.Steps.{PassedOver, followStep, followSteps, Walkable, passed, FollowFound};
-use crate::families::same_sets;
+ghost use Rattle.table.specs.Steps.{PassedOver, Made, followStep, followSteps, Walkable, passed, FollowFound};
 use crate::families::single;
 use crate::families::unite;
 use crate::tails::find_tails;
@@ -20,35 +19,51 @@ use sets::join;
 use sets::load;
 use sets::store;
 
-// What lies behind a symbol adds to FOLLOW of it, if it is a nonterminal, and then goes on behind what the symbol begins with.
-fn pass_over(byte: u8, first: &[u64], behind: Set, follow: &mut [u64]) -> Set
-    requires { ⌜ Narrow (symbolOfByte byte) ⌝ }
-    ensures { λ r. ⌜ PassedOver (now (first .entry)) (symbolOfByte byte) (number behind) (now (follow .entry)) (number r) (now (follow .exit)) ⌝ }
-{
-    if byte < END_MARK {
-        return single(byte);
-    }
-    let n = (byte - 128) as usize;
-    unite(follow, n, behind);
-    join(load(first, n), behind)
+// What lies before a symbol, and whether passing over the symbol changed nothing.
+pub(crate) struct Passed {
+    pub(crate) ahead: Set,
+    pub(crate) settled: bool,
 }
 
-// The symbols of the record at a place, from the right to a position: one trailer, which starts as FOLLOW of the left side.
-fn follow_step(book: &[u8], place: u16, from: u8, first: &[u64], follow: &mut [u64])
+// What lies behind a symbol adds to FOLLOW of it, if it is a nonterminal, and then goes on behind what the symbol begins with.
+fn pass_over(byte: u8, first: &[u64], behind: Set, follow: &mut [u64]) -> Passed
+    requires { ⌜ Narrow (symbolOfByte byte) ⌝ }
+    ensures { λ r. ⌜ PassedOver (now (first .entry)) (symbolOfByte byte) (number behind) (now (follow .entry)) r (now (follow .exit)) ⌝ }
+{
+    if byte < END_MARK {
+        let ahead = single(byte);
+        return Passed {
+            ahead,
+            settled: true,
+        };
+    }
+    let n = (byte - 128) as usize;
+    let settled = unite(follow, n, behind);
+    let ahead = join(load(first, n), behind);
+    Passed { ahead, settled }
+}
+
+// The symbols of the record at a place, from the right to a position: one trailer, which starts as FOLLOW of the left side. Whether that
+// changed nothing.
+fn follow_step(book: &[u8], place: u16, from: u8, first: &[u64], follow: &mut [u64]) -> bool
     requires { ⌜ Every Narrow (rightAt (now book) place) × (from ≤ getD (now book) (place + 3) 0) ⌝ }
-    ensures { λ r. ⌜ now (follow .exit) ≡ followStep (now (book .entry)) (now (first .entry)) place from (now (follow .entry)) ⌝ }
+    ensures { λ r. ⌜ Made (followStep (now (book .entry)) (now (first .entry)) place from) (now (follow .entry)) (now (follow .exit)) r ⌝ }
 {
     let at = place as usize;
     let mut trailer = load(follow, left_at(book, at) as usize);
+    let mut settled = true;
     let mut j = length_at(book, at);
     while from < j {
         j -= 1;
         let byte = byte_at(book, at + 4, j as usize);
-        trailer = pass_over(byte, first, trailer, follow);
+        let passed = pass_over(byte, first, trailer, follow);
+        trailer = passed.ahead;
+        settled = settled & passed.settled;
     }
+    settled
 }
 
-// Each record once, in order, from its position on.
+// Each record once, in order, from its position on, and whether that changed nothing.
 fn follow_pass(
     book: &[u8],
     places: &[u16],
@@ -56,39 +71,35 @@ fn follow_pass(
     first: &[u64],
     from: &[u8],
     follow: &mut [u64],
-)
+) -> bool
     requires { ⌜ Walkable (now book) (now places) count (now from) ⌝ }
-    ensures { λ r. ⌜ now (follow .exit) ≡ passed (followSteps (now (book .entry)) (now (places .entry)) (now (first .entry)) (now (from .entry))) count (now (follow .entry)) ⌝ }
+    ensures { λ r. ⌜ Made (passed (followSteps (now (book .entry)) (now (places .entry)) (now (first .entry)) (now (from .entry))) count) (now (follow .entry)) (now (follow .exit)) r ⌝ }
 {
+    let mut settled = true;
     let mut p: usize = 0;
     while p < count {
-        follow_step(book, place_at(places, p), from[p], first, follow);
+        settled = settled & follow_step(book, place_at(places, p), from[p], first, follow);
         p += 1;
     }
+    settled
 }
 
-// FOLLOW of each nonterminal, from the end mark behind the start symbol: each record once, and then their tails in passes until one
-// changes nothing.
+// FOLLOW of each nonterminal, from sets without members and the end mark behind the start symbol: each record once, and then their tails
+// in passes until one changes nothing.
 pub(crate) fn follows(
     book: &[u8],
     places: &[u16],
     count: usize,
     start: u8,
     first: &[u64],
-) -> [u64; 64]
-    requires { ⌜ Readable (now book) (now places) count × (count ≤ 128) ⌝ }
-    ensures { λ r. ⌜ FollowFound (now (book .entry)) (now (places .entry)) count start (now (first .entry)) r ⌝ }
+    follow: &mut [u64; 64],
+)
+    requires { ⌜ Readable (now book) (now places) count × (count ≤ 128) × (now follow ≡ replicate 64 0) ⌝ }
+    ensures { λ r. ⌜ FollowFound (now (book .entry)) (now (places .entry)) count start (now (first .entry)) (now (follow .exit)) ⌝ }
 {
     let mut from = [0u8; 128];
-    let mut before = [0u64; 64];
-    store(&mut before, start as usize, single(END_MARK));
-    follow_pass(book, places, count, first, &from, &mut before);
+    store(follow, start as usize, single(END_MARK));
+    follow_pass(book, places, count, first, &from, follow);
     find_tails(book, places, count, first, &mut from);
-    let mut sets = before;
-    follow_pass(book, places, count, first, &from, &mut sets);
-    while !same_sets(&before, &sets) {
-        before = sets;
-        follow_pass(book, places, count, first, &from, &mut sets);
-    }
-    sets
+    while !follow_pass(book, places, count, first, &from, follow) {}
 }

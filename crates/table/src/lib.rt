@@ -42,13 +42,15 @@ pub fn sets(book: &[u8], first: &mut [u64], follow: &mut [u64]) -> Answer
 {
     let reading = judge(book);
     let judged = reading.answer;
-    let places = reading.places;
     let count = reading.productions as usize;
     let n = reading.nonterminals as usize;
+    let start = reading.start;
     let answer = sets_room(judged, first.len(), follow.len(), n);
     if answer.number == DONE {
-        let begins = firsts(book, &places, count);
-        let ends = follows(book, &places, count, reading.start, &begins);
+        let mut begins = [0u64; 64];
+        firsts(book, &reading.places, count, &mut begins);
+        let mut ends = [0u64; 64];
+        follows(book, &reading.places, count, start, &begins, &mut ends);
         copy(&begins, n, first);
         copy(&ends, n, follow);
     }
@@ -66,11 +68,13 @@ fn fill(
     requires { ⌜ Fillable (now book) reading (now first) (now follow) (now table) ⌝ }
     ensures { λ r. ⌜ BuildOutcome (now (book .entry)) (now (first .entry)) (now (follow .entry)) (now (table .entry)) r (now (first .exit)) (now (follow .exit)) (now (table .exit)) ⌝ }
 {
-    let places = reading.places;
     let count = reading.productions as usize;
     let n = reading.nonterminals as usize;
-    let begins = firsts(book, &places, count);
-    let ends = follows(book, &places, count, reading.start, &begins);
+    let start = reading.start;
+    let mut begins = [0u64; 64];
+    firsts(book, &reading.places, count, &mut begins);
+    let mut ends = [0u64; 64];
+    follows(book, &reading.places, count, start, &begins, &mut ends);
     let entered = enter(book, reading, &begins, &ends, table);
     if entered.number == DONE {
         copy(&begins, n, first);
@@ -116,11 +120,14 @@ pub fn lookahead(book: &[u8], production: u64) -> SetAnswer
     if answer.number != DONE {
         return refused(answer);
     }
-    let places = reading.places;
     let count = reading.productions as usize;
-    let begins = firsts(book, &places, count);
-    let ends = follows(book, &places, count, reading.start, &begins);
-    let set = lookahead_at(book, place_at(&places, production as usize), &begins, &ends);
+    let start = reading.start;
+    let mut begins = [0u64; 64];
+    firsts(book, &reading.places, count, &mut begins);
+    let mut ends = [0u64; 64];
+    follows(book, &reading.places, count, start, &begins, &mut ends);
+    let place = place_at(&reading.places, production as usize);
+    let set = lookahead_at(book, place, &begins, &ends);
     SetAnswer { answer, set }
 }
 
@@ -134,8 +141,9 @@ pub fn first_of(book: &[u8], symbols: &[u8]) -> SetAnswer
     if answer.number != DONE {
         return refused(answer);
     }
-    let places = reading.places;
-    let begins = firsts(book, &places, reading.productions as usize);
+    let count = reading.productions as usize;
+    let mut begins = [0u64; 64];
+    firsts(book, &reading.places, count, &mut begins);
     let begun = trail_of(symbols, 0, symbols.len(), &begins, single(EMPTY_STRING));
     let set = begun.set;
     SetAnswer { answer, set }

@@ -1,7 +1,7 @@
 -- Where the table is entered, the sets are copied too.
-use mathlib.Core.Path.{sym}
+use mathlib.Core.Path.{refl}
 use borrow.Author.Needs.{needs}
-use Rattle.table.proofs.Answering.{given-served, given-readable, given-count, given-copies, fill-enterable, fill-refused, fill-served}
+use Rattle.table.proofs.Answering.{given-readable, given-count, given-copies, fill-enterable, fill-refused, fill-served}
 use Rattle.table.proofs.fill.Statement.{statement}
 use Rattle.table.proofs.fill.Tie as tie
 
@@ -11,20 +11,14 @@ cast-count c = search needs
 cast-n : tie.Need-cast-n
 cast-n c = search needs
 
-slice-aggregate-firsts : tie.Need-slice-aggregate-firsts
-slice-aggregate-firsts c = sym (given-served (c .before .before .before .before .before .before .before .before .pre .given) .cells)
-
 firsts-requires : tie.Need-firsts-requires
-firsts-requires c κs = given-readable (c .before .before .before .before .before .before .before .before .pre .given)
+firsts-requires c κs = (given-readable (c .before .before .before .before .before .before .before .before .pre .given), refl)
 
 slice-aggregate-follows : tie.Need-slice-aggregate-follows
-slice-aggregate-follows c = sym (given-served (c .before .before .before .before .before .before .before .before .before .before .pre .given) .cells)
-
-slice-aggregate-follows-2 : tie.Need-slice-aggregate-follows-2
-slice-aggregate-follows-2 c = search needs
+slice-aggregate-follows c = search needs
 
 follows-requires : tie.Need-follows-requires
-follows-requires c κs = (given-readable (c .before .before .before .before .before .before .before .before .before .before .before .pre .given), given-count (c .before .before .before .before .before .before .before .before .before .before .before .pre .given))
+follows-requires c κs = (given-readable (c .before .before .before .before .before .before .before .before .before .before .before .before .before .before .pre .given), given-count (c .before .before .before .before .before .before .before .before .before .before .before .before .before .before .pre .given), refl)
 
 slice-aggregate-enter : tie.Need-slice-aggregate-enter
 slice-aggregate-enter c = search needs
@@ -33,19 +27,19 @@ slice-aggregate-enter-2 : tie.Need-slice-aggregate-enter-2
 slice-aggregate-enter-2 c = search needs
 
 enter-requires : tie.Need-enter-requires
-enter-requires c κs = fill-enterable (c .before .before .before .before .before .before .before .before .before .before .before .before .before .before .before .pre) (c .before .before .before .before .before .before .firsts .ensures) (c .before .before .before .follows .ensures)
+enter-requires c κs = fill-enterable (c .before .before .before .before .before .before .before .before .before .before .before .before .before .before .before .before .before .before .pre) (c .before .before .before .before .before .before .before .before .before .firsts .ensures) (c .before .before .before .follows .ensures)
 
 slice-aggregate-copy : tie.Need-slice-aggregate-copy
 slice-aggregate-copy c = search needs
 
 copy-requires : tie.Need-copy-requires
-copy-requires c κs = given-copies (c .before .before .before .before .before .before .before .before .before .before .before .before .before .before .before .before .before .before .before .before .before .before .pre .given) (c .before .before .before .before .before .before .before .before .before .before .before .before .before .firsts .ensures .sized) (c .before .before .before .before .before .before .before .before .before .before .before .before .before .before .before .before .before .before .before .before .before .before .pre .fit .first-fits)
+copy-requires c κs = given-copies (c .before .before .before .before .before .before .before .before .before .before .before .before .before .before .before .before .before .before .before .before .before .before .before .before .before .pre .given) (c .before .before .before .before .before .before .before .before .before .before .before .before .before .before .before .before .firsts .ensures .sized) (c .before .before .before .before .before .before .before .before .before .before .before .before .before .before .before .before .before .before .before .before .before .before .before .before .before .pre .fit .first-fits)
 
 slice-aggregate-copy-2 : tie.Need-slice-aggregate-copy-2
 slice-aggregate-copy-2 c = search needs
 
 copy-requires-2 : tie.Need-copy-requires-2
-copy-requires-2 c κs = given-copies (c .before .before .before .before .before .before .before .before .before .before .before .before .before .before .before .before .before .before .before .before .before .before .before .before .before .before .before .pre .given) (c .before .before .before .before .before .before .before .before .before .before .before .before .before .before .before .follows .ensures .sized) (c .before .before .before .before .before .before .before .before .before .before .before .before .before .before .before .before .before .before .before .before .before .before .before .before .before .before .before .pre .fit .follow-fits)
+copy-requires-2 c κs = given-copies (c .before .before .before .before .before .before .before .before .before .before .before .before .before .before .before .before .before .before .before .before .before .before .before .before .before .before .before .before .before .before .pre .given) (c .before .before .before .before .before .before .before .before .before .before .before .before .before .before .before .follows .ensures .sized) (c .before .before .before .before .before .before .before .before .before .before .before .before .before .before .before .before .before .before .before .before .before .before .before .before .before .before .before .before .before .before .pre .fit .follow-fits)
 
 same-length : tie.Need-same-length
 same-length c = search needs
@@ -57,13 +51,15 @@ same-length-3 : tie.Need-same-length-3
 same-length-3 c = search needs
 
 returns : tie.Need-returns
-returns c = fill-served (c .before .before .before .before .before .before .before .before .before .before .before .before .before .before .before .before .before .before .before .before .before .before .before .before .before .before .before .before .before .before .pre) (c .before .before .before .before .before .before .before .before .before .before .before .before .before .before .before .before .before .before .before .before .before .firsts .ensures) (c .before .before .before .before .before .before .before .before .before .before .before .before .before .before .before .before .before .before .follows .ensures) (c .before .before .before .before .before .before .before .before .before .before .before .before .before .before .enter .ensures _ (c .before .before .before .before .before .before .before .before .before .before .before .before .before .before .before .before .before .before .before .before .before .before .before .before .before .before .before .before .before .before .pre .given .serves)) (c .before .before .before .before .before .before .before .before .before .before .if1 .taken) (c .before .before .before .before .before .before .before .copy .ensures) (c .before .before .copy2 .ensures)
+returns c =
+    fill-served (c .before .before .before .before .before .before .before .before .before .before .before .before .before .before .before .before .before .before .before .before .before .before .before .before .before .before .before .before .before .before .before .before .before .pre) (c .before .before .before .before .before .before .before .before .before .before .before .before .before .before .before .before .before .before .before .before .before .before .before .before .firsts .ensures) (c .before .before .before .before .before .before .before .before .before .before .before .before .before .before .before .before .before .before .follows .ensures) (c .before .before .before .before .before .before .before .before .before .before .before .before .before .before .enter .ensures _ (c .before .before .before .before .before .before .before .before .before .before .before .before .before .before .before .before .before .before .before .before .before .before .before .before .before .before .before .before .before .before .before .before .before .pre .given .serves)) (c .before .before .before .before .before .before .before .before .before .before .if1 .taken) (c .before .before .before .before .before .before .before .copy .ensures) (c .before .before .copy2 .ensures)
 
 same-length-4 : tie.Need-same-length-4
 same-length-4 c = search needs
 
 returns-2 : tie.Need-returns-2
-returns-2 c = fill-refused (c .before .before .before .before .before .before .before .before .before .before .before .before .before .before .before .before .before .before .before .before .pre) (c .before .before .before .before .before .before .before .before .before .before .before .firsts .ensures) (c .before .before .before .before .before .before .before .before .follows .ensures) (c .before .before .before .before .enter .ensures _ (c .before .before .before .before .before .before .before .before .before .before .before .before .before .before .before .before .before .before .before .before .pre .given .serves)) (c .if1 .left)
+returns-2 c =
+    fill-refused (c .before .before .before .before .before .before .before .before .before .before .before .before .before .before .before .before .before .before .before .before .before .before .before .pre) (c .before .before .before .before .before .before .before .before .before .before .before .before .before .before .firsts .ensures) (c .before .before .before .before .before .before .before .before .follows .ensures) (c .before .before .before .before .enter .ensures _ (c .before .before .before .before .before .before .before .before .before .before .before .before .before .before .before .before .before .before .before .before .before .before .before .pre .given .serves)) (c .if1 .left)
 
 pub fill-spec : {M : Type 1} → statement M
 fill-spec =
@@ -71,10 +67,8 @@ fill-spec =
     (tie.spec
     cast-count
     cast-n
-    slice-aggregate-firsts
     firsts-requires
     slice-aggregate-follows
-    slice-aggregate-follows-2
     follows-requires
     slice-aggregate-enter
     slice-aggregate-enter-2

@@ -1,8 +1,8 @@
 -- The symbols decide between a refusal and the trail of the form that they spell.
-use mathlib.Core.Path.{sym}
+use mathlib.Core.Path.{refl}
 use borrow.Author.Needs.{needs}
 use Rattle.table.specs.Checks.{SymbolString}
-use Rattle.table.proofs.Answering.{given-served, given-readable}
+use Rattle.table.proofs.Answering.{given-readable}
 use Rattle.table.proofs.SetAnswering.{Ready, spelled-ready, ready-narrow, first-refused, first-served}
 use Rattle.table.proofs.first_of.Statement.{statement}
 use Rattle.table.proofs.first_of.Tie as tie
@@ -22,14 +22,11 @@ refused-requires c κs = search needs
 returns : tie.Need-returns
 returns c = first-refused (c .before .before .before .before .before .judge .ensures) (c .before .before .before .spelled .ensures) (c .before .if1 .taken) (c .refused .ensures)
 
-slice-aggregate-firsts : tie.Need-slice-aggregate-firsts
-slice-aggregate-firsts c = sym (given-served ((ready (c .before .before)) .given) .cells)
-
-cast-firsts : tie.Need-cast-firsts
-cast-firsts c = search needs
+cast-count : tie.Need-cast-count
+cast-count c = search needs
 
 firsts-requires : tie.Need-firsts-requires
-firsts-requires c κs = given-readable ((ready (c .before .before .before)) .given)
+firsts-requires c κs = (given-readable (ready (c .before .before .before .before) .given), refl)
 
 slice-aggregate-trail-of : tie.Need-slice-aggregate-trail-of
 slice-aggregate-trail-of c = search needs
@@ -38,10 +35,10 @@ single-requires : tie.Need-single-requires
 single-requires c κs = search needs
 
 trail-of-requires : tie.Need-trail-of-requires
-trail-of-requires c κs = ready-narrow (ready (c .before .before .before .before .before .before))
+trail-of-requires c κs = ready-narrow (ready (c .before .before .before .before .before .before .before))
 
 returns-2 : tie.Need-returns-2
-returns-2 c = first-served (ready (c .before .before .before .before .before .before .before .before)) (c .before .before .before .before .firsts .ensures) (rw (c .before .before .single .ensures) at (c .before .trail-of .ensures))
+returns-2 c = first-served (ready (c .before .before .before .before .before .before .before .before .before)) (c .before .before .before .before .firsts .ensures) (rw (c .before .before .single .ensures) at (c .before .trail-of .ensures))
 
 pub first-of-spec : {M : Type 1} → statement M
 first-of-spec =
@@ -51,8 +48,7 @@ first-of-spec =
     spelled-requires
     refused-requires
     returns
-    slice-aggregate-firsts
-    cast-firsts
+    cast-count
     firsts-requires
     slice-aggregate-trail-of
     single-requires

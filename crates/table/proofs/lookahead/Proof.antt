@@ -1,8 +1,8 @@
 -- The number decides between a refusal and the lookahead.
-use mathlib.Core.Path.{sym}
+use mathlib.Core.Path.{refl}
 use Prim.Native.Nat.{_<_}
 use borrow.Author.Needs.{needs}
-use Rattle.table.proofs.Answering.{given-served, given-readable, given-count}
+use Rattle.table.proofs.Answering.{given-readable, given-count}
 use Rattle.table.proofs.SetAnswering.{Ready, numbered-ready, lookahead-refused, lookahead-served}
 use Rattle.table.proofs.lookahead.Statement.{statement}
 use Rattle.table.proofs.lookahead.Tie as tie
@@ -25,23 +25,14 @@ returns c = lookahead-refused (c .before .before .before .before .before .judge 
 cast-count : tie.Need-cast-count
 cast-count c = search needs
 
-slice-aggregate-firsts : tie.Need-slice-aggregate-firsts
-slice-aggregate-firsts c = sym (given-served ((ready (c .before .before .before)) .given) .cells)
-
 firsts-requires : tie.Need-firsts-requires
-firsts-requires c κs = given-readable ((ready (c .before .before .before)) .given)
+firsts-requires c κs = (given-readable (ready (c .before .before .before .before) .given), refl)
 
 slice-aggregate-follows : tie.Need-slice-aggregate-follows
-slice-aggregate-follows c = sym (given-served ((ready (c .before .before .before .before .before)) .given) .cells)
-
-slice-aggregate-follows-2 : tie.Need-slice-aggregate-follows-2
-slice-aggregate-follows-2 c = search needs
+slice-aggregate-follows c = search needs
 
 follows-requires : tie.Need-follows-requires
-follows-requires c κs = (given-readable ((ready (c .before .before .before .before .before .before)) .given), given-count ((ready (c .before .before .before .before .before .before)) .given))
-
-slice-aggregate-place-at : tie.Need-slice-aggregate-place-at
-slice-aggregate-place-at c = sym (given-served ((ready (c .before .before .before .before .before .before .before .before)) .given) .cells)
+follows-requires c κs = (given-readable (ready (c .before .before .before .before .before .before .before .before .before .before) .given), given-count (ready (c .before .before .before .before .before .before .before .before .before .before) .given), refl)
 
 place-at-requires : tie.Need-place-at-requires
 place-at-requires c κs = search needs
@@ -53,10 +44,10 @@ slice-aggregate-lookahead-at-2 : tie.Need-slice-aggregate-lookahead-at-2
 slice-aggregate-lookahead-at-2 c = search needs
 
 lookahead-at-requires : tie.Need-lookahead-at-requires
-lookahead-at-requires c κs = rw (c .before .before .place-at .ensures) (given-readable ((ready (c .before .before .before .before .before .before .before .before .before .before .before)) .given) .right _ ((ready (c .before .before .before .before .before .before .before .before .before .before .before)) .good))
+lookahead-at-requires c κs = rw (c .before .before .place-at .ensures) (given-readable (ready (c .before .before .before .before .before .before .before .before .before .before .before .before .before .before .before .before .before) .given) .right _ (ready (c .before .before .before .before .before .before .before .before .before .before .before .before .before .before .before .before .before) .good))
 
 returns-2 : tie.Need-returns-2
-returns-2 c = lookahead-served (ready (c .before .before .before .before .before .before .before .before .before .before .before .before)) (c .before .before .before .before .before .before .before .before .firsts .ensures) (c .before .before .before .before .before .follows .ensures) (rw (c .before .before .before .place-at .ensures) at (c .lookahead-at .ensures))
+returns-2 c = lookahead-served (ready (c .before .before .before .before .before .before .before .before .before .before .before .before .before .before .before .before .before .before)) (c .before .before .before .before .before .before .before .before .before .before .before .before .before .firsts .ensures) (c .before .before .before .before .before .before .before .follows .ensures) (rw (c .before .before .before .place-at .ensures) at (c .lookahead-at .ensures))
 
 pub lookahead-spec : {M : Type 1} → statement M
 lookahead-spec =
@@ -67,12 +58,9 @@ lookahead-spec =
     refused-requires
     returns
     cast-count
-    slice-aggregate-firsts
     firsts-requires
     slice-aggregate-follows
-    slice-aggregate-follows-2
     follows-requires
-    slice-aggregate-place-at
     place-at-requires
     slice-aggregate-lookahead-at
     slice-aggregate-lookahead-at-2

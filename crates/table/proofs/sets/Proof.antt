@@ -1,14 +1,14 @@
 -- The checks decide between a refusal and the sets; what is copied is the first N of each family.
-use mathlib.Core.Path.{sym}
+use mathlib.Core.Path.{refl}
 use borrow.Author.Needs.{needs}
-use Rattle.table.proofs.Answering.{SetsChecked, sets-checked, SetsReady, checked-ready, sets-refused, sets-served, given-served, given-copies, given-readable, given-count}
+use Rattle.table.proofs.Answering.{SetsChecked, sets-checked, SetsReady, checked-ready, sets-refused, sets-served, given-copies, given-readable, given-count}
 use Rattle.table.proofs.sets.Statement.{statement}
 use Rattle.table.proofs.sets.Tie as tie
 
-checked : (d : tie.After-sets-room) → SetsChecked (d .before .before .before .before .before .before .before .before .before .args .book .now) (d .before .before .before .before .before .judge .result) (d .before .before .before .before .before .before .before .before .before .args .first .now) (d .before .before .before .before .before .before .before .before .before .args .follow .now) (d .sets-room .result)
-checked d = sets-checked (d .before .before .before .before .before .judge .ensures) (d .sets-room .ensures)
+checked : (d : tie.After-sets-room) → SetsChecked (d .before .before .before .before .before .before .args .book .now) (d .before .before .judge .result) (d .before .before .before .before .before .before .args .first .now) (d .before .before .before .before .before .before .args .follow .now) (d .sets-room .result)
+checked d = sets-checked (d .before .before .judge .ensures) (d .sets-room .ensures)
 
-ready : (d : tie.Then1) → SetsReady (d .before .before .before .before .before .before .before .before .before .before .before .args .book .now) (d .before .before .before .before .before .before .before .judge .result) (d .before .before .before .before .before .before .before .before .before .before .before .args .first .now) (d .before .before .before .before .before .before .before .before .before .before .before .args .follow .now) (d .before .before .sets-room .result)
+ready : (d : tie.Then1) → SetsReady (d .before .before .before .before .before .before .before .before .args .book .now) (d .before .before .before .before .judge .result) (d .before .before .before .before .before .before .before .before .args .first .now) (d .before .before .before .before .before .before .before .before .args .follow .now) (d .before .before .sets-room .result)
 ready d = checked-ready (checked (d .before .before)) (d .if1 .taken)
 
 judge-requires : tie.Need-judge-requires
@@ -23,32 +23,26 @@ cast-n c = search needs
 sets-room-requires : tie.Need-sets-room-requires
 sets-room-requires c κs = search needs
 
-slice-aggregate-firsts : tie.Need-slice-aggregate-firsts
-slice-aggregate-firsts c = sym (given-served (ready (c .before) .given) .cells)
-
 firsts-requires : tie.Need-firsts-requires
-firsts-requires c κs = given-readable (ready (c .before) .given)
+firsts-requires c κs = (given-readable (ready (c .before .before .before .before) .given), refl)
 
 slice-aggregate-follows : tie.Need-slice-aggregate-follows
-slice-aggregate-follows c = sym (given-served (ready (c .before .before .before) .given) .cells)
-
-slice-aggregate-follows-2 : tie.Need-slice-aggregate-follows-2
-slice-aggregate-follows-2 c = search needs
+slice-aggregate-follows c = search needs
 
 follows-requires : tie.Need-follows-requires
-follows-requires c κs = (given-readable (ready (c .before .before .before .before) .given), given-count (ready (c .before .before .before .before) .given))
+follows-requires c κs = (given-readable (ready (c .before .before .before .before .before .before .before .before .before .before) .given), given-count (ready (c .before .before .before .before .before .before .before .before .before .before) .given), refl)
 
 slice-aggregate-copy : tie.Need-slice-aggregate-copy
 slice-aggregate-copy c = search needs
 
 copy-requires : tie.Need-copy-requires
-copy-requires c κs = let x = ready (c .before .before .before .before .before .before .before) in given-copies (x .given) (c .before .before .before .before .before .firsts .ensures .sized) (x .fit .first-fits)
+copy-requires c κs = let x = ready (c .before .before .before .before .before .before .before .before .before .before .before .before .before) in given-copies (x .given) (c .before .before .before .before .before .before .before .before .firsts .ensures .sized) (x .fit .first-fits)
 
 slice-aggregate-copy-2 : tie.Need-slice-aggregate-copy-2
 slice-aggregate-copy-2 c = search needs
 
 copy-requires-2 : tie.Need-copy-requires-2
-copy-requires-2 c κs = let x = ready (c .before .before .before .before .before .before .before .before .before .before .before .before) in given-copies (x .given) (c .before .before .before .before .before .before .before .follows .ensures .sized) (x .fit .follow-fits)
+copy-requires-2 c κs = let x = ready (c .before .before .before .before .before .before .before .before .before .before .before .before .before .before .before .before .before .before) in given-copies (x .given) (c .before .before .before .before .before .before .before .follows .ensures .sized) (x .fit .follow-fits)
 
 same-length : tie.Need-same-length
 same-length c = search needs
@@ -57,7 +51,7 @@ same-length-2 : tie.Need-same-length-2
 same-length-2 c = search needs
 
 returns : tie.Need-returns
-returns c = let x = ready (c .before .before .before .before .before .before .before .before .before .before .before .before .before .before .before) in sets-served (x .given) (c .before .before .before .before .before .before .before .before .before .before .before .before .before .firsts .ensures) (c .before .before .before .before .before .before .before .before .before .before .follows .ensures) (x .fit) (x .is) (c .before .before .before .before .before .before .before .copy .ensures) (c .before .before .copy2 .ensures)
+returns c = let x = ready (c .before .before .before .before .before .before .before .before .before .before .before .before .before .before .before .before .before .before .before .before .before) in sets-served (x .given) (c .before .before .before .before .before .before .before .before .before .before .before .before .before .before .before .before .firsts .ensures) (c .before .before .before .before .before .before .before .before .before .before .follows .ensures) (x .fit) (x .is) (c .before .before .before .before .before .before .before .copy .ensures) (c .before .before .copy2 .ensures)
 
 returns-2 : tie.Need-returns-2
 returns-2 c = sets-refused (checked (c .before .before)) (c .if1 .left)
@@ -70,10 +64,8 @@ sets-spec =
     cast-count
     cast-n
     sets-room-requires
-    slice-aggregate-firsts
     firsts-requires
     slice-aggregate-follows
-    slice-aggregate-follows-2
     follows-requires
     slice-aggregate-copy
     copy-requires

@@ -4,7 +4,7 @@ use Prim.Native.Nat.{_+_, _*_, _≤_}
 use lib.ListN.{length}
 use lib.Seq.{length-take-le}
 use borrow.Author.Needs.{needs}
-use Rattle.table.proofs.Answering.{given-served, given-size, given-most, cells-fit, enter-claimable, enter-tabulated}
+use Rattle.table.proofs.Answering.{given-size, given-most, cells-fit, enter-claimable, enter-tabulated}
 use Rattle.table.proofs.claims.enter.Statement.{statement}
 use Rattle.table.proofs.claims.enter.Tie as tie
 
@@ -27,27 +27,24 @@ vacant-requires : tie.Need-vacant-requires
 vacant-requires c κs = search needs
 
 -- as many cells are at hand as the table has
-cells-there : (d : tie.After-vacant) → d .before .before .before .before .before .before .before .before .args .reading .nonterminals * (d .before .before .before .before .before .before .before .before .args .reading .tokens + 1) ≤ length (d .vacant .result)
-cells-there d = rw (d .vacant .ensures .sized) (given-most (d .before .before .before .before .before .before .before .before .pre .given))
-
-slice-aggregate-tabulate : tie.Need-slice-aggregate-tabulate
-slice-aggregate-tabulate c = sym (given-served (c .before .before .before .before .before .before .before .before .before .pre .given) .cells)
+cells-there : (d : tie.After-vacant) → d .before .before .before .before .before .args .t2 .nonterminals * (d .before .before .before .before .before .args .t2 .tokens + 1) ≤ length (d .vacant .result)
+cells-there d = rw (d .vacant .ensures .sized) (given-most (d .before .before .before .before .before .pre .given))
 
 array-borrow-prefix-claimed : tie.Need-array-borrow-prefix-claimed
-array-borrow-prefix-claimed c = cells-there (c .before)
+array-borrow-prefix-claimed c = cells-there (c .before .before .before)
 
-slice-aggregate-tabulate-2 : tie.Need-slice-aggregate-tabulate-2
-slice-aggregate-tabulate-2 c = sym (length-take-le _ _ (cells-there (c .before .before)))
+slice-aggregate-tabulate : tie.Need-slice-aggregate-tabulate
+slice-aggregate-tabulate c = sym (length-take-le _ _ (cells-there (c .before .before .before .before)))
 
 tabulate-requires : tie.Need-tabulate-requires
 tabulate-requires c κs =
-    (enter-claimable (c .before .before .before .before .before .before .before .before .before .before .before .pre) (c .before .before .before .vacant .ensures), rw (length-take-le _ _ (cells-there (c .before .before .before)), given-size (c .before .before .before .before .before .before .before .before .before .before .before .pre .given)) (c .before .before .before .before .before .before .before .before .before .before .before .pre .room))
+    (enter-claimable (c .before .before .before .before .before .before .before .before .before .before .pre) (c .before .before .before .before .before .vacant .ensures), rw (length-take-le _ _ (cells-there (c .before .before .before .before .before)), given-size (c .before .before .before .before .before .before .before .before .before .before .pre .given)) (c .before .before .before .before .before .before .before .before .before .before .pre .room))
 
 same-length : tie.Need-same-length
 same-length c = search needs
 
 returns : tie.Need-returns
-returns c = enter-tabulated (c .before .before .before .before .before .before .before .before .before .before .before .before .before .before .before .pre) (length-take-le _ _ (cells-there (c .before .before .before .before .before .before .before))) (c .before .before .before .tabulate .ensures)
+returns c = enter-tabulated (c .before .before .before .before .before .before .before .before .before .before .before .before .before .before .pre) (length-take-le _ _ (cells-there (c .before .before .before .before .before .before .before .before .before))) (c .before .before .before .tabulate .ensures)
 
 pub enter-spec : {M : Type 1} → statement M
 enter-spec =
@@ -59,9 +56,8 @@ enter-spec =
     add-cells
     mul-cells
     vacant-requires
-    slice-aggregate-tabulate
     array-borrow-prefix-claimed
-    slice-aggregate-tabulate-2
+    slice-aggregate-tabulate
     tabulate-requires
     same-length
     returns)

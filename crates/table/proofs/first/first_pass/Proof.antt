@@ -1,24 +1,25 @@
--- The invariant: the records gone through.
+-- The invariant: the records gone through, and whether they changed nothing.
 use mathlib.Core.Path.{_≡_, refl}
 use Prim.Native.Nat.{_-_, _≤_}
 use native.Mathlib.Nat.{le-antisymm}
-use native.Mathlib.Numerals.{add-one}
 use native.Mathlib.Omega.{arith}
 use lib.ListN.{length}
 use borrow.Author.Needs.{needs}
-use Rattle.table.specs.Steps.{firstSteps, passed}
+use Rattle.table.specs.Steps.{Made, firstSteps, passed}
+use Rattle.table.proofs.Growth.{made-next}
+use Rattle.table.proofs.Found.{first-expands}
 use Rattle.table.proofs.first.first_pass.Statement.{statement}
 use Rattle.table.proofs.first.first_pass.Tie as tie
 
 abbrev Inv-loop : tie.InvT-loop
-Inv-loop book places count first₀ p₀ first p = (p ≤ count) × (length first ≡ length first₀) × (first ≡ passed (firstSteps book places) p first₀)
+Inv-loop book places count first₀ settled₀ p₀ first settled p = (p ≤ count) × (length first ≡ length first₀) × Made (passed (firstSteps book places) p) first₀ first settled
 
 abbrev μ-loop : tie.MeasureT-loop
-μ-loop book places count first₀ p₀ first p = count - p
+μ-loop book places count first₀ settled₀ p₀ first settled p = count - p
 
 loop-holds : tie.Need-loop-holds Inv-loop μ-loop
 unfolding passed
-loop-holds c = (search needs, refl, refl)
+loop-holds c = (search needs, refl, record { made = refl; same = refl })
 
 place-at-requires : tie.Need-place-at-requires Inv-loop μ-loop
 place-at-requires c κs = search needs
@@ -33,8 +34,7 @@ loop-less : tie.Need-loop-less Inv-loop μ-loop
 loop-less c = search needs
 
 loop-again : tie.Need-loop-again Inv-loop μ-loop
-unfolding passed
-loop-again c = (search needs, omega (arith, c .before .before .first-step .kept .1 .1 .0), rw (add-one, c .before .before .first-step .ensures, c .before .before .before .before .place-at .ensures, c .before .before .before .before .before .before .loop .inv .2))
+loop-again c = (search needs, omega (arith, c .before .before .first-step .kept .1 .1 .0), made-next (first-expands _ (c .before .before .before .before .before .before .before .before .before .before .args .places .now)) (c .before .before .before .before .before .before .loop .p) _ _ (c .before .before .before .before .before .before .loop .inv .2) (rw (c .before .before .before .before .place-at .ensures) at (c .before .before .first-step .ensures)))
 
 same-length : tie.Need-same-length Inv-loop μ-loop
 same-length c = search needs

@@ -33,7 +33,11 @@ same-length c = search needs
 
 returns : tie.Need-returns
 unfolding firstStep
-returns c = rw (c .before .before .unite .ensures, c .before .before .before .left-at .ensures, c .before .before .before .before .before .trail-of .ensures, c .before .before .before .before .before .before .single .ensures, c .before .before .before .before .before .before .before .before .length-at .ensures)
+returns c =
+    record {
+      made = rw (c .before .before .unite .ensures .made, c .before .before .before .left-at .ensures, c .before .before .before .before .before .trail-of .ensures, c .before .before .before .before .before .before .single .ensures, c .before .before .before .before .before .before .before .before .length-at .ensures);
+      same = c .before .before .unite .ensures .same;
+    }
 
 pub first-step-spec : {M : Type 1} → statement M
 first-step-spec =

@@ -1,25 +1,26 @@
--- The invariant: the records gone through.
+-- The invariant: the records gone through, and whether they changed nothing.
 use mathlib.Core.Path.{_≡_, refl}
 use Prim.Native.Nat.{_-_, _≤_}
 use native.Mathlib.Nat.{le-antisymm}
-use native.Mathlib.Numerals.{add-one}
 use native.Mathlib.Omega.{arith}
 use lib.ListN.{length}
 use borrow.Author.Needs.{needs}
-use Rattle.table.specs.Steps.{followSteps, passed}
+use Rattle.table.specs.Steps.{Made, followSteps, passed}
+use Rattle.table.proofs.Growth.{made-next}
+use Rattle.table.proofs.Following.{follow-expands}
 use Rattle.table.proofs.follow.follow_pass.Statement.{statement}
 use Rattle.table.proofs.follow.follow_pass.Tie as tie
 
 abbrev Inv-loop : tie.InvT-loop
-Inv-loop book places count first from follow₀ p₀ follow p =
-    (p ≤ count) × (length follow ≡ length follow₀) × (follow ≡ passed (followSteps book places first from) p follow₀)
+Inv-loop book places count first from follow₀ settled₀ p₀ follow settled p =
+    (p ≤ count) × (length follow ≡ length follow₀) × Made (passed (followSteps book places first from) p) follow₀ follow settled
 
 abbrev μ-loop : tie.MeasureT-loop
-μ-loop book places count first from follow₀ p₀ follow p = count - p
+μ-loop book places count first from follow₀ settled₀ p₀ follow settled p = count - p
 
 loop-holds : tie.Need-loop-holds Inv-loop μ-loop
 unfolding passed
-loop-holds c = (search needs, refl, refl)
+loop-holds c = (search needs, refl, record { made = refl; same = refl })
 
 place-at-requires : tie.Need-place-at-requires Inv-loop μ-loop
 place-at-requires c κs = search needs
@@ -38,11 +39,10 @@ loop-less : tie.Need-loop-less Inv-loop μ-loop
 loop-less c = search needs
 
 loop-again : tie.Need-loop-again Inv-loop μ-loop
-unfolding passed
 loop-again c = (
   search needs,
   omega (arith, c .before .before .follow-step .kept .1 .1 .1 .1 .0, c .before .before .before .before .before .before .before .loop .inv .1),
-  rw (add-one, c .before .before .follow-step .ensures, c .before .before .before .before .before .place-at .ensures, c .before .before .before .before .before .before .before .loop .inv .2),
+  made-next (follow-expands _ (c .before .before .before .before .before .before .before .before .before .before .before .before .before .args .places .now) _ (c .before .before .before .before .before .before .before .before .before .before .before .before .before .args .from .now)) (c .before .before .before .before .before .before .before .loop .p) _ _ (c .before .before .before .before .before .before .before .loop .inv .2) (rw (c .before .before .before .before .before .place-at .ensures) at (c .before .before .follow-step .ensures)),
 )
 
 same-length : tie.Need-same-length Inv-loop μ-loop

@@ -18,7 +18,7 @@ returns : tie.Need-returns
 unfolding symbolSet spread
 returns c =
     let token : c .before .before .before .before .args .byte < 128 = omega (arith, c .before .if1 .taken) in
-    rw (symbol-token _ token) (record { added = refl; ahead = c .single .ensures ∙ sym (join-token (c .before .if1 .taken) _) })
+    rw (symbol-token _ token) (record { added = record { made = refl; same = refl }; ahead = c .single .ensures ∙ sym (join-token (c .before .if1 .taken) _) })
 
 sub-n : tie.Need-sub-n
 sub-n c = narrow-high (c .before .before .before .pre) (c .if1 .left)
