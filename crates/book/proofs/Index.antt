@@ -95,6 +95,10 @@ module _ (b : List ℕ) {g : Grammar} (read : spells b ≡ reads g) where
       rw (placesIn-cell (g .productions) p (below-rule rule))
       (omega (arith, record-within rule, ap length (written-read b read), longest-book b read))
 
+  -- and ends within the book
+  pub place-within : {p A : ℕ} {β : Form} → Rule g p A β → getD (placesIn (g .productions)) p 0 + 4 + length β ≤ length b
+  place-within {p} rule = rw (placesIn-cell (g .productions) p (below-rule rule)) (omega (arith, record-within rule, ap length (written-read b read)))
+
   -- the places that are counted through the book are those of the index
   place-counted : (p : ℕ) → p ≤ length (g .productions) → placeOfRecord b p ≡ recordPlace (g .productions) p
   unfolding placeOfRecord placeAfter recordPlace recordsSize

@@ -4,7 +4,7 @@ use mathlib.Core.Path.{_≡_, refl, _∙_}
 use mathlib.Core.Logic.{_≢_, ⊎-elim}
 use mathlib.Core.List.{List}
 use mathlib.Core.Option.{some}
-use Prim.Native.Nat.{ℕ, _≤_, _<_}
+use Prim.Native.Nat.{ℕ, _+_, _≤_, _<_}
 use native.Mathlib.Omega.{arith}
 use lib.ListN.{length, getD, take, getElem?}
 use Rattle.grammar.specs.declared.Symbol.{Symbol}
@@ -16,7 +16,7 @@ use Rattle.book.specs.Answers.{done, refusal}
 use Rattle.book.specs.Book.{spells, Limits}
 use Rattle.book.specs.Fields.{leftAt, lengthAt, symbolAt}
 use Rattle.book.specs.Judging.{refusing, indexOf, Refuses, misread, useless-one, Serves, Judged, refuses, serves}
-use Rattle.book.proofs.Index.{record-indexed, symbol-indexed, place-fits, placesIn-length}
+use Rattle.book.proofs.Index.{record-indexed, symbol-indexed, place-fits, place-within, placesIn-length}
 use Rattle.book.proofs.Order.{Fault, bad-mark, extra-byte, over-limit, not-a-symbol}
 pub use Rattle.book.proofs.Bytes.{symbolOf-known}
 pub use Rattle.book.proofs.Written.{read-limits}
@@ -55,6 +55,7 @@ module _ {b : List ℕ} where
 -- what a place of the book says through the accessors: the production A → β
 pub record Entry (b : List ℕ) (at A : ℕ) (β : Form) : Type 0 where
   pub place-fits : at < 2566
+  pub within : at + 4 + length β ≤ length b
   pub length-fits : length β ≤ 16
   pub left : leftAt b at ≡ A
   pub size : lengthAt b at ≡ length β
@@ -92,6 +93,7 @@ module _ {b : List ℕ} {g : Grammar} (s : Serves b g) where
         entry = λ {p} {A} {β} rule.
             record {
               place-fits = place-fits b (s .read) rule;
+              within = place-within b (s .read) rule;
               length-fits = serves-limits .lengths-fit rule;
               left = record-indexed b (s .read) rule .left;
               size = record-indexed b (s .read) rule .size;

@@ -138,7 +138,7 @@ module _ (book places : List ℕ) (count start : ℕ) (fs : List ℕ) where
     follow-step-fits : Readable book places count → Fits fs → (p : ℕ) → p < count → (cells : List ℕ) → Fits cells → Fits (followSteps book places fs from p cells)
     unfolding followStep
     follow-step-fits readable firsts p h cells fits =
-        let narrow : Every Narrow (tailAt book (getD places p 0) (getD from p 0)) = rw (form-dropped book (getD places p 0 + 4)) (every-dropped (getD from p 0) (readable .right p h)) in
+        let narrow : Every Narrow (tailAt book (getD places p 0) (getD from p 0)) = rw (form-dropped book (getD places p 0 + 4)) (every-dropped (getD from p 0) (readable .each p h .right)) in
         walked-fits fs (setAt cells (leftAt book (getD places p 0))) firsts (fits .each (leftAt book (getD places p 0))) narrow cells fits
 
     follow-step-sound : {g : Grammar} → Indexes book places count g → FirstAt g fs → (p : ℕ) → p < count → (cells : List ℕ) → FollowSound g cells → FollowSound g (followSteps book places fs from p cells)

@@ -34,7 +34,7 @@ module _ (book places : List ℕ) (count : ℕ) where
   unfolding firstStep
   first-step-fits readable p h cells fits =
       united-at-fits cells (leftAt book (getD places p 0)) (trail cells (only emptyString) (rightAt book (getD places p 0))) fits
-      (trail-narrow cells fits (only emptyString) (only-fits width emptyString (omega arith)) (readable .right p h))
+      (trail-narrow cells fits (only emptyString) (only-fits width emptyString (omega arith)) (readable .each p h .right))
 
   first-step-sound : {g : Grammar} → Indexes book places count g → (p : ℕ) → p < count → (cells : List ℕ) → FirstSound g cells → FirstSound g (firstSteps book places p cells)
   unfolding firstStep

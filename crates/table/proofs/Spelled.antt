@@ -16,7 +16,7 @@ use Rattle.book.specs.Fields.{symbolOfByte, symbolAt, leftAt}
 use Rattle.book.specs.Book.{Limits}
 use Rattle.book.specs.Judging.{indexOf}
 use Rattle.book.proofs.Promise.{Entry, serves-limits, served, rule-below}
-use Rattle.table.specs.Forms.{formIn, rightAt, tailAt, Narrow, narrow-token, narrow-nonterminal, Readable, Indexes}
+use Rattle.table.specs.Forms.{formIn, rightAt, tailAt, Narrow, narrow-token, narrow-nonterminal, Legible, Readable, Indexes}
 
 module _ (bytes : List ℕ) where
   -- one symbol, and what lies behind it
@@ -115,5 +115,20 @@ module _ {book places : List ℕ} {count : ℕ} {g : Grammar} (index : Indexes b
   pub rule-at : (p : ℕ) → p < count → (A : ℕ) × (β : Form) × Rule g p A β
   rule-at p h = rule-below g p (omega (arith, index .counted))
 
+  record-legible : {p A : ℕ} {β : Form} → Rule g p A β → Legible book (getD places p 0)
+  record-legible rule =
+      record {
+        inside = omega (arith, entry rule .size, entry rule .within);
+        right = rw (right-is rule) (known-narrow indexes-limits (indexes-limits .well-formed .right-known rule));
+      }
+
+  cells : length places ≡ 128
+  unfolding indexOf
+  cells = rw (index .placed) (served (index .serves) {r = indexOf g} refl .cells)
+
   pub indexes-readable : Readable book places count
-  indexes-readable = record { right = λ p h. let (A, β, rule) = rule-at p h in rw (right-is rule) (known-narrow indexes-limits (indexes-limits .well-formed .right-known rule)) }
+  indexes-readable =
+      record {
+        listed = omega (arith, index .counted, cells, indexes-limits .productions-fit);
+        each = λ p h. let (A, β, rule) = rule-at p h in record-legible rule;
+      }

@@ -1,25 +1,21 @@
 ghost use mathlib.Core.Path.{_≡_};
 ghost use lib.ListN.{replicate};
-ghost use Rattle.grammar.specs.Grammar.{Every};
-ghost use Rattle.table.specs.Forms.{rightAt, Narrow, Readable};
+ghost use Rattle.table.specs.Forms.{Legible, Readable};
 ghost use Rattle.table.specs.Steps.{Made, firstStep, firstSteps, passed, FirstFound};
 use crate::families::single;
 use crate::families::unite;
 use crate::forms::trail_of;
-use book::fields::left_at;
-use book::fields::length_at;
-use book::fields::place_at;
 use sets::EMPTY_STRING;
 
 // The right side of the record at a place adds to FIRST of its left side, or changes nothing.
 fn first_step(book: &[u8], place: u16, first: &mut [u64]) -> bool
-    requires { ⌜ Every Narrow (rightAt (now book) place) ⌝ }
+    requires { ⌜ Legible (now book) place ⌝ }
     ensures { λ r. ⌜ Made (firstStep (now (book .entry)) place) (now (first .entry)) (now (first .exit)) r ⌝ }
 {
     let at = place as usize;
-    let length = length_at(book, at) as usize;
+    let length = book[at + 3] as usize;
     let begun = trail_of(book, at + 4, length, first, single(EMPTY_STRING));
-    unite(first, left_at(book, at) as usize, begun.set)
+    unite(first, book[at + 2] as usize, begun.set)
 }
 
 // Each record once, in order, and whether that changed nothing.
@@ -30,7 +26,7 @@ fn first_pass(book: &[u8], places: &[u16], count: usize, first: &mut [u64]) -> b
     let mut settled = true;
     let mut p: usize = 0;
     while p < count {
-        settled = settled & first_step(book, place_at(places, p), first);
+        settled = settled & first_step(book, places[p], first);
         p += 1;
     }
     settled

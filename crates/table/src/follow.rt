@@ -1,18 +1,13 @@
 ghost use mathlib.Core.Path.{_≡_};
 ghost use Prim.Native.Nat.{_+_, _≤_};
 ghost use lib.ListN.{getD, replicate};
-ghost use Rattle.grammar.specs.Grammar.{Every};
 ghost use Rattle.sets.specs.Calls.{number};
 ghost use Rattle.book.specs.Fields.{symbolOfByte};
-ghost use Rattle.table.specs.Forms.{rightAt, Narrow, Readable};
+ghost use Rattle.table.specs.Forms.{Narrow, Legible, Readable};
 ghost use Rattle.table.specs.Steps.{PassedOver, Made, followStep, followSteps, Walkable, passed, FollowFound};
 use crate::families::single;
 use crate::families::unite;
 use crate::tails::find_tails;
-use book::fields::byte_at;
-use book::fields::left_at;
-use book::fields::length_at;
-use book::fields::place_at;
 use sets::END_MARK;
 use sets::Set;
 use sets::join;
@@ -46,16 +41,16 @@ fn pass_over(byte: u8, first: &[u64], behind: Set, follow: &mut [u64]) -> Passed
 // The symbols of the record at a place, from the right to a position: one trailer, which starts as FOLLOW of the left side. Whether that
 // changed nothing.
 fn follow_step(book: &[u8], place: u16, from: u8, first: &[u64], follow: &mut [u64]) -> bool
-    requires { ⌜ Every Narrow (rightAt (now book) place) × (from ≤ getD (now book) (place + 3) 0) ⌝ }
+    requires { ⌜ Legible (now book) place × (from ≤ getD (now book) (place + 3) 0) ⌝ }
     ensures { λ r. ⌜ Made (followStep (now (book .entry)) (now (first .entry)) place from) (now (follow .entry)) (now (follow .exit)) r ⌝ }
 {
     let at = place as usize;
-    let mut trailer = load(follow, left_at(book, at) as usize);
+    let mut trailer = load(follow, book[at + 2] as usize);
     let mut settled = true;
-    let mut j = length_at(book, at);
+    let mut j = book[at + 3];
     while from < j {
         j -= 1;
-        let byte = byte_at(book, at + 4, j as usize);
+        let byte = book[at + 4 + j as usize];
         let passed = pass_over(byte, first, trailer, follow);
         trailer = passed.ahead;
         settled = settled & passed.settled;
@@ -78,7 +73,7 @@ fn follow_pass(
     let mut settled = true;
     let mut p: usize = 0;
     while p < count {
-        settled = settled & follow_step(book, place_at(places, p), from[p], first, follow);
+        settled = settled & follow_step(book, places[p], from[p], first, follow);
         p += 1;
     }
     settled

@@ -1,11 +1,12 @@
 ghost use mathlib.Core.Path.{_≡_};
+ghost use Prim.Native.Nat.{_+_, _≤_};
+ghost use lib.ListN.{length};
 ghost use Rattle.grammar.specs.Grammar.{Every};
 ghost use Rattle.sets.specs.Calls.{number};
 ghost use Rattle.book.specs.Fields.{symbolOfByte};
 ghost use Rattle.table.specs.Forms.{formIn, Narrow};
 ghost use Rattle.table.specs.Trail.{symbolSet, trail};
 use crate::families::single;
-use book::fields::byte_at;
 use sets::EMPTY_STRING;
 use sets::Set;
 use sets::has;
@@ -31,7 +32,7 @@ pub(crate) fn symbol_set(byte: u8, first: &[u64]) -> Set
 
 // What so many bytes from a place on can begin with, and then the set behind them: from the left, as far as all vanishes.
 pub(crate) fn trail_of(bytes: &[u8], from: usize, count: usize, first: &[u64], behind: Set) -> Trail
-    requires { ⌜ Every Narrow (formIn (now bytes) from count) ⌝ }
+    requires { ⌜ (from + count ≤ length (now bytes)) × Every Narrow (formIn (now bytes) from count) ⌝ }
     ensures { λ r. ⌜ number (r .set) ≡ trail (now (first .entry)) (number behind) (formIn (now (bytes .entry)) from count) ⌝ }
 {
     let mut begun = single(EMPTY_STRING);
@@ -40,7 +41,7 @@ pub(crate) fn trail_of(bytes: &[u8], from: usize, count: usize, first: &[u64], b
         if !has(begun, EMPTY_STRING) {
             return Trail { set: begun };
         }
-        begun = join(begun, symbol_set(byte_at(bytes, from, j), first));
+        begun = join(begun, symbol_set(bytes[from + j], first));
         j += 1;
     }
     let set = join(begun, behind);

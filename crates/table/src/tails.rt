@@ -1,26 +1,22 @@
 ghost use Prim.Native.Nat.{_≤_};
 ghost use lib.ListN.{length};
-ghost use Rattle.grammar.specs.Grammar.{Every};
-ghost use Rattle.table.specs.Forms.{rightAt, Narrow, Readable};
+ghost use Rattle.table.specs.Forms.{Legible, Readable};
 ghost use Rattle.table.specs.Steps.{TailAt, Tails};
 use crate::forms::symbol_set;
-use book::fields::byte_at;
-use book::fields::length_at;
-use book::fields::place_at;
 use sets::EMPTY_STRING;
 use sets::has;
 
 // The position of the last symbol that cannot vanish on the right side of the record at a place, or 0: what lies behind a symbol
 // before that position is the same in every pass.
 fn tail_at(book: &[u8], place: u16, first: &[u64]) -> u8
-    requires { ⌜ Every Narrow (rightAt (now book) place) ⌝ }
+    requires { ⌜ Legible (now book) place ⌝ }
     ensures { λ r. ⌜ TailAt (now (book .entry)) (now (first .entry)) place r ⌝ }
 {
     let at = place as usize;
-    let mut j = length_at(book, at);
+    let mut j = book[at + 3];
     while 0 < j {
         j -= 1;
-        let set = symbol_set(byte_at(book, at + 4, j as usize), first);
+        let set = symbol_set(book[at + 4 + j as usize], first);
         if !has(set, EMPTY_STRING) {
             return j;
         }
@@ -35,7 +31,7 @@ pub(crate) fn find_tails(book: &[u8], places: &[u16], count: usize, first: &[u64
 {
     let mut p: usize = 0;
     while p < count {
-        tails[p] = tail_at(book, place_at(places, p), first);
+        tails[p] = tail_at(book, places[p], first);
         p += 1;
     }
 }

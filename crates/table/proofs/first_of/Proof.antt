@@ -1,5 +1,6 @@
 -- The symbols decide between a refusal and the trail of the form that they spell.
 use mathlib.Core.Path.{refl}
+use native.Mathlib.Omega.{arith}
 use borrow.Author.Needs.{needs}
 use Rattle.table.specs.Checks.{SymbolString}
 use Rattle.table.proofs.Answering.{given-readable}
@@ -35,7 +36,7 @@ single-requires : tie.Need-single-requires
 single-requires c κs = search needs
 
 trail-of-requires : tie.Need-trail-of-requires
-trail-of-requires c κs = ready-narrow (ready (c .before .before .before .before .before .before .before))
+trail-of-requires c κs = (omega arith, ready-narrow (ready (c .before .before .before .before .before .before .before)))
 
 returns-2 : tie.Need-returns-2
 returns-2 c = first-served (ready (c .before .before .before .before .before .before .before .before .before)) (c .before .before .before .before .firsts .ensures) (rw (c .before .before .single .ensures) at (c .before .trail-of .ensures))

@@ -44,7 +44,7 @@ slice-aggregate-lookahead-at-2 : tie.Need-slice-aggregate-lookahead-at-2
 slice-aggregate-lookahead-at-2 c = search needs
 
 lookahead-at-requires : tie.Need-lookahead-at-requires
-lookahead-at-requires c κs = rw (c .before .before .place-at .ensures) (given-readable (ready (c .before .before .before .before .before .before .before .before .before .before .before .before .before .before .before .before .before) .given) .right _ (ready (c .before .before .before .before .before .before .before .before .before .before .before .before .before .before .before .before .before) .good))
+lookahead-at-requires c κs = rw (c .before .before .place-at .ensures) (given-readable (ready (c .before .before .before .before .before .before .before .before .before .before .before .before .before .before .before .before .before) .given) .each _ (ready (c .before .before .before .before .before .before .before .before .before .before .before .before .before .before .before .before .before) .good))
 
 returns-2 : tie.Need-returns-2
 returns-2 c = lookahead-served (ready (c .before .before .before .before .before .before .before .before .before .before .before .before .before .before .before .before .before .before)) (c .before .before .before .before .before .before .before .before .before .before .before .before .before .firsts .ensures) (c .before .before .before .before .before .before .before .follows .ensures) (rw (c .before .before .before .place-at .ensures) at (c .lookahead-at .ensures))

@@ -1,13 +1,18 @@
 -- The trail starts as the FOLLOW set that was loaded.
+use Prim.Native.Nat.{_+_}
+use native.Mathlib.Omega.{arith}
 use borrow.Author.Needs.{needs}
 use Rattle.table.proofs.ahead.lookahead_at.Statement.{statement}
 use Rattle.table.proofs.ahead.lookahead_at.Tie as tie
 
-left-at-requires : tie.Need-left-at-requires
-left-at-requires c κs = search needs
+add-load : tie.Need-add-load
+add-load c = search needs
+
+shared-slice-read-load : tie.Need-shared-slice-read-load
+shared-slice-read-load c = search needs
 
 cast-load : tie.Need-cast-load
-cast-load c = search needs
+cast-load c = record { fits = omega (arith, c .shared-slice-known4 .given (c .before .before .before .before .args .place + 2) .fits) }
 
 load-requires : tie.Need-load-requires
 load-requires c κs = search needs
@@ -15,27 +20,32 @@ load-requires c κs = search needs
 add-trail-of : tie.Need-add-trail-of
 add-trail-of c = search needs
 
-length-at-requires : tie.Need-length-at-requires
-length-at-requires c κs = search needs
+add-trail-of-2 : tie.Need-add-trail-of-2
+add-trail-of-2 c = search needs
+
+shared-slice-read-trail-of : tie.Need-shared-slice-read-trail-of
+shared-slice-read-trail-of c = search needs
 
 cast-trail-of : tie.Need-cast-trail-of
 cast-trail-of c = search needs
 
 trail-of-requires : tie.Need-trail-of-requires
-trail-of-requires c κs = rw (c .length-at .ensures) (c .before .before .before .before .before .before .pre)
+trail-of-requires c κs = search needs
 
 returns : tie.Need-returns
-returns c = rw (c .before .trail-of .ensures, c .before .before .length-at .ensures, c .before .before .before .load .ensures .loaded, c .before .before .before .before .left-at .ensures)
+returns c = rw (c .before .trail-of .ensures, c .before .before .before .load .ensures .loaded)
 
 pub lookahead-at-spec : {M : Type 1} → statement M
 lookahead-at-spec =
     tie.close
     (tie.spec
-    left-at-requires
+    add-load
+    shared-slice-read-load
     cast-load
     load-requires
     add-trail-of
-    length-at-requires
+    add-trail-of-2
+    shared-slice-read-trail-of
     cast-trail-of
     trail-of-requires
     returns)

@@ -32,7 +32,7 @@ left-at-requires : tie.Need-left-at-requires Inv-loop μ-loop
 left-at-requires c κs = search needs
 
 lookahead-at-requires : tie.Need-lookahead-at-requires Inv-loop μ-loop
-lookahead-at-requires c κs = rw (c .before .place-at .ensures) (c .before .before .before .before .before .before .before .before .before .pre .readable .right _ (c .before .before .loop-test .taken))
+lookahead-at-requires c κs = rw (c .before .place-at .ensures) (c .before .before .before .before .before .before .before .before .before .pre .readable .each _ (c .before .before .loop-test .taken))
 
 cast-claim-row : tie.Need-cast-claim-row Inv-loop μ-loop
 cast-claim-row c = omega (arith, c .before .before .before .before .before .before .before .before .before .before .pre .numbered)

@@ -21,11 +21,14 @@ loop-holds : tie.Need-loop-holds Inv-loop μ-loop
 unfolding passed
 loop-holds c = (search needs, refl, record { made = refl; same = refl })
 
-place-at-requires : tie.Need-place-at-requires Inv-loop μ-loop
-place-at-requires c κs = search needs
+mul-first-step : tie.Need-mul-first-step Inv-loop μ-loop
+mul-first-step c = search needs
+
+shared-slice-read-first-step : tie.Need-shared-slice-read-first-step Inv-loop μ-loop
+shared-slice-read-first-step c = omega (arith, c .before .before .before .before .before .before .pre .listed)
 
 first-step-requires : tie.Need-first-step-requires Inv-loop μ-loop
-first-step-requires c κs = rw (c .before .place-at .ensures) (c .before .before .before .before .before .before .before .pre .right _ (c .before .before .loop-test .taken))
+first-step-requires c κs = c .before .before .before .before .before .before .before .pre .each _ (c .before .before .loop-test .taken)
 
 add-p : tie.Need-add-p Inv-loop μ-loop
 add-p c = search needs
@@ -34,7 +37,11 @@ loop-less : tie.Need-loop-less Inv-loop μ-loop
 loop-less c = search needs
 
 loop-again : tie.Need-loop-again Inv-loop μ-loop
-loop-again c = (search needs, omega (arith, c .before .before .first-step .kept .1 .1 .0), made-next (first-expands _ (c .before .before .before .before .before .before .before .before .before .before .args .places .now)) (c .before .before .before .before .before .before .loop .p) _ _ (c .before .before .before .before .before .before .loop .inv .2) (rw (c .before .before .before .before .place-at .ensures) at (c .before .before .first-step .ensures)))
+loop-again c = (
+  search needs,
+  omega (arith, c .before .before .first-step .kept .1 .1 .0),
+  made-next (first-expands _ (c .before .before .before .before .before .before .before .before .before .before .args .places .now)) (c .before .before .before .before .before .before .loop .p) _ _ (c .before .before .before .before .before .before .loop .inv .2) (c .before .before .first-step .ensures),
+)
 
 same-length : tie.Need-same-length Inv-loop μ-loop
 same-length c = search needs
@@ -49,7 +56,8 @@ first-pass-spec =
     Inv-loop
     μ-loop
     loop-holds
-    place-at-requires
+    mul-first-step
+    shared-slice-read-first-step
     first-step-requires
     add-p
     loop-less

@@ -1,11 +1,16 @@
 -- What is united is the trail of the right side.
+use Prim.Native.Nat.{_+_}
+use native.Mathlib.Omega.{arith}
 use borrow.Author.Needs.{needs}
 use Rattle.table.specs.Steps.{firstStep}
 use Rattle.table.proofs.first.first_step.Statement.{statement}
 use Rattle.table.proofs.first.first_step.Tie as tie
 
-length-at-requires : tie.Need-length-at-requires
-length-at-requires c κs = search needs
+add-length : tie.Need-add-length
+add-length c = search needs
+
+shared-slice-read-length : tie.Need-shared-slice-read-length
+shared-slice-read-length c = omega (arith, c .before .before .before .pre .inside)
 
 cast-length : tie.Need-cast-length
 cast-length c = search needs
@@ -17,13 +22,16 @@ single-requires : tie.Need-single-requires
 single-requires c κs = search needs
 
 trail-of-requires : tie.Need-trail-of-requires
-trail-of-requires c κs = rw (c .before .before .length-at .ensures) (c .before .before .before .before .before .pre)
+trail-of-requires c κs = search needs
 
-left-at-requires : tie.Need-left-at-requires
-left-at-requires c κs = search needs
+add-unite : tie.Need-add-unite
+add-unite c = search needs
+
+shared-slice-read-unite : tie.Need-shared-slice-read-unite
+shared-slice-read-unite c = search needs
 
 cast-unite : tie.Need-cast-unite
-cast-unite c = search needs
+cast-unite c = record { fits = omega (arith, c .shared-slice-known3 .given (c .before .before .before .before .before .before .before .before .args .place + 2) .fits) }
 
 unite-requires : tie.Need-unite-requires
 unite-requires c κs = search needs
@@ -35,7 +43,7 @@ returns : tie.Need-returns
 unfolding firstStep
 returns c =
     record {
-      made = rw (c .before .before .unite .ensures .made, c .before .before .before .left-at .ensures, c .before .before .before .before .before .trail-of .ensures, c .before .before .before .before .before .before .single .ensures, c .before .before .before .before .before .before .before .before .length-at .ensures);
+      made = rw (c .before .before .unite .ensures .made, c .before .before .before .before .before .trail-of .ensures, c .before .before .before .before .before .before .single .ensures);
       same = c .before .before .unite .ensures .same;
     }
 
@@ -43,12 +51,14 @@ pub first-step-spec : {M : Type 1} → statement M
 first-step-spec =
     tie.close
     (tie.spec
-    length-at-requires
+    add-length
+    shared-slice-read-length
     cast-length
     add-trail-of
     single-requires
     trail-of-requires
-    left-at-requires
+    add-unite
+    shared-slice-read-unite
     cast-unite
     unite-requires
     same-length

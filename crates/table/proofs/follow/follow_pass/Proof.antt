@@ -22,15 +22,17 @@ loop-holds : tie.Need-loop-holds Inv-loop μ-loop
 unfolding passed
 loop-holds c = (search needs, refl, record { made = refl; same = refl })
 
-place-at-requires : tie.Need-place-at-requires Inv-loop μ-loop
-place-at-requires c κs = search needs
+mul-follow-step : tie.Need-mul-follow-step Inv-loop μ-loop
+mul-follow-step c = search needs
 
 shared-slice-read-follow-step : tie.Need-shared-slice-read-follow-step Inv-loop μ-loop
-shared-slice-read-follow-step c = omega (arith, c .before .before .before .before .before .before .before .before .before .pre .listed)
+shared-slice-read-follow-step c = omega (arith, c .before .before .before .before .before .before .before .before .pre .readable .listed)
+
+shared-slice-read-follow-step-2 : tie.Need-shared-slice-read-follow-step-2 Inv-loop μ-loop
+shared-slice-read-follow-step-2 c = omega (arith, c .before .before .before .before .before .before .before .before .before .pre .listed)
 
 follow-step-requires : tie.Need-follow-step-requires Inv-loop μ-loop
-follow-step-requires c κs =
-    (rw (c .before .before .place-at .ensures) (c .before .before .before .before .before .before .before .before .before .before .pre .readable .right _ (c .before .before .before .loop-test .taken)), rw (c .before .before .place-at .ensures) (c .before .before .before .before .before .before .before .before .before .before .pre .inside _ (c .before .before .before .loop-test .taken)))
+follow-step-requires c κs = (c .before .before .before .before .before .before .before .before .before .before .pre .readable .each _ (c .before .before .before .loop-test .taken), c .before .before .before .before .before .before .before .before .before .before .pre .inside _ (c .before .before .before .loop-test .taken))
 
 add-p : tie.Need-add-p Inv-loop μ-loop
 add-p c = search needs
@@ -42,7 +44,7 @@ loop-again : tie.Need-loop-again Inv-loop μ-loop
 loop-again c = (
   search needs,
   omega (arith, c .before .before .follow-step .kept .1 .1 .1 .1 .0, c .before .before .before .before .before .before .before .loop .inv .1),
-  made-next (follow-expands _ (c .before .before .before .before .before .before .before .before .before .before .before .before .before .args .places .now) _ (c .before .before .before .before .before .before .before .before .before .before .before .before .before .args .from .now)) (c .before .before .before .before .before .before .before .loop .p) _ _ (c .before .before .before .before .before .before .before .loop .inv .2) (rw (c .before .before .before .before .before .place-at .ensures) at (c .before .before .follow-step .ensures)),
+  made-next (follow-expands _ (c .before .before .before .before .before .before .before .before .before .before .before .before .before .args .places .now) _ (c .before .before .before .before .before .before .before .before .before .before .before .before .before .args .from .now)) (c .before .before .before .before .before .before .before .loop .p) _ _ (c .before .before .before .before .before .before .before .loop .inv .2) (c .before .before .follow-step .ensures),
 )
 
 same-length : tie.Need-same-length Inv-loop μ-loop
@@ -58,8 +60,9 @@ follow-pass-spec =
     Inv-loop
     μ-loop
     loop-holds
-    place-at-requires
+    mul-follow-step
     shared-slice-read-follow-step
+    shared-slice-read-follow-step-2
     follow-step-requires
     add-p
     loop-less

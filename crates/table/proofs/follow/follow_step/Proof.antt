@@ -24,37 +24,45 @@ Inv-loop book place from first follow₀ at trailer₀ settled₀ j₀ follow tr
 abbrev μ-loop : tie.MeasureT-loop
 μ-loop book place from first follow₀ at trailer₀ settled₀ j₀ follow trailer settled j = j
 
-left-at-requires : tie.Need-left-at-requires Inv-loop μ-loop
-left-at-requires c κs = search needs
+add-load : tie.Need-add-load Inv-loop μ-loop
+add-load c = search needs
+
+shared-slice-read-load : tie.Need-shared-slice-read-load Inv-loop μ-loop
+shared-slice-read-load c = omega (arith, c .before .before .before .before .before .pre .0 .inside)
 
 cast-load : tie.Need-cast-load Inv-loop μ-loop
-cast-load c = search needs
+cast-load c = record { fits = omega (arith, c .shared-slice-known3 .given (c .before .before .before .before .before .args .place + 2) .fits) }
 
 load-requires : tie.Need-load-requires Inv-loop μ-loop
 load-requires c κs = search needs
 
-length-at-requires : tie.Need-length-at-requires Inv-loop μ-loop
-length-at-requires c κs = search needs
+add-j : tie.Need-add-j Inv-loop μ-loop
+add-j c = search needs
+
+shared-slice-read-j : tie.Need-shared-slice-read-j Inv-loop μ-loop
+shared-slice-read-j c = omega (arith, c .before .before .before .before .before .before .before .pre .0 .inside)
 
 loop-holds : tie.Need-loop-holds Inv-loop μ-loop
 unfolding trail walked
-loop-holds c =
-    (omega (arith, c .length-at .ensures, c .before .before .before .before .before .before .before .pre .1), omega (arith, c .length-at .ensures), refl, rw (c .length-at .ensures, form-none), rw (c .length-at .ensures, form-none) (record { made = refl; same = refl }))
+loop-holds c = (c .before .before .before .before .before .before .before .pre .1, search needs, refl, rw form-none, rw form-none (record { made = refl; same = refl }))
 
 sub-j : tie.Need-sub-j Inv-loop μ-loop
 sub-j c = search needs
 
-add-byte-at : tie.Need-add-byte-at Inv-loop μ-loop
-add-byte-at c = search needs
+add-byte : tie.Need-add-byte Inv-loop μ-loop
+add-byte c = search needs
 
-cast-byte-at : tie.Need-cast-byte-at Inv-loop μ-loop
-cast-byte-at c = search needs
+cast-byte : tie.Need-cast-byte Inv-loop μ-loop
+cast-byte c = search needs
 
-byte-at-requires : tie.Need-byte-at-requires Inv-loop μ-loop
-byte-at-requires c κs = search needs
+add-byte-2 : tie.Need-add-byte-2 Inv-loop μ-loop
+add-byte-2 c = search needs
+
+shared-slice-read-byte : tie.Need-shared-slice-read-byte Inv-loop μ-loop
+shared-slice-read-byte c = omega (arith, c .before .before .before .before .before .before .before .before .before .before .pre .0 .inside, c .before .before .loop .inv .1)
 
 pass-over-requires : tie.Need-pass-over-requires Inv-loop μ-loop
-pass-over-requires c κs = rw (c .before .byte-at .ensures) (every-in _ _ _ (c .before .before .before .before .before .before .before .before .before .before .before .pre .0) _ (omega (arith, c .before .before .before .loop .inv .1, c .before .before .loop-test .taken)))
+pass-over-requires c κs = every-in _ _ _ (c .before .before .before .before .before .before .before .before .before .before .before .pre .0 .right) _ (omega (arith, c .before .before .before .loop .inv .1, c .before .before .loop-test .taken))
 
 loop-less : tie.Need-loop-less Inv-loop μ-loop
 loop-less c = search needs
@@ -65,9 +73,9 @@ loop-again c = (
   omega (arith, c .before .before .before .before .before .before .before .loop-test .taken),
   omega (arith, c .before .before .before .before .before .before .before .before .loop .inv .1),
   omega (arith, c .before .before .before .before .pass-over .kept .1 .1 .1 .0, c .before .before .before .before .before .before .before .before .loop .inv .2),
-  rw (form-turn _ _ _ _ (omega (arith, c .before .before .before .before .before .before .before .loop-test .taken)) (c .before .before .before .before .before .before .before .before .loop .inv .1), c .before .before .before .before .pass-over .ensures .ahead, c .before .before .before .before .before .before .byte-at .ensures, c .before .before .before .before .before .before .before .before .loop .inv .3),
+  rw (form-turn _ _ _ _ (omega (arith, c .before .before .before .before .before .before .before .loop-test .taken)) (c .before .before .before .before .before .before .before .before .loop .inv .1), c .before .before .before .before .pass-over .ensures .ahead, c .before .before .before .before .before .before .before .before .loop .inv .3),
   rw (form-turn _ _ _ _ (omega (arith, c .before .before .before .before .before .before .before .loop-test .taken)) (c .before .before .before .before .before .before .before .before .loop .inv .1))
-      (made-walked _ _ _ _ _ _ (c .before .before .before .before .before .before .before .before .loop .inv .4) (rw (c .before .before .before .before .before .before .byte-at .ensures, c .before .before .before .before .before .before .before .before .loop .inv .3) at (c .before .before .before .before .pass-over .ensures .added))),
+      (made-walked _ _ _ _ _ _ (c .before .before .before .before .before .before .before .before .loop .inv .4) (rw (c .before .before .before .before .before .before .before .before .loop .inv .3) at (c .before .before .before .before .pass-over .ensures .added))),
 )
 
 same-length : tie.Need-same-length Inv-loop μ-loop
@@ -78,7 +86,7 @@ unfolding followStep
 returns c =
     let there : c .before .loop .j ≡ c .before .before .before .before .before .before .before .before .before .args .from = omega (arith, c .before .loop .inv .0, c .loop-test .left) in
     record {
-      made = rw (there, c .before .before .before .load .ensures .loaded, c .before .before .before .before .left-at .ensures) at (c .before .loop .inv .4 .made);
+      made = rw (there, c .before .before .before .load .ensures .loaded) at (c .before .loop .inv .4 .made);
       same = c .before .loop .inv .4 .same;
     }
 
@@ -88,15 +96,18 @@ follow-step-spec =
     (tie.spec
     Inv-loop
     μ-loop
-    left-at-requires
+    add-load
+    shared-slice-read-load
     cast-load
     load-requires
-    length-at-requires
+    add-j
+    shared-slice-read-j
     loop-holds
     sub-j
-    add-byte-at
-    cast-byte-at
-    byte-at-requires
+    add-byte
+    cast-byte
+    add-byte-2
+    shared-slice-read-byte
     pass-over-requires
     loop-less
     loop-again

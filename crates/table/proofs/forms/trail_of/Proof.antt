@@ -34,11 +34,14 @@ has-requires c κs = search needs
 returns : tie.Need-returns Inv-loop μ-loop
 returns c = sym (join-stops _ _ (sym (c .before .has .ensures) ∙ not-true _ (c .if1 .taken))) ∙ c .before .before .before .loop .inv .1
 
-byte-at-requires : tie.Need-byte-at-requires Inv-loop μ-loop
-byte-at-requires c κs = search needs
+add-symbol-set : tie.Need-add-symbol-set Inv-loop μ-loop
+add-symbol-set c = search needs
+
+shared-slice-read-symbol-set : tie.Need-shared-slice-read-symbol-set Inv-loop μ-loop
+shared-slice-read-symbol-set c = search needs
 
 symbol-set-requires : tie.Need-symbol-set-requires Inv-loop μ-loop
-symbol-set-requires c κs = rw (c .byte-at .ensures) (every-in _ _ _ (c .before .before .before .before .before .before .before .before .pre) _ (omega arith))
+symbol-set-requires c κs = every-in _ _ _ (c .before .before .before .before .before .before .before .before .pre .1) _ (omega arith)
 
 join-requires : tie.Need-join-requires Inv-loop μ-loop
 join-requires c κs = search needs
@@ -53,7 +56,7 @@ loop-again : tie.Need-loop-again Inv-loop μ-loop
 unfolding trail
 loop-again c = (
   search needs,
-  rw (join-is (c .join .ensures), c .before .symbol-set .ensures, c .before .before .byte-at .ensures, join-assoc)
+  rw (join-is (c .join .ensures), c .before .symbol-set .ensures, join-assoc)
       (rw (form-next _ _ _ _ (c .before .before .before .before .before .loop-test .taken)) at (c .before .before .before .before .before .before .loop .inv .1)),
 )
 
@@ -74,7 +77,8 @@ trail-of-spec =
     loop-holds
     has-requires
     returns
-    byte-at-requires
+    add-symbol-set
+    shared-slice-read-symbol-set
     symbol-set-requires
     join-requires
     add-j

@@ -19,11 +19,14 @@ abbrev μ-loop : tie.MeasureT-loop
 loop-holds : tie.Need-loop-holds Inv-loop μ-loop
 loop-holds c = (search needs, refl, record { each = λ p none. absurd (omega arith) })
 
-place-at-requires : tie.Need-place-at-requires Inv-loop μ-loop
-place-at-requires c κs = search needs
+mul-tail-at : tie.Need-mul-tail-at Inv-loop μ-loop
+mul-tail-at c = search needs
+
+shared-slice-read-tail-at : tie.Need-shared-slice-read-tail-at Inv-loop μ-loop
+shared-slice-read-tail-at c = omega (arith, c .before .before .before .before .before .before .before .pre .0 .listed)
 
 tail-at-requires : tie.Need-tail-at-requires Inv-loop μ-loop
-tail-at-requires c κs = rw (c .place-at .ensures) (c .before .before .before .before .before .before .before .pre .0 .right _ (c .before .loop-test .taken))
+tail-at-requires c κs = c .before .before .before .before .before .before .before .pre .0 .each _ (c .before .loop-test .taken)
 
 slice-write-tails : tie.Need-slice-write-tails Inv-loop μ-loop
 slice-write-tails c = omega (arith, c .before .before .before .loop .inv .1, c .before .before .before .before .before .before .before .before .pre .1)
@@ -38,7 +41,7 @@ loop-again : tie.Need-loop-again Inv-loop μ-loop
 loop-again c = (
   search needs,
   rw length-set (c .before .before .before .loop .inv .1),
-  tails-next (omega (arith, c .before .before .before .loop .inv .1, c .before .before .before .before .before .before .before .before .pre .1)) (c .before .before .before .loop .inv .2) (rw (c .before .place-at .ensures) at (c .tail-at .ensures)),
+  tails-next (omega (arith, c .before .before .before .loop .inv .1, c .before .before .before .before .before .before .before .before .pre .1)) (c .before .before .before .loop .inv .2) (c .tail-at .ensures),
 )
 
 same-length : tie.Need-same-length Inv-loop μ-loop
@@ -54,7 +57,8 @@ find-tails-spec =
     Inv-loop
     μ-loop
     loop-holds
-    place-at-requires
+    mul-tail-at
+    shared-slice-read-tail-at
     tail-at-requires
     slice-write-tails
     add-p

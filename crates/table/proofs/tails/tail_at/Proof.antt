@@ -18,33 +18,39 @@ Inv-loop book place first at j₀ j = j ≤ getD book (place + 3) 0
 abbrev μ-loop : tie.MeasureT-loop
 μ-loop book place first at j₀ j = j
 
-length-at-requires : tie.Need-length-at-requires Inv-loop μ-loop
-length-at-requires c κs = search needs
+add-j : tie.Need-add-j Inv-loop μ-loop
+add-j c = search needs
+
+shared-slice-read-j : tie.Need-shared-slice-read-j Inv-loop μ-loop
+shared-slice-read-j c = omega (arith, c .before .before .before .pre .inside)
 
 loop-holds : tie.Need-loop-holds Inv-loop μ-loop
-loop-holds c = omega (arith, c .length-at .ensures)
+loop-holds c = search needs
 
 sub-j : tie.Need-sub-j Inv-loop μ-loop
 sub-j c = search needs
 
-add-byte-at : tie.Need-add-byte-at Inv-loop μ-loop
-add-byte-at c = search needs
+add-symbol-set : tie.Need-add-symbol-set Inv-loop μ-loop
+add-symbol-set c = search needs
 
-cast-byte-at : tie.Need-cast-byte-at Inv-loop μ-loop
-cast-byte-at c = search needs
+cast-symbol-set : tie.Need-cast-symbol-set Inv-loop μ-loop
+cast-symbol-set c = search needs
 
-byte-at-requires : tie.Need-byte-at-requires Inv-loop μ-loop
-byte-at-requires c κs = search needs
+add-symbol-set-2 : tie.Need-add-symbol-set-2 Inv-loop μ-loop
+add-symbol-set-2 c = search needs
+
+shared-slice-read-symbol-set : tie.Need-shared-slice-read-symbol-set Inv-loop μ-loop
+shared-slice-read-symbol-set c = omega (arith, c .before .before .before .before .before .before .pre .inside, c .before .before .loop .inv)
 
 symbol-set-requires : tie.Need-symbol-set-requires Inv-loop μ-loop
-symbol-set-requires c κs = rw (c .byte-at .ensures) (every-in _ _ _ (c .before .before .before .before .before .before .pre) _ (omega (arith, c .before .before .loop .inv, c .before .loop-test .taken)))
+symbol-set-requires c κs = every-in _ _ _ (c .before .before .before .before .before .before .pre .right) _ (omega (arith, c .before .before .loop .inv, c .before .loop-test .taken))
 
 has-requires : tie.Need-has-requires Inv-loop μ-loop
 has-requires c κs = search needs
 
 returns : tie.Need-returns Inv-loop μ-loop
 returns c =
-    let stays : member emptyString (symbolSet _ _) ≡ false = rw (c .before .before .symbol-set .ensures, c .before .before .before .byte-at .ensures) at (sym (c .before .has .ensures) ∙ not-true _ (c .if1 .taken)) in
+    let stays : member emptyString (symbolSet _ _) ≡ false = rw (c .before .before .symbol-set .ensures) at (sym (c .before .has .ensures) ∙ not-true _ (c .if1 .taken)) in
     record {
       inside = omega (arith, c .before .before .before .before .before .loop .inv);
       halts = λ positive. rw (form-turn _ _ _ _ (c .before .before .before .before .loop-test .taken) (c .before .before .before .before .before .loop .inv)) (halts-here stays);
@@ -65,12 +71,14 @@ tail-at-spec =
     (tie.spec
     Inv-loop
     μ-loop
-    length-at-requires
+    add-j
+    shared-slice-read-j
     loop-holds
     sub-j
-    add-byte-at
-    cast-byte-at
-    byte-at-requires
+    add-symbol-set
+    cast-symbol-set
+    add-symbol-set-2
+    shared-slice-read-symbol-set
     symbol-set-requires
     has-requires
     returns
