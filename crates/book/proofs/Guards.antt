@@ -41,12 +41,16 @@ module _ (b : List ℕ) (low high at : ℕ) where
       (λ t. ltb-true at (length b) t)
       (λ t. absurd (false≢true (rw (withinAt, t) at e)))
 
-  byte-within : withinAt b low high at ≡ true → within low high (getD b at 0) ≡ true
+  pub byte-within : withinAt b low high at ≡ true → within low high (getD b at 0) ≡ true
   unfolding withinAt
   byte-within e =
       by-cases (ltb at (length b))
       (λ t. rw (withinAt, t) at e)
       (λ t. absurd (false≢true (rw (withinAt, t) at e)))
+
+  pub right-inside : at < length b → within low high (getD b at 0) ≡ true → withinAt b low high at ≡ true
+  unfolding withinAt
+  right-inside inside e = simp (withinAt, lt-ltb _ _ inside, e)
 
   pub goes-on : (refusal next : ℕ) (K : Verdict → Verdict) → next ≡ at + 1 → withinAt b low high at ≡ true → K (wantedFrom b low high refusal (Next at)) ≡ K (Next next)
   unfolding wantedFrom andThen

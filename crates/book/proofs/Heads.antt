@@ -1,17 +1,23 @@
 -- The bytes that open a book and a record, in order: what the reader comes to after each right one, and at the first that is not.
-use mathlib.Core.Path.{_≡_, refl, _∙_}
-use mathlib.Core.Bool.{true, false}
+use mathlib.Core.Path.{_≡_, refl, sym, _∙_}
+use mathlib.Core.Bool.{Bool, true, false, _&&_, false≢true}
 use mathlib.Core.List.{List}
-use Prim.Native.Nat.{ℕ, _+_}
+use Prim.Native.Nat.{ℕ, _+_, _<_}
 use native.Mathlib.Nat.{add-zero}
 use native.Mathlib.Omega.{arith}
-use lib.ListN.{getD}
+use lib.Dec.{ltb}
+use lib.ListN.{length, getD}
+use borrow.Author.Tests.{lt-ltb, ltb-true}
 use Rattle.book.specs.declared.Verdict.{Verdict}
 use Rattle.book.specs.declared.Verdict.the-variants.{Next}
 use Rattle.book.specs.Refusals.{mark, limit, symbol}
-use Rattle.book.specs.Positional.{andThen, nextByte, withinAt, checkedAt, wantedFrom, symbolsFrom, markedFrom, rightFrom, recordFrom, headerFrom}
-use Rattle.book.proofs.Checked.{Passes, symbols-pass}
-use Rattle.book.proofs.Guards.{goes-on, stops-at}
+use Rattle.book.specs.Positional.{andThen, nextByte, within, withinAt, checkedAt, wantedFrom, symbolsFrom, markedFrom, rightFrom, headAt, recordFrom, headerFrom}
+use Rattle.book.proofs.Checked.{Passes, by-cases, symbols-pass}
+use Rattle.book.proofs.Guards.{byte-inside, byte-within, right-inside, goes-on, stops-at}
+
+both : (t u : Bool) → (t && u) ≡ true → (t ≡ true) × (u ≡ true)
+both true u e = (refl, e)
+both false u e = absurd (false≢true e)
 
 module _ (b : List ℕ) (T N at : ℕ) where
   abbrev from-left : Verdict → Verdict
@@ -66,6 +72,37 @@ module _ (b : List ℕ) (T N at : ℕ) where
 
         pub record-rest : withinAt b 0 17 (at + 3) ≡ true → recordFrom b T N (Next at) ≡ symbolsFrom b T N (getD b (at + 3) 0) (Next (at + 4))
         record-rest fourth = with-left ∙ goes-on b 0 17 (at + 3) limit (at + 4) from-length (omega arith) fourth
+
+-- the four bytes at once
+module _ (b : List ℕ) (N at : ℕ) where
+  module _ (head : headAt b N at ≡ true) where
+    behind-guard : (ltb (at + 3) (length b) ≡ true) × ((within 80 81 (getD b at 0) && (within 82 83 (getD b (at + 1) 0) && (within 0 N (getD b (at + 2) 0) && within 0 17 (getD b (at + 3) 0)))) ≡ true)
+    unfolding headAt
+    behind-guard = both _ _ head
+
+    pub head-inside : at + 3 < length b
+    head-inside = ltb-true _ _ (behind-guard .0)
+
+    pub record-whole : (T : ℕ) → recordFrom b T N (Next at) ≡ symbolsFrom b T N (getD b (at + 3) 0) (Next (at + 4))
+    record-whole T =
+        let (one, later) = both _ _ (behind-guard .1) in
+        let (two, last) = both _ _ later in
+        let (three, four) = both _ _ last in
+        record-rest b T N at
+        (right-inside b 80 81 (at + 0) (omega (arith, head-inside)) (rw add-zero one))
+        (right-inside b 82 83 (at + 1) (omega (arith, head-inside)) two)
+        (right-inside b 0 N (at + 2) (omega (arith, head-inside)) three)
+        (right-inside b 0 17 (at + 3) head-inside four)
+
+  -- where they do not begin a record though the first three are right, the fourth is not
+  pub head-fourth : headAt b N at ≡ false → withinAt b 80 81 (at + 0) ≡ true → withinAt b 82 83 (at + 1) ≡ true → withinAt b 0 N (at + 2) ≡ true → withinAt b 0 17 (at + 3) ≡ false
+  unfolding headAt
+  head-fourth none one two three =
+      by-cases (withinAt b 0 17 (at + 3))
+      (λ four.
+      let first : within 80 81 (getD b at 0) ≡ true = rw add-zero at (byte-within b 80 81 (at + 0) one) in
+      absurd (false≢true (sym none ∙ simp (headAt, lt-ltb _ _ (byte-inside b 0 17 (at + 3) four), first, byte-within b 82 83 (at + 1) two, byte-within b 0 N (at + 2) three, byte-within b 0 17 (at + 3) four))))
+      (λ four. four)
 
 module _ (b : List ℕ) (at : ℕ) where
   abbrev on-productions : Verdict → Verdict

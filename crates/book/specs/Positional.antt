@@ -50,6 +50,10 @@ markedFrom b one other v = wantedFrom b other (suc other) mark (wantedFrom b one
 unfoldable pub rightFrom : List ℕ → (T N : ℕ) → Verdict → Verdict
 rightFrom b T N v = symbolsFrom b T N (nextByte b v) (wantedFrom b 0 17 limit v)
 
+-- the four bytes from a place on begin a record: `PR`, a left side, the length of a right side
+unfoldable pub headAt : List ℕ → (N : ℕ) → ℕ → Bool
+headAt b N at = ltb (at + 3) (length b) && (within 80 81 (getD b at 0) && (within 82 83 (getD b (at + 1) 0) && (within 0 N (getD b (at + 2) 0) && within 0 17 (getD b (at + 3) 0))))
+
 unfoldable pub recordFrom : List ℕ → (T N : ℕ) → Verdict → Verdict
 recordFrom b T N v = rightFrom b T N (wantedFrom b 0 N symbol (markedFrom b 80 82 v))
 

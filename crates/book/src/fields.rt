@@ -1,8 +1,26 @@
 ghost use mathlib.Core.Path.{_≡_};
-ghost use Prim.Native.Nat.{_+_, _≤_, _<_, min};
+ghost use Prim.Native.Nat.{_+_, min};
 ghost use lib.ListN.{getD};
-ghost use Rattle.book.specs.Fields.{leftAt, lengthAt, symbolAt, symbolOfByte, placeAfter};
+ghost use Rattle.book.specs.Fields.{leftAt, lengthAt, symbolAt, symbolOfByte};
 use grammar::Symbol;
+
+// Where T, N, the start and P stand in the header, which begins with `GR`.
+pub(crate) const TOKENS: usize = 2;
+
+pub(crate) const NONTERMINALS: usize = 3;
+
+pub(crate) const START: usize = 4;
+
+pub(crate) const PRODUCTIONS: usize = 5;
+
+// Where the left side stands in a record, which is `PR`, the left side, the length of the right side, and its symbols.
+pub const LEFT: usize = 2;
+
+// Where the length of the right side stands in a record.
+pub const LENGTH: usize = 3;
+
+// Where the symbols of the right side start in a record.
+pub const SYMBOLS: usize = 4;
 
 // The byte at place `at + more`, 0 past the end; the sum is never formed where it could wrap.
 pub fn byte_at(book: &[u8], at: usize, more: usize) -> u8
@@ -34,14 +52,14 @@ pub fn place_at(places: &[u16], p: usize) -> u16
 pub fn left_at(book: &[u8], at: usize) -> u8
     ensures { λ r. ⌜ r ≡ leftAt (now (book .entry)) at ⌝ }
 {
-    byte_at(book, at, 2)
+    byte_at(book, at, LEFT)
 }
 
 // The length of the right side of the record at `at`.
 pub fn length_at(book: &[u8], at: usize) -> u8
     ensures { λ r. ⌜ r ≡ lengthAt (now (book .entry)) at ⌝ }
 {
-    byte_at(book, at, 3)
+    byte_at(book, at, LENGTH)
 }
 
 // The symbol that a byte of a right side stands for.
@@ -60,7 +78,7 @@ pub fn symbol_at(book: &[u8], at: usize, i: usize) -> Symbol
     ensures { λ r. ⌜ r ≡ symbolAt (now (book .entry)) at i ⌝ }
 {
     if i < book.len() {
-        symbol_of(byte_at(book, at, 4 + i))
+        symbol_of(byte_at(book, at, SYMBOLS + i))
     } else {
         Symbol::Token(0)
     }
@@ -71,13 +89,4 @@ pub(crate) fn cells_for(count: u8) -> usize
     ensures { λ r. ⌜ r ≡ min count 128 ⌝ }
 {
     if count < 128 { count as usize } else { 128 }
-}
-
-// The place after the record at `place`.
-pub(crate) fn place_after(book: &[u8], place: u16) -> u16
-    requires { ⌜ place < 65000 ⌝ }
-    ensures { λ r. ⌜ (r ≡ placeAfter (now (book .entry)) place) × (r ≤ place + 259) ⌝ }
-{
-    let length = length_at(book, place as usize);
-    place + 4 + length as u16
 }

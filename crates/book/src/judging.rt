@@ -8,6 +8,10 @@ use crate::Reading;
 use crate::Verdict;
 use crate::answers::done;
 use crate::answers::refusal;
+use crate::fields::NONTERMINALS;
+use crate::fields::PRODUCTIONS;
+use crate::fields::START;
+use crate::fields::TOKENS;
 use crate::fields::byte_at;
 use crate::fields::cells_for;
 use crate::refusals::USELESS;
@@ -34,9 +38,9 @@ fn indexed(book: &[u8]) -> Reading
     requires { ⌜ ((g : Grammar) × (spells (now book) ≡ reads g)) ⌝ }
     ensures { λ r. ⌜ Judged (now (book .entry)) r ⌝ }
 {
-    let nonterminals = byte_at(book, 0, 3);
-    let start = byte_at(book, 0, 4);
-    let productions = byte_at(book, 0, 5);
+    let nonterminals = byte_at(book, 0, NONTERMINALS);
+    let start = byte_at(book, 0, START);
+    let productions = byte_at(book, 0, PRODUCTIONS);
     let count = cells_for(productions);
     let mut places = [0u16; 128];
     let mut names = [0u64; 128];
@@ -48,7 +52,7 @@ fn indexed(book: &[u8]) -> Reading
     }
     Reading {
         answer: done(0),
-        tokens: byte_at(book, 0, 2),
+        tokens: byte_at(book, 0, TOKENS),
         nonterminals,
         start,
         productions,

@@ -1,12 +1,19 @@
 ghost use mathlib.Core.Path.{_≡_};
 ghost use mathlib.Core.Bool.{false};
-ghost use Prim.Native.Nat.{_+_, _-_, _≤_};
+ghost use Prim.Native.Nat.{ℕ, _+_, _-_, _≤_};
 ghost use lib.Dec.{ltb};
 ghost use Rattle.book.specs.declared.Verdict.the-variants.{Next};
 ghost use Rattle.book.specs.Verdicts.{placeOf};
-ghost use Rattle.book.specs.Positional.{withinAt, isSymbol, checkedAt, symbolsFrom, cutOff, recordFrom, eachRecordFrom};
+ghost use Rattle.book.specs.Positional.{within, withinAt, isSymbol, checkedAt, symbolsFrom, cutOff, headAt, recordFrom, eachRecordFrom};
 ghost use Rattle.book.specs.Positional.{headerFrom, recordsFrom, endFrom};
 use crate::Verdict;
+use crate::fields::LEFT;
+use crate::fields::LENGTH;
+use crate::fields::NONTERMINALS;
+use crate::fields::PRODUCTIONS;
+use crate::fields::START;
+use crate::fields::SYMBOLS;
+use crate::fields::TOKENS;
 use crate::fields::byte_at;
 use crate::refusals::EXTRA;
 use crate::refusals::LIMIT;
@@ -35,14 +42,19 @@ fn stands(book: &[u8], at: usize, more: usize) -> bool
     }
 }
 
+// The byte lies in `low .. high`.
+fn lies_in(byte: u8, low: u8, high: u8) -> bool
+    ensures { λ r. ⌜ r ≡ within low high byte ⌝ }
+{
+    if low <= byte { byte < high } else { false }
+}
+
 // The book has a byte at place `at + more`, and it lies in `low .. high`.
 fn is_within(book: &[u8], at: usize, more: usize, low: u8, high: u8) -> bool
     ensures { λ r. ⌜ r ≡ withinAt (now (book .entry)) low high (at + more) ⌝ }
 {
     if stands(book, at, more) {
-        let place = at + more;
-        let byte = book[place];
-        if low <= byte { byte < high } else { false }
+        lies_in(book[at + more], low, high)
     } else {
         false
     }
@@ -108,9 +120,29 @@ fn right(book: &[u8], at: usize, t: u8, n: u8, length: u8) -> Verdict
     }
 }
 
-// `PR`, the left side, the length of the right side, its symbols.
-fn record(book: &[u8], at: usize, t: u8, n: u8) -> Verdict
-    ensures { λ r. ⌜ r ≡ recordFrom (now (book .entry)) t n (Next at) ⌝ }
+// The four bytes from `at` on begin a record: `PR`, the left side, the length of the right side.
+fn is_head(book: &[u8], at: usize, n: u8) -> bool
+    ensures { λ r. ⌜ r ≡ headAt (now (book .entry)) n at ⌝ }
+{
+    if !stands(book, at, LENGTH) {
+        return false;
+    }
+    if !lies_in(book[at], b'P', b'P' + 1) {
+        return false;
+    }
+    if !lies_in(book[at + 1], b'R', b'R' + 1) {
+        return false;
+    }
+    if !lies_in(book[at + LEFT], 0, n) {
+        return false;
+    }
+    lies_in(book[at + LENGTH], 0, 17)
+}
+
+// The refusal for the first of the four bytes from `at` on that is missing or wrong.
+fn refused_head(book: &[u8], at: usize, n: u8) -> Verdict
+    requires { ⌜ headAt (now book) n at ≡ false ⌝ }
+    ensures { λ r. ⌜ ((T : ℕ) → r ≡ recordFrom (now (book .entry)) T n (Next at)) ⌝ }
 {
     if !is_within(book, at, 0, b'P', b'P' + 1) {
         return refused(book, MARK, at, 0);
@@ -118,13 +150,21 @@ fn record(book: &[u8], at: usize, t: u8, n: u8) -> Verdict
     if !is_within(book, at, 1, b'R', b'R' + 1) {
         return refused(book, MARK, at, 1);
     }
-    if !is_within(book, at, 2, 0, n) {
-        return refused(book, SYMBOL, at, 2);
+    if !is_within(book, at, LEFT, 0, n) {
+        return refused(book, SYMBOL, at, LEFT);
     }
-    if !is_within(book, at, 3, 0, 17) {
-        return refused(book, LIMIT, at, 3);
+    refused(book, LIMIT, at, LENGTH)
+}
+
+// The four bytes that begin a record, and its symbols.
+fn record(book: &[u8], at: usize, t: u8, n: u8) -> Verdict
+    ensures { λ r. ⌜ r ≡ recordFrom (now (book .entry)) t n (Next at) ⌝ }
+{
+    if is_head(book, at, n) {
+        right(book, at + SYMBOLS, t, n, book[at + LENGTH])
+    } else {
+        refused_head(book, at, n)
     }
-    right(book, at + 4, t, n, byte_at(book, at, 3))
 }
 
 // So many records from `from` on.
@@ -154,17 +194,17 @@ pub(crate) fn header(book: &[u8], at: usize) -> Verdict
     if !is_within(book, at, 1, b'R', b'R' + 1) {
         return refused(book, MARK, at, 1);
     }
-    if !is_within(book, at, 2, 1, 63) {
-        return refused(book, LIMIT, at, 2);
+    if !is_within(book, at, TOKENS, 1, 63) {
+        return refused(book, LIMIT, at, TOKENS);
     }
-    if !is_within(book, at, 3, 1, 65) {
-        return refused(book, LIMIT, at, 3);
+    if !is_within(book, at, NONTERMINALS, 1, 65) {
+        return refused(book, LIMIT, at, NONTERMINALS);
     }
-    if !is_within(book, at, 4, 0, byte_at(book, at, 3)) {
-        return refused(book, LIMIT, at, 4);
+    if !is_within(book, at, START, 0, byte_at(book, at, NONTERMINALS)) {
+        return refused(book, LIMIT, at, START);
     }
-    if !is_within(book, at, 5, 1, 129) {
-        return refused(book, LIMIT, at, 5);
+    if !is_within(book, at, PRODUCTIONS, 1, 129) {
+        return refused(book, LIMIT, at, PRODUCTIONS);
     }
     Verdict::Next(at + 6)
 }
@@ -175,9 +215,9 @@ pub(crate) fn records(book: &[u8], at: usize, v: Verdict) -> Verdict
 {
     match v {
         Verdict::Next(_) => {
-            let t = byte_at(book, 0, 2);
-            let n = byte_at(book, 0, 3);
-            each_record(book, at, t, n, byte_at(book, 0, 5))
+            let t = byte_at(book, 0, TOKENS);
+            let n = byte_at(book, 0, NONTERMINALS);
+            each_record(book, at, t, n, byte_at(book, 0, PRODUCTIONS))
         }
         Verdict::Bad(number, place) => Verdict::Bad(number, place),
     }

@@ -7,9 +7,9 @@ ghost use Rattle.sets.specs.Calls.{number, setAt};
 ghost use Rattle.book.specs.Closure.{Adds, Follows};
 ghost use Rattle.book.specs.Useful.{Single, IsNonterminal, NamedAt, Filled, Lists, Surveyed, Sides, LowestMissing, FirstUseless};
 use crate::closure::closure;
-use crate::fields::left_at;
-use crate::fields::length_at;
-use crate::fields::place_after;
+use crate::fields::LEFT;
+use crate::fields::LENGTH;
+use crate::fields::SYMBOLS;
 use crate::fields::symbol_of;
 use grammar::Symbol;
 use sets::Set;
@@ -45,7 +45,7 @@ fn names_at(book: &[u8], at: usize, length: usize) -> Set
     let mut names = none();
     let mut i: usize = 0;
     while i < length {
-        let place = at + 4 + i;
+        let place = at + SYMBOLS + i;
         names = with_symbol(names, symbol_of(book[place]));
         i += 1;
     }
@@ -68,9 +68,10 @@ pub(crate) fn survey(
     while p < count {
         places[p] = place;
         let at = place as usize;
-        store(names, p, names_at(book, at, length_at(book, at) as usize));
-        store(lefts, p, single(left_at(book, at)));
-        place = place_after(book, place);
+        let length = book[at + LENGTH];
+        store(names, p, names_at(book, at, length as usize));
+        store(lefts, p, single(book[at + LEFT]));
+        place += 4 + length as u16;
         p += 1;
     }
 }

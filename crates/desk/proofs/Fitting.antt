@@ -126,6 +126,13 @@ told-by-fits misfitting h k = record { place = h; detail = omega arith; steps = 
 told-by-fits out-of-stack h k = record { place = h; detail = omega arith; steps = k; expected = omega arith }
 told-by-fits out-of-output h k = record { place = h; detail = omega arith; steps = k; expected = omega arith }
 
+-- the productions used are of the list, and the output holds the tokens written
+pub expansion-bounded : (g : Grammar) (list stack output : List ℕ)
+    → (expansion g (counted stack) (counted output) list .progress .used ≤ length list) × (length (expansion g (counted stack) (counted output) list .progress .written) ≤ counted output)
+expansion-bounded g list stack output =
+    let counts = expand-steps (isOf g) (rightOf g) (counted stack) (counted output) list (Nonterminal (g .start) ∷ []) in
+    (counts .used, counts .written)
+
 -- of an expansion
 pub expand-fits : {book list stack output : List ℕ} {a : Answer} {stack′ output′ : List ℕ} → length book < 2 ^ 64 → ExpandOutcome book list stack output a stack′ output′ → FitsWords a
 expand-fits b (expanding.refused r) = refused-fits b r

@@ -8,15 +8,15 @@ use lib.ListN.{length}
 use Rattle.grammar.specs.Machine.{Longest}
 use Rattle.table.specs.Calls.{SetsOutcome, BuildOutcome, LookaheadOutcome, FirstOutcome}
 use Rattle.table.proofs.Promise.{sets-outcome-unique, build-outcome-unique, lookahead-outcome-unique, first-outcome-unique}
-use Rattle.run.specs.Demands.{BuildMeets2, ExpandMeets2, RunMeets2, RunMeets3, StepsAdd, Demand2Build, Demand2Expand, Demand2Back, Demand3, StepsSum}
+use Rattle.run.specs.Demands.{BuildMeets2, ExpandMeets2, RunMeets2, RunMeets3, RunStepsAdd, ExpandStepsAdd, Demand2Build, Demand2Expand, Demand2Back, Demand3, RunStepsSum, ExpandStepsSum}
 use Rattle.run.specs.Expanding.{ExpandOutcome}
 use Rattle.run.specs.Running.{RunOutcome}
-use Rattle.run.proofs.Promise.{run-outcome-unique, expand-outcome-unique, build-meets2, run-meets3, run-meets2, run-steps-add, expand-meets2}
+use Rattle.run.proofs.Promise.{run-outcome-unique, expand-outcome-unique, build-meets2, run-meets3, run-meets2, run-steps-add, expand-meets2, expand-steps-add}
 use Rattle.desk.specs.Desk.{littleEndian, answerBytes, answerSize, Lent, LentCell, JudgeOutcome, SetOutcome, JudgeCall, SetsCall, BuildCall, RunCall, ExpandCall, LookaheadCall, FirstCall}
 use Rattle.desk.specs.Demands.{CBuild, CRun, CExpand, KeepsBuildCall, KeepsRunCall, KeepsExpandCall, answerFrom, buildWith, runWith, expandWith}
 use Rattle.desk.proofs.Calls.{called-answer, called-unique, two-unique, three-unique, judge-outcome-unique, set-outcome-unique}
 use Rattle.desk.proofs.ReadBack.{FitsWords, answer-read, called-exact}
-use Rattle.desk.proofs.Fitting.{ran-bounded, run-fits, expand-fits, judge-fits, sets-fits, build-fits, lookahead-fits, first-fits}
+use Rattle.desk.proofs.Fitting.{ran-bounded, expansion-bounded, run-fits, expand-fits, judge-fits, sets-fits, build-fits, lookahead-fits, first-fits}
 
 -- any two outcomes that a call allows are equal: the number returned, and every lent buffer
 pub run-call-unique : (book table tokens stack list answer : List ℕ) {n m : ℕ} {s t l k x y : List ℕ}
@@ -105,7 +105,7 @@ module _ {answer : List ℕ} (lent : Lent answer) where
         }
 
     -- steps = productions listed + tokens matched
-    pub desk-run-steps-add : StepsAdd book table tokens stack list (record { answer = answerFrom n x; stack = s; list = l })
+    pub desk-run-steps-add : RunStepsAdd book table tokens stack list (record { answer = answerFrom n x; stack = s; list = l })
     desk-run-steps-add =
         let told = called-answer lent (c .call) in
         let read = answer-read told in
@@ -127,6 +127,21 @@ module _ {answer : List ℕ} (lent : Lent answer) where
         expands = λ {g} {w} serves d short h k.
             let (done, written) = expand-meets2 book list stack output (record { answer = told .told; stack = s; output = v }) (told .outcome) .expands serves d short h k in
             (answer-read told .number ∙ done, written);
+      }
+
+  -- steps = productions used + tokens written
+  pub desk-expand-steps-add : {book list stack output : List ℕ} {n : ℕ} {s v x : List ℕ} → ExpandCall book list stack output answer n s v x
+      → ExpandStepsAdd book list stack output (record { answer = answerFrom n x; stack = s; output = v })
+  desk-expand-steps-add {book} {list} {stack} {output} {n} {s} {v} c =
+      let told = called-answer lent (c .call) in
+      let read = answer-read told in
+      let adds = expand-steps-add book list stack output (record { answer = told .told; stack = s; output = v }) (told .outcome) in
+      record {
+        sum = λ {g} serves short k.
+            let counted = adds .sum serves short k in
+            let (used, written) = expansion-bounded g list stack output in
+            read .steps (omega arith) ∙ counted;
+        none = λ m. let zero = adds .none m in read .steps (omega arith) ∙ zero;
       }
 
   -- demand 2 of building: sets and tables have no member missing and none added, and a conflict is found exactly if two productions claim one cell
@@ -153,13 +168,17 @@ pub desk-run-back : (answer : List ℕ) → Lent answer → {run : CRun} → Kee
 unfolding runWith
 desk-run-back answer lent kept = record { call = λ book table tokens stack list. desk-run-meets2 lent (kept .keeps book table tokens stack list answer) }
 
-pub desk-run-steps-sum : (answer : List ℕ) → Lent answer → {run : CRun} → KeepsRunCall run → StepsSum (runWith answer run)
+pub desk-run-steps-sum : (answer : List ℕ) → Lent answer → {run : CRun} → KeepsRunCall run → RunStepsSum (runWith answer run)
 unfolding runWith
 desk-run-steps-sum answer lent kept = record { call = λ book table tokens stack list. desk-run-steps-add lent (kept .keeps book table tokens stack list answer) }
 
 pub desk-expand-demand2 : (answer : List ℕ) → Lent answer → {expand : CExpand} → KeepsExpandCall expand → Demand2Expand (expandWith answer expand)
 unfolding expandWith
 desk-expand-demand2 answer lent kept = record { call = λ book list stack output. desk-expand-meets2 lent (kept .keeps book list stack output answer) }
+
+pub desk-expand-steps-sum : (answer : List ℕ) → Lent answer → {expand : CExpand} → KeepsExpandCall expand → ExpandStepsSum (expandWith answer expand)
+unfolding expandWith
+desk-expand-steps-sum answer lent kept = record { call = λ book list stack output. desk-expand-steps-add lent (kept .keeps book list stack output answer) }
 
 pub desk-build-demand2 : (answer : List ℕ) → Lent answer → {build : CBuild} → KeepsBuildCall build → Demand2Build (buildWith answer build)
 unfolding buildWith

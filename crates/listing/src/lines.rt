@@ -10,12 +10,10 @@ use crate::words::numbers_line;
 use crate::words::opening;
 use book::Answer;
 use book::Reading;
+use table::VACANT;
 use text::decimal;
 use text::hexadecimal;
 use text::put;
-
-// What a cell holds where no production claims it.
-const VACANT: u8 = 255;
 
 // The refusal's number, place and detail.
 pub(crate) fn refused_line(out: &mut [u8], answer: Answer) -> usize

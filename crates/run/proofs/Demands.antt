@@ -15,7 +15,7 @@ use Rattle.book.specs.Judging.{Serves}
 use Rattle.book.specs.Refusals.{room, syntax, production}
 use Rattle.table.specs.Calls.{over, BuildOutcome}
 use Rattle.table.specs.Table.{cellOf}
-use Rattle.run.specs.Demands.{Built, Ran, Expanded, Builder, Runner, Expander, Premises, BuildMeets2, ExpandMeets2, RunMeets2, RunMeets3, StepsAdd, Demand2Build, Demand2Expand, Demand2Back, Demand3, StepsSum}
+use Rattle.run.specs.Demands.{Built, Ran, Expanded, Builder, Runner, Expander, Premises, BuildMeets2, ExpandMeets2, RunMeets2, RunMeets3, RunStepsAdd, ExpandStepsAdd, Demand2Build, Demand2Expand, Demand2Back, Demand3, RunStepsSum, ExpandStepsSum}
 use Rattle.run.specs.Expanding.{ExpandOutcome, expansion}
 use Rattle.run.specs.Promised.{KeepsBuild, KeepsRun, KeepsExpand}
 use Rattle.run.specs.Room.{peak, LongestList}
@@ -70,7 +70,7 @@ module _ (book table tokens stack list : List ℕ) (r : Ran) (o : RunOutcome boo
       record { back = λ {ps} h d l k. let (answer, listed) = runs-back h stack list d l k (run-begins book table tokens stack list r o h) in (ap (λ (a : Answer). a .number) answer, listed) }
 
   -- steps = productions listed + tokens matched, in every answer: where steps do not begin, none is counted
-  pub run-steps-add : StepsAdd book table tokens stack list r
+  pub run-steps-add : RunStepsAdd book table tokens stack list r
   run-steps-add = record { sum = λ {g} s a. ends-steps (run-ends book table tokens stack list r o s a); none = λ n. before-steps n o .0 }
 
   -- where steps do not begin, nothing is changed
@@ -103,10 +103,14 @@ module _ (book list stack output : List ℕ) (r : Expanded) (o : ExpandOutcome b
   pub expand-meets2 : ExpandMeets2 book list stack output r
   expand-meets2 = record { expands = λ {g} {w} s d short h k. expands-to g list stack output d h k (expansion-begins book list stack output r o s short) }
 
-  -- where steps do not begin, none is counted, and nothing is changed
-  pub expand-before-steps : ((g : Grammar) → Serves book g → length list ≤ 65535 → 1 ≤ length stack → ⊥)
-      → (r .answer .steps ≡ 0) × (r .stack ≡ stack) × (r .output ≡ output)
-  expand-before-steps n = expansion-before-steps n o
+  -- steps = productions used + tokens written, in every answer: where steps do not begin, none is counted
+  pub expand-steps-add : ExpandStepsAdd book list stack output r
+  expand-steps-add =
+      record { sum = λ {g} s short k. ends-moves g list stack output (expansion-ends book list stack output r o s short k); none = λ n. expansion-before-steps n o .0 }
+
+  -- where steps do not begin, nothing is changed
+  pub expand-before-steps : ((g : Grammar) → Serves book g → length list ≤ 65535 → 1 ≤ length stack → ⊥) → (r .stack ≡ stack) × (r .output ≡ output)
+  expand-before-steps n = let (steps, stacked, written) = expansion-before-steps n o in (stacked, written)
 
   module _ {g : Grammar} (s : Serves book g) (short : length list ≤ 65535) where
     -- with room it is done exactly if the list is complete
@@ -131,18 +135,15 @@ module _ (book list stack output : List ℕ) (r : Expanded) (o : ExpandOutcome b
         × ((r .answer .number ≡ room) ↔ ((counted stack < peak d) ⊎ (counted output < length w)))
     expand-room-iff d = complete-room-iff g list stack output d (expansion-begins book list stack output r o s short)
 
-    -- steps = productions used + tokens written
-    pub expand-steps-sum : 1 ≤ length stack
-        → r .answer .steps
-        ≡ expansion g (counted stack) (counted output) list .progress .used + length (expansion g (counted stack) (counted output) list .progress .written)
-    expand-steps-sum k = ends-moves g list stack output (expansion-ends book list stack output r o s short k)
-
 -- whatever keeps a promise for all inputs meets the demand
 pub build-demand2 : {build : Builder} → KeepsBuild build → Demand2Build build
 build-demand2 {build} kept = record { call = λ book first follow table. build-meets2 book first follow table (build book first follow table) (kept .keeps book first follow table) }
 
 pub expand-demand2 : {expand : Expander} → KeepsExpand expand → Demand2Expand expand
 expand-demand2 {expand} kept = record { call = λ book list stack output. expand-meets2 book list stack output (expand book list stack output) (kept .keeps book list stack output) }
+
+pub expand-steps-sum : {expand : Expander} → KeepsExpand expand → ExpandStepsSum expand
+expand-steps-sum {expand} kept = record { call = λ book list stack output. expand-steps-add book list stack output (expand book list stack output) (kept .keeps book list stack output) }
 
 module _ {run : Runner} (kept : KeepsRun run) where
   pub run-back : Demand2Back run
@@ -151,7 +152,7 @@ module _ {run : Runner} (kept : KeepsRun run) where
   pub run-demand3 : Demand3 run
   run-demand3 = record { call = λ book table tokens stack list. run-meets3 book table tokens stack list (run book table tokens stack list) (kept .keeps book table tokens stack list) }
 
-  pub run-steps-sum : StepsSum run
+  pub run-steps-sum : RunStepsSum run
   run-steps-sum = record { call = λ book table tokens stack list. run-steps-add book table tokens stack list (run book table tokens stack list) (kept .keeps book table tokens stack list) }
 
 module _ {run : Runner} {expand : Expander} (runs : KeepsRun run) (expands : KeepsExpand expand) (book table : List ℕ) where

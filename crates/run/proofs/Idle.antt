@@ -19,7 +19,7 @@ use Rattle.table.specs.Calls.{over}
 use Rattle.table.specs.Table.{held, TableOf, cellOf}
 use Rattle.book.proofs.Promise.{house-serves}
 use Rattle.table.proofs.Promise.{table-unique, house-table-of, house-built}
-use Rattle.run.specs.Demands.{Builder, Runner, Expander, Ran, Premises, BuildMeets2, ExpandMeets2, RunMeets2, RunMeets3, StepsAdd}
+use Rattle.run.specs.Demands.{Builder, Runner, Expander, Ran, Premises, BuildMeets2, ExpandMeets2, RunMeets2, RunMeets3, RunStepsAdd}
 use Rattle.book.specs.Examples.{houseBook}
 use Rattle.table.specs.Examples.{houseTable}
 use Rattle.run.specs.Idle.{RefusesEverything, FixedOutput, FixedList, LeavesList, LeavesTable, JudgesAtFirst, InventsSteps, writing, writingOutput, untouching, untouchingBuild, judged, judgingFirst}
@@ -185,17 +185,17 @@ admits-and : Admits house houseTable stringAnd nines
 unfolding below
 admits-and = house-admits stringAnd (omega arith) tt nines (omega arith)
 
-steps-in : (r : Ran) → StepsAdd houseBook houseTable stringIn nines nines r → r .answer .steps ≡ 8
+steps-in : (r : Ran) → RunStepsAdd houseBook houseTable stringIn nines nines r → r .answer .steps ≡ 8
 unfolding house houseTable begun meets popped replaced used facing offer runFrom rightOf cellOf held ran final
 steps-in r adds = adds .sum house-serves admits-in
 
-steps-and : (r : Ran) → StepsAdd houseBook houseTable stringAnd nines nines r → r .answer .steps ≡ 11
+steps-and : (r : Ran) → RunStepsAdd houseBook houseTable stringAnd nines nines r → r .answer .steps ≡ 11
 unfolding house houseTable begun meets popped replaced used facing offer runFrom rightOf cellOf held ran final
 steps-and r adds = adds .sum house-serves admits-and
 
 -- one that invents steps breaks their equation with listed productions and matched tokens
 pub invents-steps-fails : {run : Runner} → InventsSteps run
-    → StepsAdd houseBook houseTable stringIn nines nines (run houseBook houseTable stringIn nines nines) → ¬ StepsAdd houseBook houseTable stringAnd nines nines (run houseBook houseTable stringAnd nines nines)
+    → RunStepsAdd houseBook houseTable stringIn nines nines (run houseBook houseTable stringIn nines nines) → ¬ RunStepsAdd houseBook houseTable stringAnd nines nines (run houseBook houseTable stringAnd nines nines)
 invents-steps-fails idle adds-in adds-and =
     let one = idle .told houseBook houseTable stringIn nines nines house-serves admits-in in
     let other = idle .told houseBook houseTable stringAnd nines nines house-serves admits-and in

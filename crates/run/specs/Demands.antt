@@ -16,6 +16,7 @@ use Rattle.table.specs.Table.{size, TableOf, BuiltWithoutConflict}
 use Rattle.run.specs.Room.{peak}
 use Rattle.run.specs.Machine.{final}
 use Rattle.run.specs.Running.{counted, Admits, ran}
+use Rattle.run.specs.Expanding.{expansion}
 
 -- what building leaves: the answer, both set buffers, the table
 pub record Built : Type 0 where
@@ -88,9 +89,15 @@ pub record RunMeets3 (book table tokens stack list : List ℕ) (r : Ran) : Type 
 
 -- steps = productions listed + tokens matched, as the definition's machine counts them (that the list holds these is in the outcome); 0 in an
 -- answer before steps
-pub record StepsAdd (book table tokens stack list : List ℕ) (r : Ran) : Type 0 where
+pub record RunStepsAdd (book table tokens stack list : List ℕ) (r : Ran) : Type 0 where
   pub sum : {g : Grammar} → Serves book g → Admits g table tokens stack → r .answer .steps ≡ length (final (ran g table tokens stack list) .listed) + final (ran g table tokens stack list) .matched
   pub none : ((g : Grammar) → Serves book g → ¬ Admits g table tokens stack) → r .answer .steps ≡ 0
+
+-- steps = productions used + tokens written, as the definition counts them; 0 in an answer before steps
+pub record ExpandStepsAdd (book list stack output : List ℕ) (r : Expanded) : Type 0 where
+  pub sum : {g : Grammar} → Serves book g → length list ≤ 65535 → 1 ≤ length stack
+      → r .answer .steps ≡ expansion g (counted stack) (counted output) list .progress .used + length (expansion g (counted stack) (counted output) list .progress .written)
+  pub none : ((g : Grammar) → Serves book g → length list ≤ 65535 → 1 ≤ length stack → ⊥) → r .answer .steps ≡ 0
 
 -- the demands of an outcome function: every call meets them
 pub record Demand2Build (build : Builder) : Type 0 where
@@ -105,5 +112,8 @@ pub record Demand2Back (run : Runner) : Type 0 where
 pub record Demand3 (run : Runner) : Type 0 where
   pub call : (book table tokens stack list : List ℕ) → RunMeets3 book table tokens stack list (run book table tokens stack list)
 
-pub record StepsSum (run : Runner) : Type 0 where
-  pub call : (book table tokens stack list : List ℕ) → StepsAdd book table tokens stack list (run book table tokens stack list)
+pub record RunStepsSum (run : Runner) : Type 0 where
+  pub call : (book table tokens stack list : List ℕ) → RunStepsAdd book table tokens stack list (run book table tokens stack list)
+
+pub record ExpandStepsSum (expand : Expander) : Type 0 where
+  pub call : (book list stack output : List ℕ) → ExpandStepsAdd book list stack output (expand book list stack output)

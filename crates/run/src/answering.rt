@@ -5,7 +5,6 @@ use crate::Cause;
 use crate::Outline;
 use crate::Progress;
 use crate::Reply;
-use crate::moves::VACANT;
 use crate::moves::cell_at;
 use book::Answer;
 use book::answers::done;
@@ -19,6 +18,7 @@ use sets::Set;
 use sets::column_bit;
 use sets::none;
 use sets::with;
+use table::VACANT;
 
 // The set with column j of row n added, where that cell is filled.
 fn with_column(columns: Set, table: &[u8], outline: Outline, n: u8, j: u8) -> Set

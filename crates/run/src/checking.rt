@@ -7,19 +7,19 @@ ghost use Rattle.run.specs.Checking.{FirstMisfit, FirstAbove, Checked};
 ghost use Rattle.run.specs.Moves.{outlined, Lefts};
 ghost use Rattle.run.specs.Running.{Fits};
 use crate::Outline;
-use crate::moves::LEFT;
-use crate::moves::VACANT;
 use crate::moves::cell_at;
 use crate::moves::gather;
 use crate::turns::is_of;
 use book::Answer;
 use book::answers::done;
 use book::answers::refusal;
+use book::fields::LEFT;
 use book::refusals::LIMIT;
 use book::refusals::ROOM;
 use book::refusals::STACK_ROOM;
 use book::refusals::TABLE;
 use book::refusals::TOKEN;
+use table::VACANT;
 
 // How many tokens a run takes.
 const MOST_TOKENS: usize = 4096;

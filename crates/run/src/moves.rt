@@ -21,18 +21,10 @@ use book::fields::byte_at;
 use book::fields::place_at;
 use book::fields::symbol_of;
 use grammar::Symbol;
-
-// What a table cell holds where no production is.
-pub(crate) const VACANT: u8 = 255;
+use table::VACANT;
 
 // How many cells of a lent buffer count.
 pub(crate) const MOST_CELLS: usize = 65535;
-
-// Where in a record its left side stands.
-pub(crate) const LEFT: usize = 2;
-
-// Where in a record the length of its right side stands.
-pub(crate) const LENGTH: usize = 3;
 
 // The numbers of a reading.
 pub(crate) fn outline_of(reading: Reading) -> Outline

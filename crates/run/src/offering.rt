@@ -18,7 +18,6 @@ use crate::Move;
 use crate::Outline;
 use crate::Progress;
 use crate::Reply;
-use crate::moves::LENGTH;
 use crate::moves::MOST_CELLS;
 use crate::moves::choose;
 use crate::moves::counts;
@@ -28,6 +27,7 @@ use crate::moves::outline_of;
 use crate::moves::right_length;
 use crate::stack::replace;
 use book::Reading;
+use book::fields::LENGTH;
 use book::fields::place_at;
 
 // The offer ends: a token that is matched is popped.

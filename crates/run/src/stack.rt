@@ -5,13 +5,14 @@ ghost use lib.Seq.{sets};
 ghost use Rattle.book.specs.Fields.{symbolAt};
 ghost use Rattle.table.specs.Forms.{formIn};
 ghost use Rattle.run.specs.Stack.{byteOf, bytesOf};
+use book::fields::SYMBOLS;
 
 // The byte of symbol `i` of the record at `at`.
 fn symbol_byte(book: &[u8], at: u16, i: usize) -> u8
     requires { ⌜ i < 2 ^ 63 ⌝ }
     ensures { λ r. ⌜ r ≡ byteOf (symbolAt (now (book .entry)) at i) ⌝ }
 {
-    let place = at as usize + 4 + i;
+    let place = at as usize + SYMBOLS + i;
     if place < book.len() { book[place] } else { 0 }
 }
 

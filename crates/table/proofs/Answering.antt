@@ -158,18 +158,24 @@ module _ {book : List ℕ} {reading : Reading} (given : Given book reading) {fir
       → first′ ≡ over (take (reading .nonterminals) firsts) first → follow′ ≡ over (take (reading .nonterminals) follows) follow → SetsOutcome book first follow a first′ follow′
   sets-served fit is p q = rw (is, p, q) (calls.served (given .serves) fit given-first-sets given-follow-sets)
 
+-- of enough cells, the first n are n
+pub taken-sized : {n most : ℕ} {cells : List ℕ} → n ≤ most → Vacancy most cells → length (take n cells) ≡ n
+taken-sized {n} {most} {cells} fits vacancy = length-take-le n cells (omega (arith, vacancy .sized))
+
 -- a contest is the first conflict; cells without one are the table
 module _ {book : List ℕ} {reading : Reading} {firsts follows table : List ℕ} (x : Enterable book reading firsts follows table) where
-  -- there are cells for the table, and each production has its row among them
-  pub enter-claimable : {cells : List ℕ} → Vacancy cells
+  -- among cells that are enough, each production has its row, and the table's buffer has room for them
+  pub enter-ready : {most : ℕ} {cells : List ℕ} → reading .nonterminals * (reading .tokens + 1) ≤ most → Vacancy most cells
       → Claimable book (reading .places) (reading .productions) (reading .tokens) (take (reading .nonterminals * (reading .tokens + 1)) cells)
-  enter-claimable {cells} vacancy = record { readable = given-readable (x .given); numbered = given-count (x .given); rows = rows; blank = blank }
+      × (length (take (reading .nonterminals * (reading .tokens + 1)) cells) ≤ length table)
+  enter-ready {cells = cells} fits vacancy =
+      (record { readable = given-readable (x .given); numbered = given-count (x .given); rows = rows; blank = blank }, rw (sized, given-size (x .given)) (x .room))
     where
       n : ℕ
       n = reading .nonterminals * (reading .tokens + 1)
 
       sized : length (take n cells) ≡ n
-      sized = length-take-le n cells (omega (arith, given-most (x .given), vacancy .sized))
+      sized = taken-sized fits vacancy
 
       rows : (p : ℕ) → p < reading .productions → (leftOf book (reading .places) p + 1) * (reading .tokens + 1) ≤ length (take n cells)
       rows p h =
@@ -181,7 +187,7 @@ module _ {book : List ℕ} {reading : Reading} {firsts follows table : List ℕ}
       blank : (i : ℕ) → i < length (take n cells) → getD (take n cells) i 0 ≡ 255
       blank i h =
           let inside : i < n = omega (arith, sized) in
-          getD-take n cells i 0 inside ∙ vacancy .blank i (omega (arith, given-most (x .given)))
+          getD-take n cells i 0 inside ∙ vacancy .blank i (omega arith)
 
   pub enter-tabulated : {n : ℕ} {a : Answer} {table′ : List ℕ} → n ≡ reading .nonterminals * (reading .tokens + 1)
       → Tabulated (Laid (bookClaims book (reading .places) firsts follows (reading .tokens)) (reading .productions) 0) n table a table′

@@ -3,7 +3,7 @@
 use mathlib.Core.Path.{_≡_, refl, ap, _∙_, subst}
 use mathlib.Core.Logic.{_↔_, inl, inr}
 use mathlib.Core.List.{List}
-use Prim.Native.Nat.{ℕ, _+_, _*_, _≤_}
+use Prim.Native.Nat.{ℕ, _≤_}
 use native.Mathlib.Omega.{arith}
 use lib.ListN.{length, take, drop}
 use lib.Seq.{take-at}
@@ -14,11 +14,11 @@ use Rattle.book.specs.Answers.{done, refusal}
 use Rattle.book.specs.Book.{Limits}
 use Rattle.book.specs.Judging.{Serves}
 use Rattle.table.specs.Table.{size, rowAt, columnAt, TableOf, FirstConflict, BuiltWithoutConflict}
-use Rattle.table.specs.Calls.{over, no-first, no-follow, SetsFit, BuildOutcome, refused, no-room, no-table, conflict, served}
+use Rattle.table.specs.Calls.{over, no-first, no-follow, SetsFit, BuildOutcome, refused, no-room, no-table, conflict, served, BuildResult, ReportsConflict}
 use Rattle.table.proofs.Cells.{table-exact}
 use Rattle.book.proofs.Promise.{serves-unique, serves-limits, refuses-number}
 use Rattle.table.proofs.Unique.{table-unique, conflict-no-table}
-use Rattle.table.proofs.Outcomes.{BuildResult, Built, WithTable, build-with-room}
+use Rattle.table.proofs.Outcomes.{Built, WithTable, build-with-room}
 
 module _ {g : Grammar} where
   pub first-is-conflict : {i p q : ℕ} → FirstConflict g i p q → Conflict g
@@ -28,16 +28,6 @@ module _ {g : Grammar} where
   -- a table leaves no conflict
   pub table-no-conflict : Limits g → {cells : List ℕ} → TableOf g cells → ¬ Conflict g
   table-no-conflict limits {cells} t = exact-no-conflict (table-exact limits cells t)
-
--- the answer is the first conflict in cell order, with its two lowest claimants, and every buffer is kept
-pub record ReportsConflict (book first follow table : List ℕ) (x : BuildResult) : Type 0 where
-  pub grammar : Grammar
-  pub serves : Serves book grammar
-  pub cell : ℕ
-  pub lowest : ℕ
-  pub next : ℕ
-  pub first-conflict : FirstConflict grammar cell lowest next
-  pub is : x ≡ (refusal 8 cell (lowest * 256 + next), first, follow, table)
 
 module _ {book first follow table : List ℕ} where
   -- the answer's number is 8 exactly if two productions claim one cell

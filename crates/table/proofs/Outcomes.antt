@@ -11,7 +11,7 @@ use Rattle.book.specs.Answers.{done, refusal}
 use Rattle.book.specs.Judging.{Refuses, Serves}
 use Rattle.table.specs.Numbers.{FirstSets, FollowSets}
 use Rattle.table.specs.Table.{size, TableOf, FirstConflict}
-use Rattle.table.specs.Calls.{over, SetsRoom, no-first, no-follow, SetsFit, SetsOutcome, BuildOutcome}
+use Rattle.table.specs.Calls.{over, SetsRoom, no-first, no-follow, SetsFit, SetsOutcome, SetsResult, BuildOutcome, BuildResult}
 use Rattle.table.specs.Calls as calls
 use Rattle.book.proofs.Promise.{refuses-unique, serves-unique, refuses-not-serves}
 use Rattle.table.proofs.Unique.{sets-unique, table-unique, conflict-no-table, first-conflict-unique}
@@ -61,12 +61,6 @@ module _ (first follow : List ℕ) {X : Type 0} (kept : Answer → X) where
 
 kept-unique : {X : Type 0} (kept : Answer → X) (a : Answer) → Unique (λ x. x ≡ kept a)
 kept-unique kept a x y e f = e ∙ sym f
-
-abbrev pub SetsResult : Type 0
-SetsResult = Answer × List ℕ × List ℕ
-
-abbrev pub BuildResult : Type 0
-BuildResult = Answer × List ℕ × List ℕ × List ℕ
 
 module _ (book first follow : List ℕ) where
   abbrev pub sets-kept : Answer → SetsResult

@@ -4,9 +4,9 @@ pub use Rattle.table.proofs.Cells.{columnNumber, cellNumber, row-number
 pub use Rattle.table.proofs.Claimed.{getD-inside}
 pub use Rattle.table.proofs.Spelled.{form-spelled}
 pub use Rattle.table.proofs.Unique.{sets-unique, table-unique, held-unique, first-conflict-unique}
-pub use Rattle.table.proofs.Outcomes.{SetsResult, BuildResult, sets-outcome-unique, build-outcome-unique, WithTable, build-with-room, Unique, OfBook, of-refusal, of-grammar, of-book-unique}
+pub use Rattle.table.proofs.Outcomes.{sets-outcome-unique, build-outcome-unique, WithTable, build-with-room, Unique, OfBook, of-refusal, of-grammar, of-book-unique}
 pub use Rattle.table.proofs.SetAnswers.{lookahead-outcome-unique, first-outcome-unique}
-pub use Rattle.table.proofs.Building.{table-no-conflict, first-is-conflict, ReportsConflict, conflict-iff, conflict-first, build-built, built-build, built-done}
+pub use Rattle.table.proofs.Building.{table-no-conflict, first-is-conflict, conflict-iff, conflict-first, build-built, built-build, built-done}
 pub use Rattle.table.proofs.Closed.{first-is, lookahead-is, sets-at, taken-at, at-taken}
 pub use Rattle.table.proofs.Examples.{house-first-sets, house-follow-sets, house-table-of, house-build, conflicted-house-conflict, conflicted-house-build, nested-conflict, nested-build}
 unfoldable pub use Rattle.table.proofs.Examples.{house-built}

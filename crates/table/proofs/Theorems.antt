@@ -18,15 +18,13 @@ use Rattle.table.specs.declared.SetAnswer.{SetAnswer}
 use Rattle.table.specs.Numbers.{IsSet, Sets, FirstSets, FollowSets}
 use Rattle.table.specs.Trail.{trail, Inside, FirstSound, FollowSound, FirstAt, FirstClosed, FollowClosed}
 use Rattle.table.specs.Table.{size, rowAt, ClaimsCell, TableOf, FirstConflict, BuiltWithoutConflict, cellOf, ContestedCell}
-use Rattle.table.specs.Calls.{over, SetsFit, SetsOutcome, BuildOutcome, LookaheadOutcome, FirstOutcome}
+use Rattle.table.specs.Calls.{over, SetsFit, SetsOutcome, SetsResult, BuildOutcome, BuildResult, ReportsConflict, LookaheadOutcome, FirstOutcome}
 use Rattle.table.proofs.Additions as additions
 use Rattle.table.proofs.Closed as closed
 use Rattle.table.proofs.Cells as cells
 use Rattle.table.proofs.Unique as unique
-use Rattle.table.proofs.Outcomes.{SetsResult, BuildResult}
 use Rattle.table.proofs.Outcomes as outcomes
 use Rattle.table.proofs.SetAnswers as answers
-use Rattle.table.proofs.Building.{ReportsConflict}
 use Rattle.table.proofs.Building as building
 use Rattle.book.proofs.Promise as judged
 

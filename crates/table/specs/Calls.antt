@@ -38,6 +38,10 @@ pub data SetsOutcome (book first follow : List ℕ) : Answer → List ℕ → Li
   no-room : {g : Grammar} {a : Answer} → Serves book g → SetsRoom g first follow a → SetsOutcome book first follow a first follow
   served : {g : Grammar} {xs ys : List ℕ} → Serves book g → SetsFit g first follow → FirstSets g xs → FollowSets g ys → SetsOutcome book first follow (done 0) (over xs first) (over ys follow)
 
+-- what a call of sets leaves: the answer and both set buffers
+abbrev pub SetsResult : Type 0
+SetsResult = Answer × List ℕ × List ℕ
+
 -- the sets and the table into the lent buffers
 pub data BuildOutcome (book first follow table : List ℕ) : Answer → List ℕ → List ℕ → List ℕ → Type 0 where
   refused : {a : Answer} → Refuses book a → BuildOutcome book first follow table a first follow table
@@ -45,6 +49,20 @@ pub data BuildOutcome (book first follow table : List ℕ) : Answer → List ℕ
   no-table : {g : Grammar} → Serves book g → SetsFit g first follow → length table < size g → BuildOutcome book first follow table (refusal room (size g) tableRoom) first follow table
   conflict : {g : Grammar} {i p q : ℕ} → Serves book g → SetsFit g first follow → size g ≤ length table → FirstConflict g i p q → BuildOutcome book first follow table (refusal refusals.conflict i (p * 256 + q)) first follow table
   served : {g : Grammar} {xs ys cells : List ℕ} → Serves book g → SetsFit g first follow → size g ≤ length table → FirstSets g xs → FollowSets g ys → TableOf g cells → BuildOutcome book first follow table (done 0) (over xs first) (over ys follow) (over cells table)
+
+-- what a call of build leaves: the answer, both set buffers and the table's
+abbrev pub BuildResult : Type 0
+BuildResult = Answer × List ℕ × List ℕ × List ℕ
+
+-- the answer is the first conflict in cell order, with its two lowest claimants, and every buffer is kept
+pub record ReportsConflict (book first follow table : List ℕ) (x : BuildResult) : Type 0 where
+  pub grammar : Grammar
+  pub serves : Serves book grammar
+  pub cell : ℕ
+  pub lowest : ℕ
+  pub next : ℕ
+  pub first-conflict : FirstConflict grammar cell lowest next
+  pub is : x ≡ (refusal refusals.conflict cell (lowest * 256 + next), first, follow, table)
 
 -- the set of an answer that is done; 0 with a refusal
 pub record SetIs (P : Member → Type 0) (r : SetAnswer) : Type 0 where

@@ -57,10 +57,10 @@ pub record Ledger (C : ℕ → ℕ → Type 0) (table : List ℕ) (known : Conte
   pub rivals : known .cell < length table → Rivals (C (known .cell)) (known .lowest) (known .next)
   pub earlier : (j : ℕ) → j < known .cell → AtMostOne (C j)
 
--- cells for the largest table, 64 rows of 63 columns, and none of them is claimed
-pub record Vacancy (cells : List ℕ) : Type 0 where
-  pub sized : length cells ≡ 4032
-  pub blank : (i : ℕ) → i < 4032 → getD cells i 0 ≡ 255
+-- so many cells, and none of them is claimed
+pub record Vacancy (n : ℕ) (cells : List ℕ) : Type 0 where
+  pub sized : length cells ≡ n
+  pub blank : (i : ℕ) → i < n → getD cells i 0 ≡ 255
 
 -- p claims a cell or not: a vacant one is entered, and one that is held is contested, which counts if no cell up to it is known to be
 pub data Claimed (table : List ℕ) (cell p : ℕ) (known : Contest) : Bool → Contest → List ℕ → Type 0 where

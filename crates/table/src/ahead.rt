@@ -4,6 +4,9 @@ ghost use Rattle.book.specs.Fields.{leftAt};
 ghost use Rattle.table.specs.Forms.{rightAt, Legible};
 ghost use Rattle.table.specs.Trail.{trail};
 use crate::forms::trail_of;
+use book::fields::LEFT;
+use book::fields::LENGTH;
+use book::fields::SYMBOLS;
 use sets::Set;
 use sets::load;
 
@@ -13,7 +16,8 @@ pub(crate) fn lookahead_at(book: &[u8], place: u16, first: &[u64], follow: &[u64
     ensures { λ r. ⌜ number r ≡ trail (now (first .entry)) (setAt (now (follow .entry)) (leftAt (now (book .entry)) place)) (rightAt (now (book .entry)) place) ⌝ }
 {
     let at = place as usize;
-    let behind = load(follow, book[at + 2] as usize);
-    let ahead = trail_of(book, at + 4, book[at + 3] as usize, first, behind);
+    let behind = load(follow, book[at + LEFT] as usize);
+    let length = book[at + LENGTH] as usize;
+    let ahead = trail_of(book, at + SYMBOLS, length, first, behind);
     ahead.set
 }

@@ -11,7 +11,7 @@ use book::refusals::ROOM;
 use book::refusals::SYMBOL;
 
 // The longest symbol string.
-const SYMBOLS: usize = 16;
+const LONGEST: usize = 16;
 
 // A buffer has room for so many cells.
 pub(crate) fn room(before: Answer, have: usize, want: usize, detail: u64) -> Answer
@@ -81,8 +81,8 @@ pub(crate) fn spelled(before: Answer, symbols: &[u8], t: u8, n: u8) -> Answer
     if before.number != DONE {
         return before;
     }
-    if SYMBOLS < symbols.len() {
-        return refusal(LIMIT, SYMBOLS as u64, 0);
+    if LONGEST < symbols.len() {
+        return refusal(LIMIT, LONGEST as u64, 0);
     }
     let i = stranger(symbols, t, n);
     if i < symbols.len() {

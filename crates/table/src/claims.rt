@@ -8,6 +8,7 @@ ghost use Rattle.book.specs.Judging.{Serves};
 ghost use Rattle.table.specs.Calls.{over};
 ghost use Rattle.table.specs.Claims.{bookClaims, Laid, Ledger, Vacancy, Claimed, RowClaimed, Claimable, Settled, Tabulated};
 ghost use Rattle.table.specs.Filling.{Enterable, Entered};
+use crate::VACANT;
 use crate::ahead::lookahead_at;
 use book::Answer;
 use book::Reading;
@@ -21,8 +22,11 @@ use sets::END_MARK;
 use sets::Set;
 use sets::has;
 
-// The byte of a cell that no production claims.
-const VACANT: u8 = 255;
+// The most cells of a small table, which is built sooner where fewer vacant cells are made.
+const FEW: usize = 512;
+
+// The cells of the largest table, 64 rows of 63 columns.
+const MOST: usize = 4032;
 
 // The first cell known to have two claimants, in cell order, and its two lowest; past the last cell where none is known.
 pub(crate) struct Contest {
@@ -31,11 +35,18 @@ pub(crate) struct Contest {
     pub(crate) next: u32,
 }
 
-// Cells for the largest table, all of them vacant.
-fn vacant() -> [u8; 4032]
-    ensures { λ r. ⌜ Vacancy r ⌝ }
+// Cells for a small table, all of them vacant.
+fn vacant_few() -> [u8; FEW]
+    ensures { λ r. ⌜ Vacancy 512 r ⌝ }
 {
-    [VACANT; 4032]
+    [VACANT; FEW]
+}
+
+// Cells for the largest table, all of them vacant.
+fn vacant_most() -> [u8; MOST]
+    ensures { λ r. ⌜ Vacancy 4032 r ⌝ }
+{
+    [VACANT; MOST]
 }
 
 // Production p claims a cell if its lookahead has the bit of the cell's column: a vacant cell it gets, and one that is held is contested.
@@ -167,15 +178,29 @@ pub(crate) fn enter(
     let count = reading.productions as usize;
     let tokens = reading.tokens;
     let cells = reading.nonterminals as usize * (tokens as usize + 1);
-    let mut claimed = vacant();
-    tabulate(
-        book,
-        &reading.places,
-        count,
-        tokens,
-        first,
-        follow,
-        &mut claimed[..cells],
-        table,
-    )
+    if cells <= FEW {
+        let mut claimed = vacant_few();
+        tabulate(
+            book,
+            &reading.places,
+            count,
+            tokens,
+            first,
+            follow,
+            &mut claimed[..cells],
+            table,
+        )
+    } else {
+        let mut claimed = vacant_most();
+        tabulate(
+            book,
+            &reading.places,
+            count,
+            tokens,
+            first,
+            follow,
+            &mut claimed[..cells],
+            table,
+        )
+    }
 }

@@ -5,6 +5,9 @@ ghost use Rattle.table.specs.Steps.{Made, firstStep, firstSteps, passed,
 use crate::families::single;
 use crate::families::unite;
 use crate::forms::trail_of;
+use book::fields::LEFT;
+use book::fields::LENGTH;
+use book::fields::SYMBOLS;
 use sets::EMPTY_STRING;
 
 // The right side of the record at a place adds to FIRST of its left side, or changes nothing.
@@ -13,9 +16,9 @@ fn first_step(book: &[u8], place: u16, first: &mut [u64]) -> bool
     ensures { λ r. ⌜ Made (firstStep (now (book .entry)) place) (now (first .entry)) (now (first .exit)) r ⌝ }
 {
     let at = place as usize;
-    let length = book[at + 3] as usize;
-    let begun = trail_of(book, at + 4, length, first, single(EMPTY_STRING));
-    unite(first, book[at + 2] as usize, begun.set)
+    let length = book[at + LENGTH] as usize;
+    let begun = trail_of(book, at + SYMBOLS, length, first, single(EMPTY_STRING));
+    unite(first, book[at + LEFT] as usize, begun.set)
 }
 
 // Each record once, in order, and whether that changed nothing.

@@ -8,6 +8,9 @@ ghost use Rattle.table.specs.Steps.{PassedOver, Made, followStep, follow
 use crate::families::single;
 use crate::families::unite;
 use crate::tails::find_tails;
+use book::fields::LEFT;
+use book::fields::LENGTH;
+use book::fields::SYMBOLS;
 use sets::END_MARK;
 use sets::Set;
 use sets::join;
@@ -45,12 +48,12 @@ fn follow_step(book: &[u8], place: u16, from: u8, first: &[u64], follow: &mut [u
     ensures { λ r. ⌜ Made (followStep (now (book .entry)) (now (first .entry)) place from) (now (follow .entry)) (now (follow .exit)) r ⌝ }
 {
     let at = place as usize;
-    let mut trailer = load(follow, book[at + 2] as usize);
+    let mut trailer = load(follow, book[at + LEFT] as usize);
     let mut settled = true;
-    let mut j = book[at + 3];
+    let mut j = book[at + LENGTH];
     while from < j {
         j -= 1;
-        let byte = book[at + 4 + j as usize];
+        let byte = book[at + SYMBOLS + j as usize];
         let passed = pass_over(byte, first, trailer, follow);
         trailer = passed.ahead;
         settled = settled & passed.settled;

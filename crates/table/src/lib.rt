@@ -30,6 +30,9 @@ mod follow;
 mod forms;
 mod tails;
 
+// The byte of a cell that no production claims.
+pub const VACANT: u8 = 255;
+
 // An answer with its set: a lookahead, or FIRST of a symbol string.
 pub struct SetAnswer {
     pub answer: Answer,

@@ -3,6 +3,8 @@ ghost use lib.ListN.{length};
 ghost use Rattle.table.specs.Forms.{Legible, Readable};
 ghost use Rattle.table.specs.Steps.{TailAt, Tails};
 use crate::forms::symbol_set;
+use book::fields::LENGTH;
+use book::fields::SYMBOLS;
 use sets::EMPTY_STRING;
 use sets::has;
 
@@ -13,10 +15,10 @@ fn tail_at(book: &[u8], place: u16, first: &[u64]) -> u8
     ensures { λ r. ⌜ TailAt (now (book .entry)) (now (first .entry)) place r ⌝ }
 {
     let at = place as usize;
-    let mut j = book[at + 3];
+    let mut j = book[at + LENGTH];
     while 0 < j {
         j -= 1;
-        let set = symbol_set(book[at + 4 + j as usize], first);
+        let set = symbol_set(book[at + SYMBOLS + j as usize], first);
         if !has(set, EMPTY_STRING) {
             return j;
         }

@@ -1,14 +1,14 @@
 -- The invariant: the cells, with what is left written over them, are the whole answer, and the sets of the records gone through are filled in.
 use mathlib.Core.Path.{_≡_, refl, sym, _∙_}
 use mathlib.Core.List.{List}
-use Prim.Native.Nat.{ℕ, _+_, _-_, _*_, _≤_}
+use Prim.Native.Nat.{ℕ, _+_, _-_, _*_, _≤_, _<_}
 use native.Mathlib.Numerals.{add-one}
 use native.Mathlib.Nat.{sub-zero, le-antisymm}
 use native.Mathlib.Omega.{arith}
 use lib.ListN.{length}
 use lib.Seq.{sets}
 use borrow.Author.Needs.{needs}
-use Rattle.book.specs.Fields.{placeOfRecord, placesFrom}
+use Rattle.book.specs.Fields.{lengthAt, placeAfter, placeOfRecord, placesFrom}
 use Rattle.book.specs.Useful.{RightNames, LeftName, Filled, Lists}
 use Rattle.book.proofs.Filling.{filled-none, filled-next}
 use Rattle.book.proofs.Index.{record-fits}
@@ -38,6 +38,13 @@ loop-holds : tie.Need-loop-holds Inv-loop μ-loop
 unfolding placeOfRecord
 loop-holds c = (search needs, search needs, refl, c .before .before .before .before .pre .1, rw sub-zero, filled-none (c .before .before .before .before .pre .2), filled-none (c .before .before .before .before .pre .3), few (c .before .before .before .before .pre .0))
 
+-- the record at hand lies within the book, and its length is a byte
+record-there : (d : tie.In-loop Inv-loop μ-loop) → d .before .loop .place + 4 + lengthAt (d .before .before .before .before .before .before .args .book .now) (d .before .loop .place) ≤ length (d .before .before .before .before .before .before .args .book .now)
+record-there d = rw (d .before .loop .inv .2) (record-fits _ (d .before .before .before .before .before .before .pre .0 .read) _ (omega (arith, d .loop-test .taken, d .before .before .before .before .before .before .pre .0 .counted)))
+
+length-byte : (d : tie.After-shared-slice-known2 Inv-loop μ-loop) → lengthAt (d .before .before .before .before .before .before .before .args .book .now) (d .before .before .loop .place) < 256
+length-byte d = d .shared-slice-known2 .given (d .before .before .loop .place + 3) .fits
+
 mul-places : tie.Need-mul-places Inv-loop μ-loop
 mul-places c = search needs
 
@@ -47,20 +54,26 @@ slice-write-places c = search needs
 cast-at : tie.Need-cast-at Inv-loop μ-loop
 cast-at c = search needs
 
-length-at-requires : tie.Need-length-at-requires Inv-loop μ-loop
-length-at-requires c κs = search needs
+add-length : tie.Need-add-length Inv-loop μ-loop
+add-length c = search needs
+
+shared-slice-read-length : tie.Need-shared-slice-read-length Inv-loop μ-loop
+shared-slice-read-length c = omega (arith, record-there (c .before))
 
 cast-names-at : tie.Need-cast-names-at Inv-loop μ-loop
-cast-names-at c = search needs
+cast-names-at c = record { fits = omega (arith, length-byte (c .before)) }
 
 names-at-requires : tie.Need-names-at-requires Inv-loop μ-loop
-names-at-requires c κs = rw (c .length-at .ensures, c .before .before .before .loop .inv .2) (record-fits _ (c .before .before .before .before .before .before .before .before .pre .0 .read) _ (omega (arith, c .before .before .loop-test .taken, c .before .before .before .before .before .before .before .before .pre .0 .counted)))
+names-at-requires c κs = record-there (c .before .before)
 
 store-requires : tie.Need-store-requires Inv-loop μ-loop
 store-requires c κs = search needs
 
-left-at-requires : tie.Need-left-at-requires Inv-loop μ-loop
-left-at-requires c κs = search needs
+add-single : tie.Need-add-single Inv-loop μ-loop
+add-single c = search needs
+
+shared-slice-read-single : tie.Need-shared-slice-read-single Inv-loop μ-loop
+shared-slice-read-single c = omega (arith, record-there (c .before .before .before .before .before .before .before .before))
 
 single-requires : tie.Need-single-requires Inv-loop μ-loop
 single-requires c κs = search needs
@@ -68,8 +81,14 @@ single-requires c κs = search needs
 store-requires-2 : tie.Need-store-requires-2 Inv-loop μ-loop
 store-requires-2 c κs = search needs
 
-place-after-requires : tie.Need-place-after-requires Inv-loop μ-loop
-place-after-requires c κs = search needs
+cast-place : tie.Need-cast-place Inv-loop μ-loop
+cast-place c = record { fits = omega (arith, length-byte (c .before .before .before .before .before .before .before .before .before .before .before)) }
+
+add-place : tie.Need-add-place Inv-loop μ-loop
+add-place c = record { fits = omega (arith, length-byte (c .before .before .before .before .before .before .before .before .before .before .before)) }
+
+add-place-2 : tie.Need-add-place-2 Inv-loop μ-loop
+add-place-2 c = record { fits = omega (arith, length-byte (c .before .before .before .before .before .before .before .before .before .before .before)) }
 
 add-p : tie.Need-add-p Inv-loop μ-loop
 add-p c = search needs
@@ -78,15 +97,15 @@ loop-less : tie.Need-loop-less Inv-loop μ-loop
 loop-less c = search needs
 
 loop-again : tie.Need-loop-again Inv-loop μ-loop
-unfolding placeOfRecord
+unfolding placeOfRecord placeAfter
 loop-again c = (
   search needs,
+  omega (arith, length-byte (c .before .before .before .before .before .before .before .before .before .before .before), c .before .before .before .before .before .before .before .before .before .before .before .before .before .loop .inv .1),
+  rw (add-one, c .before .before .before .before .before .before .before .before .before .before .before .before .before .loop .inv .2) (omega arith),
   search needs,
-  rw (add-one, c .place-after .ensures .0, c .before .before .before .before .before .before .before .before .before .before .before .before .before .before .loop .inv .2),
-  search needs,
-  rw (c .before .before .before .before .before .before .before .before .before .before .before .before .before .before .loop .inv .2) (sym (places-turn _ _ _ _ (c .before .before .before .before .before .before .before .before .before .before .before .before .before .loop-test .taken)) ∙ c .before .before .before .before .before .before .before .before .before .before .before .before .before .before .loop .inv .4),
-  filled-next (search needs) (c .before .before .before .before .before .before .before .before .before .before .before .before .before .before .loop .inv .5) (rw (c .before .before .before .before .before .before .before .before .before .before .before .length-at .ensures, c .before .before .before .before .before .before .before .before .before .before .before .before .before .before .loop .inv .2) at (c .before .before .before .before .before .before .before .before .before .before .names-at .ensures)) (c .before .before .before .before .before .before .before .before .before .store .ensures),
-  filled-next (search needs) (c .before .before .before .before .before .before .before .before .before .before .before .before .before .before .loop .inv .6) (rw (c .before .before .before .before .before .left-at .ensures, c .before .before .before .before .before .before .before .before .before .before .before .before .before .before .loop .inv .2) at (c .before .before .before .before .single .ensures)) (c .before .before .before .store2 .ensures),
+  rw (c .before .before .before .before .before .before .before .before .before .before .before .before .before .loop .inv .2) (sym (places-turn _ _ _ _ (c .before .before .before .before .before .before .before .before .before .before .before .before .loop-test .taken)) ∙ c .before .before .before .before .before .before .before .before .before .before .before .before .before .loop .inv .4),
+  filled-next (search needs) (c .before .before .before .before .before .before .before .before .before .before .before .before .before .loop .inv .5) (rw (c .before .before .before .before .before .before .before .before .before .before .before .before .before .loop .inv .2) at (c .before .before .before .before .before .before .before .before .before .names-at .ensures)) (c .before .before .before .before .before .before .before .before .store .ensures),
+  filled-next (search needs) (c .before .before .before .before .before .before .before .before .before .before .before .before .before .loop .inv .6) (rw (c .before .before .before .before .before .before .before .before .before .before .before .before .before .loop .inv .2) at (c .before .before .before .single .ensures)) (c .before .before .store2 .ensures),
   search needs,
 )
 
@@ -118,14 +137,18 @@ survey-spec =
     mul-places
     slice-write-places
     cast-at
-    length-at-requires
+    add-length
+    shared-slice-read-length
     cast-names-at
     names-at-requires
     store-requires
-    left-at-requires
+    add-single
+    shared-slice-read-single
     single-requires
     store-requires-2
-    place-after-requires
+    cast-place
+    add-place
+    add-place-2
     add-p
     loop-less
     loop-again

@@ -17,17 +17,17 @@ cast-load c = record { fits = omega (arith, c .shared-slice-known4 .given (c .be
 load-requires : tie.Need-load-requires
 load-requires c κs = search needs
 
+add-length : tie.Need-add-length
+add-length c = search needs
+
+shared-slice-read-length : tie.Need-shared-slice-read-length
+shared-slice-read-length c = search needs
+
+cast-length : tie.Need-cast-length
+cast-length c = search needs
+
 add-trail-of : tie.Need-add-trail-of
 add-trail-of c = search needs
-
-add-trail-of-2 : tie.Need-add-trail-of-2
-add-trail-of-2 c = search needs
-
-shared-slice-read-trail-of : tie.Need-shared-slice-read-trail-of
-shared-slice-read-trail-of c = search needs
-
-cast-trail-of : tie.Need-cast-trail-of
-cast-trail-of c = search needs
 
 trail-of-requires : tie.Need-trail-of-requires
 trail-of-requires c κs = search needs
@@ -43,9 +43,9 @@ lookahead-at-spec =
     shared-slice-read-load
     cast-load
     load-requires
+    add-length
+    shared-slice-read-length
+    cast-length
     add-trail-of
-    add-trail-of-2
-    shared-slice-read-trail-of
-    cast-trail-of
     trail-of-requires
     returns)

@@ -1,10 +1,8 @@
 -- The cells of the table are the first of those at hand.
 use mathlib.Core.Path.{sym}
-use Prim.Native.Nat.{_+_, _*_, _≤_}
-use lib.ListN.{length}
-use lib.Seq.{length-take-le}
+use native.Mathlib.Omega.{arith}
 use borrow.Author.Needs.{needs}
-use Rattle.table.proofs.Answering.{given-size, given-most, cells-fit, enter-claimable, enter-tabulated}
+use Rattle.table.proofs.Answering.{given-most, cells-fit, taken-sized, enter-ready, enter-tabulated}
 use Rattle.table.proofs.claims.enter.Statement.{statement}
 use Rattle.table.proofs.claims.enter.Tie as tie
 
@@ -23,28 +21,41 @@ add-cells c = search needs
 mul-cells : tie.Need-mul-cells
 mul-cells c = record { fits = cells-fit _ _ (search needs) (search needs) }
 
-vacant-requires : tie.Need-vacant-requires
-vacant-requires c κs = search needs
-
--- as many cells are at hand as the table has
-cells-there : (d : tie.After-vacant) → d .before .before .before .before .before .args .t2 .nonterminals * (d .before .before .before .before .before .args .t2 .tokens + 1) ≤ length (d .vacant .result)
-cells-there d = rw (d .vacant .ensures .sized) (given-most (d .before .before .before .before .before .pre .given))
+vacant-few-requires : tie.Need-vacant-few-requires
+vacant-few-requires c κs = search needs
 
 array-borrow-prefix-claimed : tie.Need-array-borrow-prefix-claimed
-array-borrow-prefix-claimed c = cells-there (c .before .before .before)
+array-borrow-prefix-claimed c = search needs
 
 slice-aggregate-tabulate : tie.Need-slice-aggregate-tabulate
-slice-aggregate-tabulate c = sym (length-take-le _ _ (cells-there (c .before .before .before .before)))
+slice-aggregate-tabulate c = sym (taken-sized (c .before .before .before .before .before .if1 .taken) (c .before .before .before .before .vacant-few .ensures))
 
 tabulate-requires : tie.Need-tabulate-requires
-tabulate-requires c κs =
-    (enter-claimable (c .before .before .before .before .before .before .before .before .before .before .pre) (c .before .before .before .before .before .vacant .ensures), rw (length-take-le _ _ (cells-there (c .before .before .before .before .before)), given-size (c .before .before .before .before .before .before .before .before .before .before .pre .given)) (c .before .before .before .before .before .before .before .before .before .before .pre .room))
+tabulate-requires c κs = enter-ready (c .before .before .before .before .before .before .before .before .before .before .before .pre) (c .before .before .before .before .before .before .if1 .taken) (c .before .before .before .before .before .vacant-few .ensures)
+
+vacant-most-requires : tie.Need-vacant-most-requires
+vacant-most-requires c κs = search needs
+
+array-borrow-prefix-claimed-2 : tie.Need-array-borrow-prefix-claimed-2
+array-borrow-prefix-claimed-2 c = omega (arith, given-most (c .before .before .before .before .before .before .before .before .before .pre .given))
+
+slice-aggregate-tabulate-2 : tie.Need-slice-aggregate-tabulate-2
+slice-aggregate-tabulate-2 c = sym (taken-sized (given-most (c .before .before .before .before .before .before .before .before .before .before .pre .given)) (c .before .before .before .before .vacant-most .ensures))
+
+tabulate-requires-2 : tie.Need-tabulate-requires-2
+tabulate-requires-2 c κs = enter-ready (c .before .before .before .before .before .before .before .before .before .before .before .pre) (given-most (c .before .before .before .before .before .before .before .before .before .before .before .pre .given)) (c .before .before .before .before .before .vacant-most .ensures)
 
 same-length : tie.Need-same-length
 same-length c = search needs
 
 returns : tie.Need-returns
-returns c = enter-tabulated (c .before .before .before .before .before .before .before .before .before .before .before .before .before .before .pre) (length-take-le _ _ (cells-there (c .before .before .before .before .before .before .before .before .before))) (c .before .before .before .tabulate .ensures)
+returns c = enter-tabulated (c .before .before .before .before .before .before .before .before .before .before .before .before .before .before .before .pre) (taken-sized (c .before .before .before .before .before .before .before .before .before .before .if1 .taken) (c .before .before .before .before .before .before .before .before .before .vacant-few .ensures)) (c .before .before .before .tabulate .ensures)
+
+same-length-2 : tie.Need-same-length-2
+same-length-2 c = search needs
+
+returns-2 : tie.Need-returns-2
+returns-2 c = enter-tabulated (c .before .before .before .before .before .before .before .before .before .before .before .before .before .before .before .pre) (taken-sized (given-most (c .before .before .before .before .before .before .before .before .before .before .before .before .before .before .before .pre .given)) (c .before .before .before .before .before .before .before .before .before .vacant-most .ensures)) (c .before .before .before .tabulate2 .ensures)
 
 pub enter-spec : {M : Type 1} → statement M
 enter-spec =
@@ -55,9 +66,15 @@ enter-spec =
     cast-cells-2
     add-cells
     mul-cells
-    vacant-requires
+    vacant-few-requires
     array-borrow-prefix-claimed
     slice-aggregate-tabulate
     tabulate-requires
+    vacant-most-requires
+    array-borrow-prefix-claimed-2
+    slice-aggregate-tabulate-2
+    tabulate-requires-2
     same-length
-    returns)
+    returns
+    same-length-2
+    returns-2)

@@ -1,0 +1,10 @@
+-- The array is one byte, repeated.
+use Rattle.table.proofs.Ledgers.{all-vacant}
+use Rattle.table.proofs.claims.vacant_most.Statement.{statement}
+use Rattle.table.proofs.claims.vacant_most.Tie as tie
+
+returns : tie.Need-returns
+returns c = all-vacant 4032
+
+pub vacant-most-spec : {M : Type 1} → statement M
+vacant-most-spec = tie.close (tie.spec returns)
