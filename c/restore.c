@@ -7,7 +7,7 @@
 
 static const char *const refusals[] = {
     "done", "a byte of the book is missing", "a mark of the book is wrong", "bytes follow the book",
-    "a limit is exceeded", "a symbol is not of the grammar", "a nonterminal is useless", "a buffer is too small",
+    "a number or a length is out of range", "a symbol is not of the grammar", "a nonterminal is useless", "a buffer is too small",
     "a cell has two claimants", "the table does not fit the book", "a token is not of the grammar", "syntax",
     "a production does not fit",
 };

@@ -29,9 +29,8 @@ extern "C" {
    machine, into the lent answer buffer: place, detail, steps and expected set, from bytes 0, 8, 16 and 24. The
    words that the comments below do not name are 0; after DESK_DONE only the steps of a run or an expansion can be
    other than 0. The answer is written on every refusal too. Bytes of the answer buffer past 32 stay as they were.
-   Only one refusal writes no answer: an answer buffer of less than 32 bytes, or a set buffer without a cell where a
-   set is answered, gives DESK_ROOM before all else, and nothing is written at all, to the answer buffer or to any
-   other. */
+   There is one exception: where the answer buffer has less than 32 bytes, or a set is answered and its buffer has no
+   cell, the call returns DESK_ROOM before all else and writes nothing at all, to the answer buffer or to any other. */
 
 #define DESK_ANSWER_SIZE 32
 #define DESK_MOST_BOOK_BYTES 2566
@@ -96,14 +95,17 @@ enum {
                   detail DESK_ROOM_STACK.
 
    steps is always productions listed + tokens matched, so the list holds steps - tokens_len productions when done
-   and steps - place when stopped in steps; done, this is the leftmost derivation of the tokens. Once steps have
-   begun, every cell of the stack is 0 after the call, listed cells stay, and list cells beyond them are unchanged.
+   and steps - place when stopped in steps; done, this is a leftmost derivation of the tokens, and with the table of
+   desk_build the only one. Once steps have begun, every cell of the stack is 0 after the call, listed cells stay,
+   and list cells beyond them are unchanged.
 
    Room: at most 65,535 cells of the stack and of the list count, so 65,535 of each is as good as any; a derivation
    that needs more is refused with DESK_ROOM. Stack cells past 65,535 are zeroed all the same, list cells past it
    never touched.
 
-   Any table that passes DESK_TABLE is run, whoever made it; desk_build makes the one of the book. */
+   Any table that passes DESK_TABLE is run, whoever made it; desk_build makes the one of the book. With another table
+   productions may replace one another without end: then the list or the stack fills up, and the call ends with
+   DESK_ROOM. */
 uint32_t desk_run(const uint8_t *book, size_t book_len, const uint8_t *table, size_t table_len,
                   const uint8_t *tokens, size_t tokens_len, uint8_t *stack, size_t stack_len,
                   uint8_t *list, size_t list_len, uint8_t *answer, size_t answer_len);

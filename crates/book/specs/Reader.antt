@@ -1,4 +1,5 @@
 -- A reader carries the caller's book and its own place. Document 01, "The book" and "What form each place needs".
+-- Only contracts inside the crate cite what stands here.
 use mathlib.Core.List.{List}
 use Prim.Native.Nat.{ℕ}
 use denote.Ref.{RefT}

@@ -1,5 +1,5 @@
 -- What reading a whole book answers: the refusal that its bytes spell, or the book's length as the next place.
--- Document 01, "Refusals and their numbers", 1 to 5.
+-- Document 01, "Refusals and their numbers", 1 to 5. Only contracts inside the crate cite what stands here.
 use mathlib.Core.List.{List}
 use Prim.Native.Nat.{ℕ}
 use lib.ListN.{length}

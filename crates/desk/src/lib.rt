@@ -1,5 +1,5 @@
 // The functions that C programs call. The number is returned, and place, detail, steps and expected set go into a lent buffer; where
-// that is too short the answer is 7 before all else, and nothing changes.
+// that is too short, or the buffer for a set has no cell, the answer is 7 before all else, and nothing changes.
 ghost use Rattle.desk.specs.Desk.{JudgeCall, SetsCall, BuildCall, RunCall, ExpandCall, LookaheadCall, FirstCall};
 use crate::words::ANSWER_SIZE;
 use crate::words::write_answer;

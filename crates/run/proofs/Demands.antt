@@ -33,7 +33,7 @@ use Rattle.run.proofs.RoomNeeded.{room-needed}
 -- and each promise allows one outcome
 pub use Rattle.run.proofs.OutcomeUnique.{run-outcome-unique, beside-outcome-unique, expand-outcome-unique}
 pub use Rattle.run.proofs.OnReading.{judged-run-unique, offer-outcome-unique, shown-unique}
--- on the reading of a book that serves, a run on the judged book is the run
+-- on the reading of a book that serves, with a table and tokens that pass the checks, a run on the judged book is the run
 pub use Rattle.run.proofs.OnReading.{judged-run-run}
 
 -- demand 2: sets and tables have no member missing and none added, and a conflict is found exactly if two productions claim one cell

@@ -1,4 +1,4 @@
--- The lead's demands 2 and 3: first of one call, by what it was lent and what it leaves, then of an outcome function, whoever wrote it.
+-- Demands 2 and 3: first of one call, by what it was lent and what it leaves, then of an outcome function, whoever wrote it.
 -- Document 01, "How much each promise says", and the demands themselves.
 use mathlib.Core.Path.{_≡_}
 use mathlib.Core.Logic.{_↔_, _⊎_}

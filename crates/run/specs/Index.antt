@@ -16,6 +16,6 @@ unfoldable pub productionsFrom : List ℕ → List ℕ → ℕ → ℕ → List 
 productionsFrom book places zero p = []
 productionsFrom book places (suc count) p = productionAt book (getD places p 0) ∷ productionsFrom book places count (suc p)
 
--- a nonterminal has a cell of the stack only if it is below 128
+-- the grammar that a reading tells of; a cell of the stack can name the nonterminals below 128, so the start is taken to be one
 unfoldable pub grammarIn : List ℕ → Reading → Grammar
 grammarIn book r = record { tokens = r .tokens; nonterminals = r .nonterminals; start = r .start % 128; productions = productionsFrom book (r .places) (r .productions) 0 }

@@ -1,5 +1,5 @@
 -- What a run on a judged book answers and leaves in the lent buffers, for every reading, table, token string and buffer.
--- Document 01, "Running and expanding".
+-- Document 01, "Running and expanding". The refusals of book, table and tokens are the caller's to ask for.
 use mathlib.Core.Path.{_≡_}
 use mathlib.Core.List.{List}
 use Prim.Native.Nat.{ℕ, _≤_}

@@ -1,5 +1,5 @@
 -- One column offered to a run in progress, for every book, reading, table, buffer and count.
--- Document 01, "Running and expanding"; at most 65,535 cells of a buffer count, and as many matched tokens.
+-- Document 01, "Running and expanding": at most 65,535 cells of a buffer count. The matched tokens that the caller tells of are clamped alike.
 use mathlib.Core.Path.{_≡_}
 use mathlib.Core.List.{List}
 use Prim.Native.Nat.{ℕ, _+_, _-_, min}

@@ -21,7 +21,7 @@ use book::refusals::TABLE;
 use book::refusals::TOKEN;
 use table::VACANT;
 
-// How many tokens a run takes.
+// The most tokens that a run takes.
 const MOST_TOKENS: usize = 4096;
 
 // How many cells a table of the grammar has.

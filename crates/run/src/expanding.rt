@@ -31,7 +31,7 @@ use book::refusals::ROOM;
 use book::refusals::STACK_ROOM;
 use sets::none;
 
-// How many productions an expansion takes.
+// The most productions that an expansion takes.
 const MOST_PRODUCTIONS: usize = 65535;
 
 // From the start symbol on, tokens on top are written and the list's productions used.

@@ -116,7 +116,7 @@ fn clamp(at: Progress, stack: usize, list: usize) -> Progress
     }
 }
 
-// One column offered to a run in progress, whatever the reading and the counts.
+// One column offered to a run in progress, whatever the reading and the counts; every column from T on is the end mark's.
 pub fn offer(
     book: &[u8],
     reading: Reading,

@@ -112,7 +112,7 @@ pub(crate) fn run_on(
     reply
 }
 
-// A run on a judged book, whatever the reading.
+// A run on a book that is judged already, whatever the reading: book, table and tokens are not checked again.
 pub fn run_judged(
     book: &[u8],
     reading: Reading,

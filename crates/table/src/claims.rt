@@ -22,7 +22,7 @@ use sets::END_MARK;
 use sets::Set;
 use sets::has;
 
-// The most cells of a small table, which is built sooner where fewer vacant cells are made.
+// The most cells that a small table has: for it only so many are made vacant.
 const FEW: usize = 512;
 
 // The cells of the largest table, 64 rows of 63 columns.
