@@ -29,7 +29,10 @@ same-length-4 : tie.Need-same-length-4
 same-length-4 c = search needs
 
 returns-2 : tie.Need-returns-2
-returns-2 c = record { call = answered-call (c .before .before .before .before .before .before .before .before .before .before .build .result) (omega (arith, answerSize-is)) (c .before .before .before .before .before .before .before .before .before .before .build .ensures) (c .before .before .write-answer .ensures) }
+returns-2 c =
+    let build = c .before .before .before .before .before .before .before .before .before .before .build in
+    let write-answer = c .before .before .write-answer in
+    record { call = answered-call (build .result) (omega (arith, answerSize-is)) (build .ensures) (write-answer .ensures) }
 
 pub desk-build-spec : {M : Type 1} → statement M
 desk-build-spec =

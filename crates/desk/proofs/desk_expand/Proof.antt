@@ -26,7 +26,10 @@ same-length-3 : tie.Need-same-length-3
 same-length-3 c = search needs
 
 returns-2 : tie.Need-returns-2
-returns-2 c = record { call = answered-call (c .before .before .before .before .before .before .before .before .expand .result) (omega (arith, answerSize-is)) (c .before .before .before .before .before .before .before .before .expand .ensures) (c .before .before .write-answer .ensures) }
+returns-2 c =
+    let expand = c .before .before .before .before .before .before .before .before .expand in
+    let write-answer = c .before .before .write-answer in
+    record { call = answered-call (expand .result) (omega (arith, answerSize-is)) (expand .ensures) (write-answer .ensures) }
 
 pub desk-expand-spec : {M : Type 1} → statement M
 desk-expand-spec =

@@ -29,7 +29,9 @@ same-length-2 c = search needs
 
 returns-2 : tie.Need-returns-2
 returns-2 c =
-    record { call = set-call (c .before .before .before .before .before .before .first-of .result) (record { cell = omega arith; bytes = omega (arith, answerSize-is, ltb-false) }) (c .before .before .before .before .before .before .first-of .ensures) (c .before .before .write-answer .ensures) }
+    let first-of = c .before .before .before .before .before .before .first-of in
+    let write-answer = c .before .before .write-answer in
+    record { call = set-call (first-of .result) (record { cell = omega arith; bytes = omega (arith, answerSize-is, ltb-false) }) (first-of .ensures) (write-answer .ensures) }
 
 pub desk-first-of-spec : {M : Type 1} → statement M
 desk-first-of-spec =

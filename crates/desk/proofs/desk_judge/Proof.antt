@@ -21,7 +21,10 @@ same-length : tie.Need-same-length
 same-length c = search needs
 
 returns-2 : tie.Need-returns-2
-returns-2 c = record { call = answered-call (c .before .before .before .before .before .judge .result .answer) (omega (arith, answerSize-is)) (record { reading = c .before .before .before .before .before .judge .result; judged = c .before .before .before .before .before .judge .ensures; answer = refl }) (c .before .before .write-answer .ensures) }
+returns-2 c =
+    let judge = c .before .before .before .before .before .judge in
+    let write-answer = c .before .before .write-answer in
+    record { call = answered-call (judge .result .answer) (omega (arith, answerSize-is)) (record { reading = judge .result; judged = judge .ensures; answer = refl }) (write-answer .ensures) }
 
 pub desk-judge-spec : {M : Type 1} → statement M
 desk-judge-spec =

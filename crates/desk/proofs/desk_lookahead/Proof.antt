@@ -29,7 +29,9 @@ same-length-2 c = search needs
 
 returns-2 : tie.Need-returns-2
 returns-2 c =
-    record { call = set-call (c .before .before .before .before .before .before .lookahead .result) (record { cell = omega arith; bytes = omega (arith, answerSize-is, ltb-false) }) (c .before .before .before .before .before .before .lookahead .ensures) (c .before .before .write-answer .ensures) }
+    let lookahead = c .before .before .before .before .before .before .lookahead in
+    let write-answer = c .before .before .write-answer in
+    record { call = set-call (lookahead .result) (record { cell = omega arith; bytes = omega (arith, answerSize-is, ltb-false) }) (lookahead .ensures) (write-answer .ensures) }
 
 pub desk-lookahead-spec : {M : Type 1} → statement M
 desk-lookahead-spec =

@@ -26,7 +26,10 @@ same-length-3 : tie.Need-same-length-3
 same-length-3 c = search needs
 
 returns-2 : tie.Need-returns-2
-returns-2 c = record { call = answered-call (c .before .before .before .before .before .before .before .before .run .result) (omega (arith, answerSize-is)) (c .before .before .before .before .before .before .before .before .run .ensures) (c .before .before .write-answer .ensures) }
+returns-2 c =
+    let run = c .before .before .before .before .before .before .before .before .run in
+    let write-answer = c .before .before .write-answer in
+    record { call = answered-call (run .result) (omega (arith, answerSize-is)) (run .ensures) (write-answer .ensures) }
 
 pub desk-run-spec : {M : Type 1} → statement M
 desk-run-spec =

@@ -26,7 +26,10 @@ same-length-3 : tie.Need-same-length-3
 same-length-3 c = search needs
 
 returns-2 : tie.Need-returns-2
-returns-2 c = record { call = answered-call (c .before .before .before .before .before .before .before .before .sets .result) (omega (arith, answerSize-is)) (c .before .before .before .before .before .before .before .before .sets .ensures) (c .before .before .write-answer .ensures) }
+returns-2 c =
+    let sets = c .before .before .before .before .before .before .before .before .sets in
+    let write-answer = c .before .before .write-answer in
+    record { call = answered-call (sets .result) (omega (arith, answerSize-is)) (sets .ensures) (write-answer .ensures) }
 
 pub desk-sets-spec : {M : Type 1} → statement M
 desk-sets-spec =

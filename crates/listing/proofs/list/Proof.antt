@@ -13,7 +13,11 @@ filled : (d : tie.After-table3)
     (d .before .before .before .before .before .before .before .before .before .before .build .last .1 .0)
     (d .before .before .before .before .before .before .before .before .before .before .build .last .1 .1 .0)
     (d .before .before .before .before .before .before .before .before .before .before .build .last .1 .1 .1 .0)
-filled d = listing-filled enough (d .before .before .before .before .before .before .before .before .before .before .build .ensures) (d .before .before .before .before .before .if1 .taken) (d .before .before .before .judge .ensures)
+filled d =
+    let build = d .before .before .before .before .before .before .before .before .before .before .build in
+    let if1 = d .before .before .before .before .before .if1 in
+    let judge = d .before .before .before .judge in
+    listing-filled enough (build .ensures) (if1 .taken) (judge .ensures)
 
 slice-aggregate-build : tie.Need-slice-aggregate-build
 slice-aggregate-build c = search needs
@@ -55,10 +59,13 @@ returns c =
 
 returns-2 : tie.Need-returns-2
 returns-2 c =
+    let build = c .before .before .before .before .before .before .before .before .before .build in
+    let if1 = c .before .before .before .before .if1 in
+    let refused-line = c .before .before .refused-line in
     record {
       text = _;
-      listing = listing-refused enough (c .before .before .before .before .before .before .before .before .before .build .ensures) (c .before .before .before .before .if1 .left);
-      put = c .before .before .refused-line .ensures;
+      listing = listing-refused enough (build .ensures) (if1 .left);
+      put = refused-line .ensures;
     }
 
 same-length : tie.Need-same-length

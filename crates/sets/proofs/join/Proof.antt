@@ -18,10 +18,13 @@ union-requires c κs = search needs
 
 returns : tie.Need-returns
 returns c =
-    let x = c .before .before .before .before .args .x in
-    let y = c .before .before .before .before .args .y in
+    let args = c .before .before .before .before .args in
+    let has = c .before .before .before .has in
+    let if1 = c .before .before .if1 in
+    let x = args .x in
+    let y = args .y in
     let vanishes : member emptyString (number x) ≡ true =
-    sym (c .before .before .before .has .ensures) ∙ c .before .before .if1 .taken in
+    sym (has .ensures) ∙ if1 .taken in
     record {
       fits = c .union .ensures .fits;
       members = λ k.

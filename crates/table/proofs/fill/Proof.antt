@@ -12,13 +12,17 @@ cast-n : tie.Need-cast-n
 cast-n c = search needs
 
 firsts-requires : tie.Need-firsts-requires
-firsts-requires c κs = (given-readable (c .before .before .before .before .before .before .before .before .pre .given), refl)
+firsts-requires c κs =
+    let pre = c .before .before .before .before .before .before .before .before .pre in
+    (given-readable (pre .given), refl)
 
 slice-aggregate-follows : tie.Need-slice-aggregate-follows
 slice-aggregate-follows c = search needs
 
 follows-requires : tie.Need-follows-requires
-follows-requires c κs = (given-readable (c .before .before .before .before .before .before .before .before .before .before .before .before .before .before .pre .given), given-count (c .before .before .before .before .before .before .before .before .before .before .before .before .before .before .pre .given), refl)
+follows-requires c κs =
+    let pre = c .before .before .before .before .before .before .before .before .before .before .before .before .before .before .pre in
+    (given-readable (pre .given), given-count (pre .given), refl)
 
 slice-aggregate-enter : tie.Need-slice-aggregate-enter
 slice-aggregate-enter c = search needs
@@ -27,19 +31,29 @@ slice-aggregate-enter-2 : tie.Need-slice-aggregate-enter-2
 slice-aggregate-enter-2 c = search needs
 
 enter-requires : tie.Need-enter-requires
-enter-requires c κs = fill-enterable (c .before .before .before .before .before .before .before .before .before .before .before .before .before .before .before .before .before .before .pre) (c .before .before .before .before .before .before .before .before .before .firsts .ensures) (c .before .before .before .follows .ensures)
+enter-requires c κs =
+    let pre = c .before .before .before .before .before .before .before .before .before .before .before .before .before .before .before .before .before .before .pre in
+    let firsts = c .before .before .before .before .before .before .before .before .before .firsts in
+    let follows = c .before .before .before .follows in
+    fill-enterable pre (firsts .ensures) (follows .ensures)
 
 slice-aggregate-copy : tie.Need-slice-aggregate-copy
 slice-aggregate-copy c = search needs
 
 copy-requires : tie.Need-copy-requires
-copy-requires c κs = given-copies (c .before .before .before .before .before .before .before .before .before .before .before .before .before .before .before .before .before .before .before .before .before .before .before .before .before .pre .given) (c .before .before .before .before .before .before .before .before .before .before .before .before .before .before .before .before .firsts .ensures .sized) (c .before .before .before .before .before .before .before .before .before .before .before .before .before .before .before .before .before .before .before .before .before .before .before .before .before .pre .fit .first-fits)
+copy-requires c κs =
+    let pre = c .before .before .before .before .before .before .before .before .before .before .before .before .before .before .before .before .before .before .before .before .before .before .before .before .before .pre in
+    let firsts = c .before .before .before .before .before .before .before .before .before .before .before .before .before .before .before .before .firsts in
+    given-copies (pre .given) (firsts .ensures .sized) (pre .fit .first-fits)
 
 slice-aggregate-copy-2 : tie.Need-slice-aggregate-copy-2
 slice-aggregate-copy-2 c = search needs
 
 copy-requires-2 : tie.Need-copy-requires-2
-copy-requires-2 c κs = given-copies (c .before .before .before .before .before .before .before .before .before .before .before .before .before .before .before .before .before .before .before .before .before .before .before .before .before .before .before .before .before .before .pre .given) (c .before .before .before .before .before .before .before .before .before .before .before .before .before .before .before .follows .ensures .sized) (c .before .before .before .before .before .before .before .before .before .before .before .before .before .before .before .before .before .before .before .before .before .before .before .before .before .before .before .before .before .before .pre .fit .follow-fits)
+copy-requires-2 c κs =
+    let pre = c .before .before .before .before .before .before .before .before .before .before .before .before .before .before .before .before .before .before .before .before .before .before .before .before .before .before .before .before .before .before .pre in
+    let follows = c .before .before .before .before .before .before .before .before .before .before .before .before .before .before .before .follows in
+    given-copies (pre .given) (follows .ensures .sized) (pre .fit .follow-fits)
 
 same-length : tie.Need-same-length
 same-length c = search needs
@@ -52,14 +66,25 @@ same-length-3 c = search needs
 
 returns : tie.Need-returns
 returns c =
-    fill-served (c .before .before .before .before .before .before .before .before .before .before .before .before .before .before .before .before .before .before .before .before .before .before .before .before .before .before .before .before .before .before .before .before .before .pre) (c .before .before .before .before .before .before .before .before .before .before .before .before .before .before .before .before .before .before .before .before .before .before .before .before .firsts .ensures) (c .before .before .before .before .before .before .before .before .before .before .before .before .before .before .before .before .before .before .follows .ensures) (c .before .before .before .before .before .before .before .before .before .before .before .before .before .before .enter .ensures _ (c .before .before .before .before .before .before .before .before .before .before .before .before .before .before .before .before .before .before .before .before .before .before .before .before .before .before .before .before .before .before .before .before .before .pre .given .serves)) (c .before .before .before .before .before .before .before .before .before .before .if1 .taken) (c .before .before .before .before .before .before .before .copy .ensures) (c .before .before .copy2 .ensures)
+    let pre = c .before .before .before .before .before .before .before .before .before .before .before .before .before .before .before .before .before .before .before .before .before .before .before .before .before .before .before .before .before .before .before .before .before .pre in
+    let firsts = c .before .before .before .before .before .before .before .before .before .before .before .before .before .before .before .before .before .before .before .before .before .before .before .before .firsts in
+    let follows = c .before .before .before .before .before .before .before .before .before .before .before .before .before .before .before .before .before .before .follows in
+    let enter = c .before .before .before .before .before .before .before .before .before .before .before .before .before .before .enter in
+    let if1 = c .before .before .before .before .before .before .before .before .before .before .if1 in
+    let copy = c .before .before .before .before .before .before .before .copy in
+    let copy2 = c .before .before .copy2 in
+    fill-served pre (firsts .ensures) (follows .ensures) (enter .ensures _ (pre .given .serves)) (if1 .taken) (copy .ensures) (copy2 .ensures)
 
 same-length-4 : tie.Need-same-length-4
 same-length-4 c = search needs
 
 returns-2 : tie.Need-returns-2
 returns-2 c =
-    fill-refused (c .before .before .before .before .before .before .before .before .before .before .before .before .before .before .before .before .before .before .before .before .before .before .before .pre) (c .before .before .before .before .before .before .before .before .before .before .before .before .before .before .firsts .ensures) (c .before .before .before .before .before .before .before .before .follows .ensures) (c .before .before .before .before .enter .ensures _ (c .before .before .before .before .before .before .before .before .before .before .before .before .before .before .before .before .before .before .before .before .before .before .before .pre .given .serves)) (c .if1 .left)
+    let pre = c .before .before .before .before .before .before .before .before .before .before .before .before .before .before .before .before .before .before .before .before .before .before .before .pre in
+    let firsts = c .before .before .before .before .before .before .before .before .before .before .before .before .before .before .firsts in
+    let follows = c .before .before .before .before .before .before .before .before .follows in
+    let enter = c .before .before .before .before .enter in
+    fill-refused pre (firsts .ensures) (follows .ensures) (enter .ensures _ (pre .given .serves)) (c .if1 .left)
 
 pub fill-spec : {M : Type 1} → statement M
 fill-spec =

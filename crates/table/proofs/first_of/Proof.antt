@@ -36,10 +36,16 @@ single-requires : tie.Need-single-requires
 single-requires c κs = search needs
 
 trail-of-requires : tie.Need-trail-of-requires
-trail-of-requires c κs = (omega arith, ready-narrow (ready (c .before .before .before .before .before .before .before)))
+trail-of-requires c κs =
+    let state = c .before .before .before .before .before .before .before in
+    (omega arith, ready-narrow (ready state))
 
 returns-2 : tie.Need-returns-2
-returns-2 c = first-served (ready (c .before .before .before .before .before .before .before .before .before)) (c .before .before .before .before .firsts .ensures) (rw (c .before .before .single .ensures) at (c .before .trail-of .ensures))
+returns-2 c =
+    let state = c .before .before .before .before .before .before .before .before .before in
+    let firsts = c .before .before .before .before .firsts in
+    let single = c .before .before .single in
+    first-served (ready state) (firsts .ensures) (rw (single .ensures) at (c .before .trail-of .ensures))
 
 pub first-of-spec : {M : Type 1} → statement M
 first-of-spec =

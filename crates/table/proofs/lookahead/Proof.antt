@@ -32,7 +32,9 @@ slice-aggregate-follows : tie.Need-slice-aggregate-follows
 slice-aggregate-follows c = search needs
 
 follows-requires : tie.Need-follows-requires
-follows-requires c κs = (given-readable (ready (c .before .before .before .before .before .before .before .before .before .before) .given), given-count (ready (c .before .before .before .before .before .before .before .before .before .before) .given), refl)
+follows-requires c κs =
+    let state = c .before .before .before .before .before .before .before .before .before .before in
+    (given-readable (ready state .given), given-count (ready state .given), refl)
 
 place-at-requires : tie.Need-place-at-requires
 place-at-requires c κs = search needs
@@ -44,10 +46,18 @@ slice-aggregate-lookahead-at-2 : tie.Need-slice-aggregate-lookahead-at-2
 slice-aggregate-lookahead-at-2 c = search needs
 
 lookahead-at-requires : tie.Need-lookahead-at-requires
-lookahead-at-requires c κs = rw (c .before .before .place-at .ensures) (given-readable (ready (c .before .before .before .before .before .before .before .before .before .before .before .before .before .before .before .before .before) .given) .each _ (ready (c .before .before .before .before .before .before .before .before .before .before .before .before .before .before .before .before .before) .good))
+lookahead-at-requires c κs =
+    let state = c .before .before .before .before .before .before .before .before .before .before .before .before .before .before .before .before .before in
+    let place-at = c .before .before .place-at in
+    rw (place-at .ensures) (given-readable (ready state .given) .each _ (ready state .good))
 
 returns-2 : tie.Need-returns-2
-returns-2 c = lookahead-served (ready (c .before .before .before .before .before .before .before .before .before .before .before .before .before .before .before .before .before .before)) (c .before .before .before .before .before .before .before .before .before .before .before .before .before .firsts .ensures) (c .before .before .before .before .before .before .before .follows .ensures) (rw (c .before .before .before .place-at .ensures) at (c .lookahead-at .ensures))
+returns-2 c =
+    let state = c .before .before .before .before .before .before .before .before .before .before .before .before .before .before .before .before .before .before in
+    let firsts = c .before .before .before .before .before .before .before .before .before .before .before .before .before .firsts in
+    let follows = c .before .before .before .before .before .before .before .follows in
+    let place-at = c .before .before .before .place-at in
+    lookahead-served (ready state) (firsts .ensures) (follows .ensures) (rw (place-at .ensures) at (c .lookahead-at .ensures))
 
 pub lookahead-spec : {M : Type 1} → statement M
 lookahead-spec =

@@ -30,19 +30,27 @@ slice-aggregate-follows : tie.Need-slice-aggregate-follows
 slice-aggregate-follows c = search needs
 
 follows-requires : tie.Need-follows-requires
-follows-requires c κs = (given-readable (ready (c .before .before .before .before .before .before .before .before .before .before) .given), given-count (ready (c .before .before .before .before .before .before .before .before .before .before) .given), refl)
+follows-requires c κs =
+    let state = c .before .before .before .before .before .before .before .before .before .before in
+    (given-readable (ready state .given), given-count (ready state .given), refl)
 
 slice-aggregate-copy : tie.Need-slice-aggregate-copy
 slice-aggregate-copy c = search needs
 
 copy-requires : tie.Need-copy-requires
-copy-requires c κs = let x = ready (c .before .before .before .before .before .before .before .before .before .before .before .before .before) in given-copies (x .given) (c .before .before .before .before .before .before .before .before .firsts .ensures .sized) (x .fit .first-fits)
+copy-requires c κs =
+    let state = c .before .before .before .before .before .before .before .before .before .before .before .before .before in
+    let firsts = c .before .before .before .before .before .before .before .before .firsts in
+    let x = ready state in given-copies (x .given) (firsts .ensures .sized) (x .fit .first-fits)
 
 slice-aggregate-copy-2 : tie.Need-slice-aggregate-copy-2
 slice-aggregate-copy-2 c = search needs
 
 copy-requires-2 : tie.Need-copy-requires-2
-copy-requires-2 c κs = let x = ready (c .before .before .before .before .before .before .before .before .before .before .before .before .before .before .before .before .before .before) in given-copies (x .given) (c .before .before .before .before .before .before .before .follows .ensures .sized) (x .fit .follow-fits)
+copy-requires-2 c κs =
+    let state = c .before .before .before .before .before .before .before .before .before .before .before .before .before .before .before .before .before .before in
+    let follows = c .before .before .before .before .before .before .before .follows in
+    let x = ready state in given-copies (x .given) (follows .ensures .sized) (x .fit .follow-fits)
 
 same-length : tie.Need-same-length
 same-length c = search needs
@@ -51,7 +59,13 @@ same-length-2 : tie.Need-same-length-2
 same-length-2 c = search needs
 
 returns : tie.Need-returns
-returns c = let x = ready (c .before .before .before .before .before .before .before .before .before .before .before .before .before .before .before .before .before .before .before .before .before) in sets-served (x .given) (c .before .before .before .before .before .before .before .before .before .before .before .before .before .before .before .before .firsts .ensures) (c .before .before .before .before .before .before .before .before .before .before .follows .ensures) (x .fit) (x .is) (c .before .before .before .before .before .before .before .copy .ensures) (c .before .before .copy2 .ensures)
+returns c =
+    let state = c .before .before .before .before .before .before .before .before .before .before .before .before .before .before .before .before .before .before .before .before .before in
+    let firsts = c .before .before .before .before .before .before .before .before .before .before .before .before .before .before .before .before .firsts in
+    let follows = c .before .before .before .before .before .before .before .before .before .before .follows in
+    let copy = c .before .before .before .before .before .before .before .copy in
+    let copy2 = c .before .before .copy2 in
+    let x = ready state in sets-served (x .given) (firsts .ensures) (follows .ensures) (x .fit) (x .is) (copy .ensures) (copy2 .ensures)
 
 returns-2 : tie.Need-returns-2
 returns-2 c = sets-refused (checked (c .before .before)) (c .if1 .left)

@@ -45,13 +45,17 @@ put-requires t c κs = search needs
 
 returns : (t : ℕ) → decimal-lts.Need-returns (calls t) (given t) decimal.Post
 returns t c =
-    let n : ℕ = c .before .before .before .before .before .before .before .args .n in
-    let put : Put (c .before .before .before .before .before .if1 .out) (c .before .before .before .before .before .if1 .last)
-    (digit (n % 10) ∷ []) (c .before .before .put .last .0) (c .before .before .put .result) =
-    rw (c .before .before .before .digit .ensures) at (c .before .before .put .ensures) in
+    let args = c .before .before .before .before .before .before .before .args in
+    let if1 = c .before .before .before .before .before .if1 in
+    let digit-there = c .before .before .before .digit in
+    let put-there = c .before .before .put in
+    let n : ℕ = args .n in
+    let put : Put (if1 .out) (if1 .last)
+    (digit (n % 10) ∷ []) (put-there .last .0) (put-there .result) =
+    rw (digit-there .ensures) at (put-there .ensures) in
     ⊎-elim (λ w. put-last (w .0 .taken) (w .2 .ensures) (rw (w .5, w .6) at put))
     (λ w. put-only (w .0 .left) (rw (w .1, w .2) at put))
-    (c .before .before .before .before .before .if1 .came)
+    (if1 .came)
 
 same-length : (t : ℕ) → decimal-lts.Need-same-length (calls t) (given t) decimal.Post
 same-length t c = put-length (returns t c)

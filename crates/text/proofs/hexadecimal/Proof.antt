@@ -41,13 +41,18 @@ loop-less c = search needs
 
 loop-again : tie.Need-loop-again Inv-loop μ-loop
 loop-again c =
-    let n : ℕ = c .before .before .before .before .before .before .before .before .args .n in
-    let left : ℕ = c .before .before .before .before .before .before .loop .left in (
+    let args = c .before .before .before .before .before .before .before .before .args in
+    let loop = c .before .before .before .before .before .before .loop in
+    let loop-test = c .before .before .before .before .before .loop-test in
+    let digit-there = c .before .before .before .digit in
+    let put = c .before .before .put in
+    let n : ℕ = args .n in
+    let left : ℕ = loop .left in (
       omega arith,
       completes-more (digit (n / 2 ^ (4 * (left - 1)) % 16) ∷ []) (hexDigits (left - 1) n)
-          (rw (hexDigits-next left n (c .before .before .before .before .before .loop-test .taken)) at
-          (c .before .before .before .before .before .before .loop .inv .1))
-          (rw (c .before .before .before .digit .ensures) at (c .before .before .put .ensures)),
+          (rw (hexDigits-next left n (loop-test .taken)) at
+          (loop .inv .1))
+          (rw (digit-there .ensures) at (put .ensures)),
     )
 
 returns : tie.Need-returns Inv-loop μ-loop

@@ -33,13 +33,17 @@ loop-less c = search needs
 
 loop-again : tie.Need-loop-again Inv-loop μ-loop
 loop-again c =
-    let text : List ℕ = c .before .before .before .before .before .before .before .before .before .args .text .now in
-    let i : ℕ = c .before .before .before .before .before .before .loop .i in (
+    let args = c .before .before .before .before .before .before .before .before .before .args in
+    let loop = c .before .before .before .before .before .before .loop in
+    let loop-test = c .before .before .before .before .before .loop-test in
+    let put = c .before .before .put in
+    let text : List ℕ = args .text .now in
+    let i : ℕ = loop .i in (
       omega arith,
       completes-more (getD text i 0 ∷ []) (drop (i + 1) text)
-          (rw (drop-cons text i 0 (c .before .before .before .before .before .loop-test .taken), ← (add-one i)) at
-          (c .before .before .before .before .before .before .loop .inv .1))
-          (c .before .before .put .ensures),
+          (rw (drop-cons text i 0 (loop-test .taken), ← (add-one i)) at
+          (loop .inv .1))
+          (put .ensures),
     )
 
 returns : tie.Need-returns Inv-loop μ-loop

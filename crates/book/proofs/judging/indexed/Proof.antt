@@ -27,16 +27,19 @@ slice-aggregate-survey-3 : tie.Need-slice-aggregate-survey-3
 slice-aggregate-survey-3 c = search needs
 
 survey-requires : tie.Need-survey-requires
-survey-requires c κs = (
-  record {
-    grammar = c .before .before .before .before .before .before .before .before .pre .0;
-    read = c .before .before .before .before .before .before .before .before .pre .1;
-    counted = header-counted _ (c .before .before .before .before .before .before .before .before .pre .1) (c .before .before .before .before .byte-at3 .ensures) (c .before .before .before .cells-for .ensures);
-  },
-  search needs,
-  search needs,
-  search needs,
-)
+survey-requires c κs =
+    let pre = c .before .before .before .before .before .before .before .before .pre in
+    let byte-at3 = c .before .before .before .before .byte-at3 in
+    let cells-for = c .before .before .before .cells-for in (
+      record {
+        grammar = pre .0;
+        read = pre .1;
+        counted = header-counted _ (pre .1) (byte-at3 .ensures) (cells-for .ensures);
+      },
+      search needs,
+      search needs,
+      search needs,
+    )
 
 slice-aggregate-first-useless : tie.Need-slice-aggregate-first-useless
 slice-aggregate-first-useless c = search needs
@@ -45,7 +48,10 @@ slice-aggregate-first-useless-2 : tie.Need-slice-aggregate-first-useless-2
 slice-aggregate-first-useless-2 c = search needs
 
 first-useless-requires : tie.Need-first-useless-requires
-first-useless-requires c κs = (omega (arith, c .before .before .before .before .before .before .before .before .before .cells-for .ensures), c .before .before .before .before .before .survey .ensures .named .size)
+first-useless-requires c κs =
+    let cells-for = c .before .before .before .before .before .before .before .before .before .cells-for in
+    let survey = c .before .before .before .before .before .survey in
+    (omega (arith, cells-for .ensures), survey .ensures .named .size)
 
 cast-refusal : tie.Need-cast-refusal
 cast-refusal c = search needs
@@ -58,8 +64,16 @@ refusing-requires c κs = search needs
 
 returns : tie.Need-returns
 returns c =
-    let decided = survey-decides _ (c .before .before .before .before .before .before .before .before .before .before .before .before .before .before .before .before .before .before .before .pre .1) (c .before .before .before .before .before .before .before .before .before .before .before .before .before .before .before .before .before .byte-at .ensures) (c .before .before .before .before .before .before .before .before .before .before .before .before .before .before .before .before .byte-at2 .ensures) (c .before .before .before .before .before .before .before .before .before .before .before .before .before .before .before .byte-at3 .ensures) (c .before .before .before .before .before .before .before .before .before .before .before .before .before .before .cells-for .ensures) (c .before .before .before .before .before .before .before .before .before .before .survey .ensures) (c .before .before .before .before .first-useless .ensures) in
-    rw (c .refusing .ensures, c .before .refusal .ensures) (judged-useless (decided .0) (decided .1) (c .before .before .if1 .taken))
+    let pre = c .before .before .before .before .before .before .before .before .before .before .before .before .before .before .before .before .before .before .before .pre in
+    let byte-at = c .before .before .before .before .before .before .before .before .before .before .before .before .before .before .before .before .before .byte-at in
+    let byte-at2 = c .before .before .before .before .before .before .before .before .before .before .before .before .before .before .before .before .byte-at2 in
+    let byte-at3 = c .before .before .before .before .before .before .before .before .before .before .before .before .before .before .before .byte-at3 in
+    let cells-for = c .before .before .before .before .before .before .before .before .before .before .before .before .before .before .cells-for in
+    let survey = c .before .before .before .before .before .before .before .before .before .before .survey in
+    let first-useless = c .before .before .before .before .first-useless in
+    let if1 = c .before .before .if1 in
+    let decided = survey-decides _ (pre .1) (byte-at .ensures) (byte-at2 .ensures) (byte-at3 .ensures) (cells-for .ensures) (survey .ensures) (first-useless .ensures) in
+    rw (c .refusing .ensures, c .before .refusal .ensures) (judged-useless (decided .0) (decided .1) (if1 .taken))
 
 done-requires : tie.Need-done-requires
 done-requires c κs = search needs
@@ -69,8 +83,16 @@ byte-at-requires-4 c κs = search needs
 
 returns-2 : tie.Need-returns-2
 returns-2 c =
-    let decided = survey-decides _ (c .before .before .before .before .before .before .before .before .before .before .before .before .before .before .before .before .before .before .before .pre .1) (c .before .before .before .before .before .before .before .before .before .before .before .before .before .before .before .before .before .byte-at .ensures) (c .before .before .before .before .before .before .before .before .before .before .before .before .before .before .before .before .byte-at2 .ensures) (c .before .before .before .before .before .before .before .before .before .before .before .before .before .before .before .byte-at3 .ensures) (c .before .before .before .before .before .before .before .before .before .before .before .before .before .before .cells-for .ensures) (c .before .before .before .before .before .before .before .before .before .before .survey .ensures) (c .before .before .before .before .first-useless .ensures) in
-    judged-served (decided .0) (decided .1) (c .before .before .if1 .left) (c .byte-at4 .ensures) (c .before .done .ensures)
+    let pre = c .before .before .before .before .before .before .before .before .before .before .before .before .before .before .before .before .before .before .before .pre in
+    let byte-at = c .before .before .before .before .before .before .before .before .before .before .before .before .before .before .before .before .before .byte-at in
+    let byte-at2 = c .before .before .before .before .before .before .before .before .before .before .before .before .before .before .before .before .byte-at2 in
+    let byte-at3 = c .before .before .before .before .before .before .before .before .before .before .before .before .before .before .before .byte-at3 in
+    let cells-for = c .before .before .before .before .before .before .before .before .before .before .before .before .before .before .cells-for in
+    let survey = c .before .before .before .before .before .before .before .before .before .before .survey in
+    let first-useless = c .before .before .before .before .first-useless in
+    let if1 = c .before .before .if1 in
+    let decided = survey-decides _ (pre .1) (byte-at .ensures) (byte-at2 .ensures) (byte-at3 .ensures) (cells-for .ensures) (survey .ensures) (first-useless .ensures) in
+    judged-served (decided .0) (decided .1) (if1 .left) (c .byte-at4 .ensures) (c .before .done .ensures)
 
 pub indexed-spec : {M : Type 1} → statement M
 indexed-spec =

@@ -19,12 +19,14 @@ refused-requires c κs = search needs
 
 returns : tie.Need-returns
 returns c =
+    let args = c .before .before .before .before .args in
+    let is-within = c .before .before .is-within in
     c .refused .ensures
     ∙ sym
     (header-first
-    (c .before .before .before .before .args .book .now)
-    (c .before .before .before .before .args .at)
-    (told-wrong (c .before .before .is-within .ensures) (c .before .if1 .taken)))
+    (args .book .now)
+    (args .at)
+    (told-wrong (is-within .ensures) (c .before .if1 .taken)))
 
 add-is-within-2 : tie.Need-add-is-within-2
 add-is-within-2 c = search needs
@@ -37,13 +39,17 @@ refused-requires-2 c κs = search needs
 
 returns-2 : tie.Need-returns-2
 returns-2 c =
+    let args = c .before .before .before .before .before .before .args in
+    let is-within = c .before .before .before .before .is-within in
+    let if1 = c .before .before .before .if1 in
+    let is-within2 = c .before .before .is-within2 in
     c .refused2 .ensures
     ∙ sym
     (header-second
-    (c .before .before .before .before .before .before .args .book .now)
-    (c .before .before .before .before .before .before .args .at)
-    (told-right (c .before .before .before .before .is-within .ensures) (c .before .before .before .if1 .left))
-    (told-wrong (c .before .before .is-within2 .ensures) (c .before .if2 .taken)))
+    (args .book .now)
+    (args .at)
+    (told-right (is-within .ensures) (if1 .left))
+    (told-wrong (is-within2 .ensures) (c .before .if2 .taken)))
 
 is-within-requires-3 : tie.Need-is-within-requires-3
 is-within-requires-3 c κs = search needs
@@ -53,14 +59,20 @@ refused-requires-3 c κs = search needs
 
 returns-3 : tie.Need-returns-3
 returns-3 c =
+    let args = c .before .before .before .before .before .before .before .before .args in
+    let is-within = c .before .before .before .before .before .before .is-within in
+    let if1 = c .before .before .before .before .before .if1 in
+    let is-within2 = c .before .before .before .before .is-within2 in
+    let if2 = c .before .before .before .if2 in
+    let is-within3 = c .before .before .is-within3 in
     c .refused3 .ensures
     ∙ sym
     (header-third
-    (c .before .before .before .before .before .before .before .before .args .book .now)
-    (c .before .before .before .before .before .before .before .before .args .at)
-    (told-right (c .before .before .before .before .before .before .is-within .ensures) (c .before .before .before .before .before .if1 .left))
-    (told-right (c .before .before .before .before .is-within2 .ensures) (c .before .before .before .if2 .left))
-    (told-wrong (c .before .before .is-within3 .ensures) (c .before .if3 .taken)))
+    (args .book .now)
+    (args .at)
+    (told-right (is-within .ensures) (if1 .left))
+    (told-right (is-within2 .ensures) (if2 .left))
+    (told-wrong (is-within3 .ensures) (c .before .if3 .taken)))
 
 is-within-requires-4 : tie.Need-is-within-requires-4
 is-within-requires-4 c κs = search needs
@@ -70,15 +82,23 @@ refused-requires-4 c κs = search needs
 
 returns-4 : tie.Need-returns-4
 returns-4 c =
+    let args = c .before .before .before .before .before .before .before .before .before .before .args in
+    let is-within = c .before .before .before .before .before .before .before .before .is-within in
+    let if1 = c .before .before .before .before .before .before .before .if1 in
+    let is-within2 = c .before .before .before .before .before .before .is-within2 in
+    let if2 = c .before .before .before .before .before .if2 in
+    let is-within3 = c .before .before .before .before .is-within3 in
+    let if3 = c .before .before .before .if3 in
+    let is-within4 = c .before .before .is-within4 in
     c .refused4 .ensures
     ∙ sym
     (header-fourth
-    (c .before .before .before .before .before .before .before .before .before .before .args .book .now)
-    (c .before .before .before .before .before .before .before .before .before .before .args .at)
-    (told-right (c .before .before .before .before .before .before .before .before .is-within .ensures) (c .before .before .before .before .before .before .before .if1 .left))
-    (told-right (c .before .before .before .before .before .before .is-within2 .ensures) (c .before .before .before .before .before .if2 .left))
-    (told-right (c .before .before .before .before .is-within3 .ensures) (c .before .before .before .if3 .left))
-    (told-wrong (c .before .before .is-within4 .ensures) (c .before .if4 .taken)))
+    (args .book .now)
+    (args .at)
+    (told-right (is-within .ensures) (if1 .left))
+    (told-right (is-within2 .ensures) (if2 .left))
+    (told-right (is-within3 .ensures) (if3 .left))
+    (told-wrong (is-within4 .ensures) (c .before .if4 .taken)))
 
 byte-at-requires : tie.Need-byte-at-requires
 byte-at-requires c κs = search needs
@@ -91,16 +111,27 @@ refused-requires-5 c κs = search needs
 
 returns-5 : tie.Need-returns-5
 returns-5 c =
+    let args = c .before .before .before .before .before .before .before .before .before .before .before .before .before .args in
+    let is-within = c .before .before .before .before .before .before .before .before .before .before .before .is-within in
+    let if1 = c .before .before .before .before .before .before .before .before .before .before .if1 in
+    let is-within2 = c .before .before .before .before .before .before .before .before .before .is-within2 in
+    let if2 = c .before .before .before .before .before .before .before .before .if2 in
+    let is-within3 = c .before .before .before .before .before .before .before .is-within3 in
+    let if3 = c .before .before .before .before .before .before .if3 in
+    let is-within4 = c .before .before .before .before .before .is-within4 in
+    let if4 = c .before .before .before .before .if4 in
+    let byte-at = c .before .before .before .byte-at in
+    let is-within5 = c .before .before .is-within5 in
     c .refused5 .ensures
     ∙ sym
     (header-fifth
-    (c .before .before .before .before .before .before .before .before .before .before .before .before .before .args .book .now)
-    (c .before .before .before .before .before .before .before .before .before .before .before .before .before .args .at)
-    (told-right (c .before .before .before .before .before .before .before .before .before .before .before .is-within .ensures) (c .before .before .before .before .before .before .before .before .before .before .if1 .left))
-    (told-right (c .before .before .before .before .before .before .before .before .before .is-within2 .ensures) (c .before .before .before .before .before .before .before .before .if2 .left))
-    (told-right (c .before .before .before .before .before .before .before .is-within3 .ensures) (c .before .before .before .before .before .before .if3 .left))
-    (told-right (c .before .before .before .before .before .is-within4 .ensures) (c .before .before .before .before .if4 .left))
-    (rw (c .before .before .before .byte-at .ensures) at (told-wrong (c .before .before .is-within5 .ensures) (c .before .if5 .taken))))
+    (args .book .now)
+    (args .at)
+    (told-right (is-within .ensures) (if1 .left))
+    (told-right (is-within2 .ensures) (if2 .left))
+    (told-right (is-within3 .ensures) (if3 .left))
+    (told-right (is-within4 .ensures) (if4 .left))
+    (rw (byte-at .ensures) at (told-wrong (is-within5 .ensures) (c .before .if5 .taken))))
 
 is-within-requires-6 : tie.Need-is-within-requires-6
 is-within-requires-6 c κs = search needs
@@ -110,32 +141,59 @@ refused-requires-6 c κs = search needs
 
 returns-6 : tie.Need-returns-6
 returns-6 c =
+    let args = c .before .before .before .before .before .before .before .before .before .before .before .before .before .before .before .args in
+    let is-within = c .before .before .before .before .before .before .before .before .before .before .before .before .before .is-within in
+    let if1 = c .before .before .before .before .before .before .before .before .before .before .before .before .if1 in
+    let is-within2 = c .before .before .before .before .before .before .before .before .before .before .before .is-within2 in
+    let if2 = c .before .before .before .before .before .before .before .before .before .before .if2 in
+    let is-within3 = c .before .before .before .before .before .before .before .before .before .is-within3 in
+    let if3 = c .before .before .before .before .before .before .before .before .if3 in
+    let is-within4 = c .before .before .before .before .before .before .before .is-within4 in
+    let if4 = c .before .before .before .before .before .before .if4 in
+    let byte-at = c .before .before .before .before .before .byte-at in
+    let is-within5 = c .before .before .before .before .is-within5 in
+    let if5 = c .before .before .before .if5 in
+    let is-within6 = c .before .before .is-within6 in
     c .refused6 .ensures
     ∙ sym
     (header-sixth
-    (c .before .before .before .before .before .before .before .before .before .before .before .before .before .before .before .args .book .now)
-    (c .before .before .before .before .before .before .before .before .before .before .before .before .before .before .before .args .at)
-    (told-right (c .before .before .before .before .before .before .before .before .before .before .before .before .before .is-within .ensures) (c .before .before .before .before .before .before .before .before .before .before .before .before .if1 .left))
-    (told-right (c .before .before .before .before .before .before .before .before .before .before .before .is-within2 .ensures) (c .before .before .before .before .before .before .before .before .before .before .if2 .left))
-    (told-right (c .before .before .before .before .before .before .before .before .before .is-within3 .ensures) (c .before .before .before .before .before .before .before .before .if3 .left))
-    (told-right (c .before .before .before .before .before .before .before .is-within4 .ensures) (c .before .before .before .before .before .before .if4 .left))
-    (rw (c .before .before .before .before .before .byte-at .ensures) at (told-right (c .before .before .before .before .is-within5 .ensures) (c .before .before .before .if5 .left)))
-    (told-wrong (c .before .before .is-within6 .ensures) (c .before .if6 .taken)))
+    (args .book .now)
+    (args .at)
+    (told-right (is-within .ensures) (if1 .left))
+    (told-right (is-within2 .ensures) (if2 .left))
+    (told-right (is-within3 .ensures) (if3 .left))
+    (told-right (is-within4 .ensures) (if4 .left))
+    (rw (byte-at .ensures) at (told-right (is-within5 .ensures) (if5 .left)))
+    (told-wrong (is-within6 .ensures) (c .before .if6 .taken)))
 
 add-t6 : tie.Need-add-t6
-add-t6 c = omega (arith, told-inside (c .before .before .before .before .before .before .before .before .before .before .before .before .before .before .args .book .now) 1 129 (c .before .before .before .before .before .before .before .before .before .before .before .before .before .before .args .at + 5) (c .before .is-within6 .ensures) (c .if6 .left))
+add-t6 c =
+    let args = c .before .before .before .before .before .before .before .before .before .before .before .before .before .before .args in
+    omega (arith, told-inside (args .book .now) 1 129 (args .at + 5) (c .before .is-within6 .ensures) (c .if6 .left))
 
 returns-7 : tie.Need-returns-7
 returns-7 c =
+    let args = c .before .before .before .before .before .before .before .before .before .before .before .before .before .before .args in
+    let is-within = c .before .before .before .before .before .before .before .before .before .before .before .before .is-within in
+    let if1 = c .before .before .before .before .before .before .before .before .before .before .before .if1 in
+    let is-within2 = c .before .before .before .before .before .before .before .before .before .before .is-within2 in
+    let if2 = c .before .before .before .before .before .before .before .before .before .if2 in
+    let is-within3 = c .before .before .before .before .before .before .before .before .is-within3 in
+    let if3 = c .before .before .before .before .before .before .before .if3 in
+    let is-within4 = c .before .before .before .before .before .before .is-within4 in
+    let if4 = c .before .before .before .before .before .if4 in
+    let byte-at = c .before .before .before .before .byte-at in
+    let is-within5 = c .before .before .before .is-within5 in
+    let if5 = c .before .before .if5 in
     sym
     (header-whole
-    (c .before .before .before .before .before .before .before .before .before .before .before .before .before .before .args .book .now)
-    (c .before .before .before .before .before .before .before .before .before .before .before .before .before .before .args .at)
-    (told-right (c .before .before .before .before .before .before .before .before .before .before .before .before .is-within .ensures) (c .before .before .before .before .before .before .before .before .before .before .before .if1 .left))
-    (told-right (c .before .before .before .before .before .before .before .before .before .before .is-within2 .ensures) (c .before .before .before .before .before .before .before .before .before .if2 .left))
-    (told-right (c .before .before .before .before .before .before .before .before .is-within3 .ensures) (c .before .before .before .before .before .before .before .if3 .left))
-    (told-right (c .before .before .before .before .before .before .is-within4 .ensures) (c .before .before .before .before .before .if4 .left))
-    (rw (c .before .before .before .before .byte-at .ensures) at (told-right (c .before .before .before .is-within5 .ensures) (c .before .before .if5 .left)))
+    (args .book .now)
+    (args .at)
+    (told-right (is-within .ensures) (if1 .left))
+    (told-right (is-within2 .ensures) (if2 .left))
+    (told-right (is-within3 .ensures) (if3 .left))
+    (told-right (is-within4 .ensures) (if4 .left))
+    (rw (byte-at .ensures) at (told-right (is-within5 .ensures) (if5 .left)))
     (told-right (c .before .is-within6 .ensures) (c .if6 .left)))
 
 pub header-spec : {M : Type 1} → statement M

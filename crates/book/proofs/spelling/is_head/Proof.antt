@@ -49,13 +49,24 @@ lies-in-requires-2 c κs = search needs
 
 returns-3 : tie.Need-returns-3
 unfolding headAt
-returns-3 c = simp (headAt, told-right (c .before .before .before .before .before .before .before .stands .ensures) (c .before .before .before .before .before .before .if1 .left), told-right (c .before .before .before .before .lies-in .ensures) (c .before .before .before .if2 .left), told-wrong (c .before .lies-in2 .ensures) (c .if3 .taken))
+returns-3 c =
+    let stands = c .before .before .before .before .before .before .before .stands in
+    let if1 = c .before .before .before .before .before .before .if1 in
+    let lies-in = c .before .before .before .before .lies-in in
+    let if2 = c .before .before .before .if2 in
+    simp (headAt, told-right (stands .ensures) (if1 .left), told-right (lies-in .ensures) (if2 .left), told-wrong (c .before .lies-in2 .ensures) (c .if3 .taken))
 
 add-lies-in-4 : tie.Need-add-lies-in-4
-add-lies-in-4 c = omega (arith, four-there (c .before .before .before .before .before .before .before) (c .before .before .before .before .before .before .if1 .left))
+add-lies-in-4 c =
+    let state = c .before .before .before .before .before .before .before in
+    let if1 = c .before .before .before .before .before .before .if1 in
+    omega (arith, four-there state (if1 .left))
 
 shared-slice-read-lies-in-3 : tie.Need-shared-slice-read-lies-in-3
-shared-slice-read-lies-in-3 c = omega (arith, four-there (c .before .before .before .before .before .before .before .before) (c .before .before .before .before .before .before .before .if1 .left))
+shared-slice-read-lies-in-3 c =
+    let state = c .before .before .before .before .before .before .before .before in
+    let if1 = c .before .before .before .before .before .before .before .if1 in
+    omega (arith, four-there state (if1 .left))
 
 lies-in-requires-3 : tie.Need-lies-in-requires-3
 lies-in-requires-3 c κs = search needs
@@ -63,14 +74,26 @@ lies-in-requires-3 c κs = search needs
 returns-4 : tie.Need-returns-4
 unfolding headAt
 returns-4 c =
+    let stands = c .before .before .before .before .before .before .before .before .before .before .stands in
+    let if1 = c .before .before .before .before .before .before .before .before .before .if1 in
+    let lies-in = c .before .before .before .before .before .before .before .lies-in in
+    let if2 = c .before .before .before .before .before .before .if2 in
+    let lies-in2 = c .before .before .before .before .lies-in2 in
+    let if3 = c .before .before .before .if3 in
     simp
-    (headAt, told-right (c .before .before .before .before .before .before .before .before .before .before .stands .ensures) (c .before .before .before .before .before .before .before .before .before .if1 .left), told-right (c .before .before .before .before .before .before .before .lies-in .ensures) (c .before .before .before .before .before .before .if2 .left), told-right (c .before .before .before .before .lies-in2 .ensures) (c .before .before .before .if3 .left), told-wrong (c .before .lies-in3 .ensures) (c .if4 .taken))
+    (headAt, told-right (stands .ensures) (if1 .left), told-right (lies-in .ensures) (if2 .left), told-right (lies-in2 .ensures) (if3 .left), told-wrong (c .before .lies-in3 .ensures) (c .if4 .taken))
 
 add-lies-in-5 : tie.Need-add-lies-in-5
-add-lies-in-5 c = omega (arith, four-there (c .before .before .before .before .before .before .before .before .before .before) (c .before .before .before .before .before .before .before .before .before .if1 .left))
+add-lies-in-5 c =
+    let state = c .before .before .before .before .before .before .before .before .before .before in
+    let if1 = c .before .before .before .before .before .before .before .before .before .if1 in
+    omega (arith, four-there state (if1 .left))
 
 shared-slice-read-lies-in-4 : tie.Need-shared-slice-read-lies-in-4
-shared-slice-read-lies-in-4 c = omega (arith, four-there (c .before .before .before .before .before .before .before .before .before .before .before) (c .before .before .before .before .before .before .before .before .before .before .if1 .left))
+shared-slice-read-lies-in-4 c =
+    let state = c .before .before .before .before .before .before .before .before .before .before .before in
+    let if1 = c .before .before .before .before .before .before .before .before .before .before .if1 in
+    omega (arith, four-there state (if1 .left))
 
 lies-in-requires-4 : tie.Need-lies-in-requires-4
 lies-in-requires-4 c κs = search needs
@@ -78,8 +101,16 @@ lies-in-requires-4 c κs = search needs
 returns-5 : tie.Need-returns-5
 unfolding headAt
 returns-5 c =
+    let stands = c .before .before .before .before .before .before .before .before .before .before .before .before .stands in
+    let if1 = c .before .before .before .before .before .before .before .before .before .before .before .if1 in
+    let lies-in = c .before .before .before .before .before .before .before .before .before .lies-in in
+    let if2 = c .before .before .before .before .before .before .before .before .if2 in
+    let lies-in2 = c .before .before .before .before .before .before .lies-in2 in
+    let if3 = c .before .before .before .before .before .if3 in
+    let lies-in3 = c .before .before .before .lies-in3 in
+    let if4 = c .before .before .if4 in
     simp
-    (headAt, told-right (c .before .before .before .before .before .before .before .before .before .before .before .before .stands .ensures) (c .before .before .before .before .before .before .before .before .before .before .before .if1 .left), told-right (c .before .before .before .before .before .before .before .before .before .lies-in .ensures) (c .before .before .before .before .before .before .before .before .if2 .left), told-right (c .before .before .before .before .before .before .lies-in2 .ensures) (c .before .before .before .before .before .if3 .left), told-right (c .before .before .before .lies-in3 .ensures) (c .before .before .if4 .left), c .lies-in4 .ensures)
+    (headAt, told-right (stands .ensures) (if1 .left), told-right (lies-in .ensures) (if2 .left), told-right (lies-in2 .ensures) (if3 .left), told-right (lies-in3 .ensures) (if4 .left), c .lies-in4 .ensures)
 
 pub is-head-spec : {M : Type 1} → statement M
 is-head-spec =

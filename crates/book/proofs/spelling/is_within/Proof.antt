@@ -16,7 +16,10 @@ add-lies-in : tie.Need-add-lies-in
 add-lies-in c = omega (arith, standing (c .before .before .before .args .at + c .before .before .before .args .more) (length (c .before .before .before .args .book .now)) (c .before .stands .ensures) (c .if1 .taken))
 
 shared-slice-read-lies-in : tie.Need-shared-slice-read-lies-in
-shared-slice-read-lies-in c = standing (c .before .before .before .before .args .at + c .before .before .before .before .args .more) (length (c .before .before .before .before .args .book .now)) (c .before .before .stands .ensures) (c .before .if1 .taken)
+shared-slice-read-lies-in c =
+    let args = c .before .before .before .before .args in
+    let stands = c .before .before .stands in
+    standing (args .at + args .more) (length (args .book .now)) (stands .ensures) (c .before .if1 .taken)
 
 lies-in-requires : tie.Need-lies-in-requires
 lies-in-requires c κs = search needs

@@ -31,11 +31,13 @@ returns c =
 
 returns-2 : tie.Need-returns-2
 returns-2 c =
-    let b = c .before .before .before .before .args .book .now in
-    let at = c .before .before .before .before .args .at in
+    let args = c .before .before .before .before .args in
+    let if1 = c .before .before .if1 in
+    let b = args .book .now in
+    let at = args .at in
     c .cut-off .ensures
     ∙ ap (cutOff b) (c .before .symbols2 .ensures)
-    ∙ sym (symbols-cut b _ _ (length b - at) at _ (omega arith) (omega (arith, c .before .before .if1 .left)))
+    ∙ sym (symbols-cut b _ _ (length b - at) at _ (omega arith) (omega (arith, if1 .left)))
 
 pub right-spec : {M : Type 1} → statement M
 right-spec =

@@ -28,8 +28,11 @@ is-symbol-requires c κs = search needs
 
 returns : tie.Need-returns Inv-loop μ-loop
 returns c =
-    sym (symbols-stop _ _ _ _ _ (c .before .before .before .loop-test .taken) (c .before .before .before .before .before .before .pre .1) (sym (c .before .is-symbol .ensures) ∙ not-true _ (c .if1 .taken)))
-    ∙ c .before .before .before .before .loop .inv .1
+    let pre = c .before .before .before .before .before .before .pre in
+    let loop = c .before .before .before .before .loop in
+    let loop-test = c .before .before .before .loop-test in
+    sym (symbols-stop _ _ _ _ _ (loop-test .taken) (pre .1) (sym (c .before .is-symbol .ensures) ∙ not-true _ (c .if1 .taken)))
+    ∙ loop .inv .1
 
 add-at : tie.Need-add-at Inv-loop μ-loop
 add-at c = search needs
@@ -38,11 +41,14 @@ loop-less : tie.Need-loop-less Inv-loop μ-loop
 loop-less c = search needs
 
 loop-again : tie.Need-loop-again Inv-loop μ-loop
-loop-again c = (
-  search needs,
-  sym (symbols-go _ _ _ _ _ (c .before .before .before .loop-test .taken) (c .before .before .before .before .before .before .pre .1) (sym (c .before .is-symbol .ensures) ∙ not-false _ (c .if1 .left)))
-      ∙ c .before .before .before .before .loop .inv .1,
-)
+loop-again c =
+    let pre = c .before .before .before .before .before .before .pre in
+    let loop = c .before .before .before .before .loop in
+    let loop-test = c .before .before .before .loop-test in (
+      search needs,
+      sym (symbols-go _ _ _ _ _ (loop-test .taken) (pre .1) (sym (c .before .is-symbol .ensures) ∙ not-false _ (c .if1 .left)))
+          ∙ loop .inv .1,
+    )
 
 returns-2 : tie.Need-returns-2 Inv-loop μ-loop
 returns-2 c = sym (symbols-over _ _ _ _ _ _ (c .loop-test .left)) ∙ c .before .loop .inv .1

@@ -31,11 +31,18 @@ same-length : tie.Need-same-length
 same-length c = search needs
 
 returns : tie.Need-returns
-returns c = λ g sides numbered started.
-    let productive = productive-exactly sides (rw (none-is (c .before .before .before .before .before .before .before .before .before .before .before .none .ensures)) at (c .before .before .before .before .before .before .before .before .before .before .closure .ensures)) in
-    let starts = rw started at (sym (c .before .before .before .before .before .before .before .before .before .has .ensures) ∙ c .before .before .before .before .before .before .before .before .if1 .taken) in
-    let one = rw started at (c .before .before .single .ensures) in
-    lowest-useless (useful-exactly sides productive (c .before .before .before .before .before .before .keep-productive .ensures) one starts (c .before .closure2 .ensures)) (rw numbered at (c .lowest-missing .ensures))
+returns c =
+    let none = c .before .before .before .before .before .before .before .before .before .before .before .none in
+    let closure = c .before .before .before .before .before .before .before .before .before .before .closure in
+    let has = c .before .before .before .before .before .before .before .before .before .has in
+    let if1 = c .before .before .before .before .before .before .before .before .if1 in
+    let keep-productive = c .before .before .before .before .before .before .keep-productive in
+    let single = c .before .before .single in
+    λ g sides numbered started.
+    let productive = productive-exactly sides (rw (none-is (none .ensures)) at (closure .ensures)) in
+    let starts = rw started at (sym (has .ensures) ∙ if1 .taken) in
+    let one = rw started at (single .ensures) in
+    lowest-useless (useful-exactly sides productive (keep-productive .ensures) one starts (c .before .closure2 .ensures)) (rw numbered at (c .lowest-missing .ensures))
 
 same-length-2 : tie.Need-same-length-2
 same-length-2 c = search needs

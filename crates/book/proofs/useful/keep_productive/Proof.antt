@@ -33,10 +33,14 @@ loop-less : tie.Need-loop-less Inv-loop μ-loop
 loop-less c = search needs
 
 loop-again : tie.Need-loop-again Inv-loop μ-loop
-loop-again c = (
-  search needs,
-  keeping-next (search needs) (c .before .before .before .before .before .before .before .before .loop .inv .1) (c .before .before .before .before .load .ensures .loaded) (c .before .before .before .kept .ensures) (c .before .before .store .ensures),
-)
+loop-again c =
+    let loop = c .before .before .before .before .before .before .before .before .loop in
+    let load = c .before .before .before .before .load in
+    let kept = c .before .before .before .kept in
+    let store = c .before .before .store in (
+      search needs,
+      keeping-next (search needs) (loop .inv .1) (load .ensures .loaded) (kept .ensures) (store .ensures),
+    )
 
 same-length : tie.Need-same-length Inv-loop μ-loop
 same-length c = c .before .loop .inv .1 .filled .size ∙ sym (c .before .before .before .pre .1)

@@ -36,11 +36,15 @@ abbrev μ-loop : tie.MeasureT-loop
 
 loop-holds : tie.Need-loop-holds Inv-loop μ-loop
 unfolding placeOfRecord
-loop-holds c = (search needs, search needs, refl, c .before .before .before .before .pre .1, rw sub-zero, filled-none (c .before .before .before .before .pre .2), filled-none (c .before .before .before .before .pre .3), few (c .before .before .before .before .pre .0))
+loop-holds c =
+    let pre = c .before .before .before .before .pre in
+    (search needs, search needs, refl, pre .1, rw sub-zero, filled-none (pre .2), filled-none (pre .3), few (pre .0))
 
 -- the record at hand lies within the book, and its length is a byte
 record-there : (d : tie.In-loop Inv-loop μ-loop) → d .before .loop .place + 4 + lengthAt (d .before .before .before .before .before .before .args .book .now) (d .before .loop .place) ≤ length (d .before .before .before .before .before .before .args .book .now)
-record-there d = rw (d .before .loop .inv .2) (record-fits _ (d .before .before .before .before .before .before .pre .0 .read) _ (omega (arith, d .loop-test .taken, d .before .before .before .before .before .before .pre .0 .counted)))
+record-there d =
+    let pre = d .before .before .before .before .before .before .pre in
+    rw (d .before .loop .inv .2) (record-fits _ (pre .0 .read) _ (omega (arith, d .loop-test .taken, pre .0 .counted)))
 
 length-byte : (d : tie.After-shared-slice-known2 Inv-loop μ-loop) → lengthAt (d .before .before .before .before .before .before .before .args .book .now) (d .before .before .loop .place) < 256
 length-byte d = d .shared-slice-known2 .given (d .before .before .loop .place + 3) .fits
@@ -73,7 +77,9 @@ add-single : tie.Need-add-single Inv-loop μ-loop
 add-single c = search needs
 
 shared-slice-read-single : tie.Need-shared-slice-read-single Inv-loop μ-loop
-shared-slice-read-single c = omega (arith, record-there (c .before .before .before .before .before .before .before .before))
+shared-slice-read-single c =
+    let state = c .before .before .before .before .before .before .before .before in
+    omega (arith, record-there state)
 
 single-requires : tie.Need-single-requires Inv-loop μ-loop
 single-requires c κs = search needs
@@ -82,13 +88,19 @@ store-requires-2 : tie.Need-store-requires-2 Inv-loop μ-loop
 store-requires-2 c κs = search needs
 
 cast-place : tie.Need-cast-place Inv-loop μ-loop
-cast-place c = record { fits = omega (arith, length-byte (c .before .before .before .before .before .before .before .before .before .before .before)) }
+cast-place c =
+    let state = c .before .before .before .before .before .before .before .before .before .before .before in
+    record { fits = omega (arith, length-byte state) }
 
 add-place : tie.Need-add-place Inv-loop μ-loop
-add-place c = record { fits = omega (arith, length-byte (c .before .before .before .before .before .before .before .before .before .before .before)) }
+add-place c =
+    let state = c .before .before .before .before .before .before .before .before .before .before .before in
+    record { fits = omega (arith, length-byte state) }
 
 add-place-2 : tie.Need-add-place-2 Inv-loop μ-loop
-add-place-2 c = record { fits = omega (arith, length-byte (c .before .before .before .before .before .before .before .before .before .before .before)) }
+add-place-2 c =
+    let state = c .before .before .before .before .before .before .before .before .before .before .before in
+    record { fits = omega (arith, length-byte state) }
 
 add-p : tie.Need-add-p Inv-loop μ-loop
 add-p c = search needs
@@ -98,25 +110,38 @@ loop-less c = search needs
 
 loop-again : tie.Need-loop-again Inv-loop μ-loop
 unfolding placeOfRecord placeAfter
-loop-again c = (
-  search needs,
-  omega (arith, length-byte (c .before .before .before .before .before .before .before .before .before .before .before), c .before .before .before .before .before .before .before .before .before .before .before .before .before .loop .inv .1),
-  rw (add-one, c .before .before .before .before .before .before .before .before .before .before .before .before .before .loop .inv .2) (omega arith),
-  search needs,
-  rw (c .before .before .before .before .before .before .before .before .before .before .before .before .before .loop .inv .2) (sym (places-turn _ _ _ _ (c .before .before .before .before .before .before .before .before .before .before .before .before .loop-test .taken)) ∙ c .before .before .before .before .before .before .before .before .before .before .before .before .before .loop .inv .4),
-  filled-next (search needs) (c .before .before .before .before .before .before .before .before .before .before .before .before .before .loop .inv .5) (rw (c .before .before .before .before .before .before .before .before .before .before .before .before .before .loop .inv .2) at (c .before .before .before .before .before .before .before .before .before .names-at .ensures)) (c .before .before .before .before .before .before .before .before .store .ensures),
-  filled-next (search needs) (c .before .before .before .before .before .before .before .before .before .before .before .before .before .loop .inv .6) (rw (c .before .before .before .before .before .before .before .before .before .before .before .before .before .loop .inv .2) at (c .before .before .before .single .ensures)) (c .before .before .store2 .ensures),
-  search needs,
-)
+loop-again c =
+    let loop = c .before .before .before .before .before .before .before .before .before .before .before .before .before .loop in
+    let loop-test = c .before .before .before .before .before .before .before .before .before .before .before .before .loop-test in
+    let state = c .before .before .before .before .before .before .before .before .before .before .before in
+    let names-at = c .before .before .before .before .before .before .before .before .before .names-at in
+    let store = c .before .before .before .before .before .before .before .before .store in
+    let single = c .before .before .before .single in
+    let store2 = c .before .before .store2 in (
+      search needs,
+      omega (arith, length-byte state, loop .inv .1),
+      rw (add-one, loop .inv .2) (omega arith),
+      search needs,
+      rw (loop .inv .2) (sym (places-turn _ _ _ _ (loop-test .taken)) ∙ loop .inv .4),
+      filled-next (search needs) (loop .inv .5) (rw (loop .inv .2) at (names-at .ensures)) (store .ensures),
+      filled-next (search needs) (loop .inv .6) (rw (loop .inv .2) at (single .ensures)) (store2 .ensures),
+      search needs,
+    )
 
 same-length : tie.Need-same-length Inv-loop μ-loop
-same-length c = c .before .loop .inv .3 ∙ sym (c .before .before .before .before .before .before .pre .1)
+same-length c =
+    let pre = c .before .before .before .before .before .before .pre in
+    c .before .loop .inv .3 ∙ sym (pre .1)
 
 same-length-2 : tie.Need-same-length-2 Inv-loop μ-loop
-same-length-2 c = c .before .loop .inv .5 .size ∙ sym (c .before .before .before .before .before .before .pre .2)
+same-length-2 c =
+    let pre = c .before .before .before .before .before .before .pre in
+    c .before .loop .inv .5 .size ∙ sym (pre .2)
 
 same-length-3 : tie.Need-same-length-3 Inv-loop μ-loop
-same-length-3 c = c .before .loop .inv .6 .size ∙ sym (c .before .before .before .before .before .before .pre .3)
+same-length-3 c =
+    let pre = c .before .before .before .before .before .before .pre in
+    c .before .loop .inv .6 .size ∙ sym (pre .3)
 
 returns : tie.Need-returns Inv-loop μ-loop
 returns c =

@@ -22,11 +22,17 @@ same-length c = search needs
 
 returns : tie.Need-returns
 returns c =
-    words-written (c .before .before .before .before .before .before .before .before .before .before .before .before .before .before .before .before .before .before .args .a) (c .before .before .before .before .before .before .before .before .before .before .before .before .before .before .before .before .before .before .args .out .now) (c .before .before .before .before .before .before .before .before .before .before .before .before .before .before .before .before .before .before .pre)
-    (c .before .before .before .before .before .before .before .before .before .before .before .before .before .before .write-word .ensures)
-    (c .before .before .before .before .before .before .before .before .before .before .write-word2 .ensures)
-    (c .before .before .before .before .before .before .write-word3 .ensures)
-    (c .before .before .write-word4 .ensures)
+    let args = c .before .before .before .before .before .before .before .before .before .before .before .before .before .before .before .before .before .before .args in
+    let pre = c .before .before .before .before .before .before .before .before .before .before .before .before .before .before .before .before .before .before .pre in
+    let write-word = c .before .before .before .before .before .before .before .before .before .before .before .before .before .before .write-word in
+    let write-word2 = c .before .before .before .before .before .before .before .before .before .before .write-word2 in
+    let write-word3 = c .before .before .before .before .before .before .write-word3 in
+    let write-word4 = c .before .before .write-word4 in
+    words-written (args .a) (args .out .now) pre
+    (write-word .ensures)
+    (write-word2 .ensures)
+    (write-word3 .ensures)
+    (write-word4 .ensures)
 
 pub write-answer-spec : {M : Type 1} → statement M
 write-answer-spec =

@@ -19,14 +19,22 @@ decimal-requires c κs = search needs
 
 returns : tie.Need-returns
 returns c =
-    rw (cell-vacant (c .before .before .before .before .before .before .before .before .before .before .args .cell) (c .before .before .before .before .if1 .taken))
-    (put-then (space ∷ []) (dash ∷ []) (c .before .before .before .before .before .before .before .put .ensures) (c .before .before .put2 .ensures))
+    let args = c .before .before .before .before .before .before .before .before .before .before .args in
+    let put = c .before .before .before .before .before .before .before .put in
+    let if1 = c .before .before .before .before .if1 in
+    let put2 = c .before .before .put2 in
+    rw (cell-vacant (args .cell) (if1 .taken))
+    (put-then (space ∷ []) (dash ∷ []) (put .ensures) (put2 .ensures))
 
 returns-2 : tie.Need-returns-2
 returns-2 c =
-    let cell = c .before .before .before .before .before .before .before .before .before .before .args .cell in
-    rw (cell-filled cell (c .before .before .before .before .if1 .left))
-    (put-then (space ∷ []) (decimal cell) (c .before .before .before .before .before .before .before .put .ensures) (c .before .before .decimal .ensures))
+    let args = c .before .before .before .before .before .before .before .before .before .before .args in
+    let put = c .before .before .before .before .before .before .before .put in
+    let if1 = c .before .before .before .before .if1 in
+    let decimal-there = c .before .before .decimal in
+    let cell = args .cell in
+    rw (cell-filled cell (if1 .left))
+    (put-then (space ∷ []) (decimal cell) (put .ensures) (decimal-there .ensures))
 
 same-length : tie.Need-same-length
 same-length c = put-length (returns c)

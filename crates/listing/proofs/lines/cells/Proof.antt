@@ -34,12 +34,16 @@ loop-less c = search needs
 
 loop-again : tie.Need-loop-again Inv-loop μ-loop
 loop-again c =
-    let cells : List ℕ = c .before .before .before .before .before .before .before .before .before .args .cells .now in
-    let i : ℕ = c .before .before .before .before .before .before .loop .i in (
+    let args = c .before .before .before .before .before .before .before .before .before .args in
+    let loop = c .before .before .before .before .before .before .loop in
+    let loop-test = c .before .before .before .before .before .loop-test in
+    let cell = c .before .before .cell in
+    let cells : List ℕ = args .cells .now in
+    let i : ℕ = loop .i in (
       omega arith,
       completes-more (space ∷ cellText (getD cells i 0)) (cellsText (drop (i + 1) cells))
-          (rw (cells-next cells i (c .before .before .before .before .before .loop-test .taken)) at (c .before .before .before .before .before .before .loop .inv .1))
-          (c .before .before .cell .ensures),
+          (rw (cells-next cells i (loop-test .taken)) at (loop .inv .1))
+          (cell .ensures),
     )
 
 returns : tie.Need-returns Inv-loop μ-loop

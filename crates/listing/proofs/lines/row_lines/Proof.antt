@@ -52,19 +52,23 @@ loop-less c = search needs
 
 loop-again : tie.Need-loop-again Inv-loop μ-loop
 loop-again c =
-    let columns : ℕ = c .before .before .before .before .before .before .before .before .before .args .columns in
-    let rows : ℕ = c .before .before .before .before .before .before .before .before .before .args .rows in
-    let table : List ℕ = c .before .before .before .before .before .before .before .before .before .args .table .now in
-    let from : ℕ = c .before .before .before .before .before .before .loop .from in
-    let row : ℕ = c .before .before .before .before .before .before .loop .row in
-    let inside : row < rows = c .before .before .before .before .before .loop-test .taken in
+    let args = c .before .before .before .before .before .before .before .before .before .args in
+    let loop = c .before .before .before .before .before .before .loop in
+    let loop-test = c .before .before .before .before .before .loop-test in
+    let row-line = c .before .before .row-line in
+    let columns : ℕ = args .columns in
+    let rows : ℕ = args .rows in
+    let table : List ℕ = args .table .now in
+    let from : ℕ = loop .from in
+    let row : ℕ = loop .row in
+    let inside : row < rows = loop-test .taken in
     let one-row : from + columns - from ≡ columns = omega arith in (
       omega arith,
       omega (arith, rows-left columns rows row inside),
       completes-more (rowLine row (take columns (drop from table)))
           (rowLines columns (row + 1) (rows - (row + 1)) (drop (from + columns) table))
-          (rw (rows-next columns rows table row from inside) at (c .before .before .before .before .before .before .loop .inv .2))
-          (rw one-row at (c .before .before .row-line .ensures)),
+          (rw (rows-next columns rows table row from inside) at (loop .inv .2))
+          (rw one-row at (row-line .ensures)),
     )
 
 returns : tie.Need-returns Inv-loop μ-loop

@@ -37,13 +37,17 @@ loop-less c = search needs
 
 loop-again : tie.Need-loop-again Inv-loop μ-loop
 loop-again c =
-    let word : List ℕ = c .before .before .before .before .before .before .before .before .before .before .args .word .now in
-    let sets : List ℕ = c .before .before .before .before .before .before .before .before .before .before .args .sets .now in
-    let n : ℕ = c .before .before .before .before .before .before .loop .n in (
+    let args = c .before .before .before .before .before .before .before .before .before .before .args in
+    let loop = c .before .before .before .before .before .before .loop in
+    let loop-test = c .before .before .before .before .before .loop-test in
+    let set-line = c .before .before .set-line in
+    let word : List ℕ = args .word .now in
+    let sets : List ℕ = args .sets .now in
+    let n : ℕ = loop .n in (
       omega arith,
       completes-more (setLine word n (getD sets n 0)) (setLines word (n + 1) (drop (n + 1) sets))
-          (rw (set-lines-next word sets n (c .before .before .before .before .before .loop-test .taken)) at (c .before .before .before .before .before .before .loop .inv .1))
-          (c .before .before .set-line .ensures),
+          (rw (set-lines-next word sets n (loop-test .taken)) at (loop .inv .1))
+          (set-line .ensures),
     )
 
 returns : tie.Need-returns Inv-loop μ-loop

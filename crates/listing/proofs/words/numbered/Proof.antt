@@ -38,12 +38,16 @@ loop-less c = search needs
 
 loop-again : tie.Need-loop-again Inv-loop μ-loop
 loop-again c =
-    let numbers : List ℕ = c .before .before .before .before .before .before .before .before .before .args .numbers .now in
-    let i : ℕ = c .before .before .before .before .before .before .loop .i in (
+    let args = c .before .before .before .before .before .before .before .before .before .args in
+    let loop = c .before .before .before .before .before .before .loop in
+    let loop-test = c .before .before .before .before .before .loop-test in
+    let spaced = c .before .before .spaced in
+    let numbers : List ℕ = args .numbers .now in
+    let i : ℕ = loop .i in (
       omega arith,
       completes-more (space ∷ decimal (getD numbers i 0)) (numbered (drop (i + 1) numbers))
-          (rw (numbered-next numbers i (c .before .before .before .before .before .loop-test .taken)) at (c .before .before .before .before .before .before .loop .inv .1))
-          (c .before .before .spaced .ensures),
+          (rw (numbered-next numbers i (loop-test .taken)) at (loop .inv .1))
+          (spaced .ensures),
     )
 
 returns : tie.Need-returns Inv-loop μ-loop

@@ -16,9 +16,12 @@ put-requires c κs = search needs
 returns : tie.Need-returns
 unfolding numbersLine
 returns c =
-    let args = c .before .before .before .before .before .before .before .before .before .before .before .args in
+    let args-there = c .before .before .before .before .before .before .before .before .before .before .before .args in
+    let opening = c .before .before .before .before .before .before .opening in
+    let put = c .before .before .put in
+    let args = args-there in
     put-behind (args .word .now) (numbered (args .numbers .now)) (newline ∷ [])
-    (c .before .before .before .before .before .before .opening .ensures) (c .before .before .put .ensures)
+    (opening .ensures) (put .ensures)
 
 same-length : tie.Need-same-length
 same-length c = put-length (returns c)

@@ -12,7 +12,10 @@ numbered-requires : tie.Need-numbered-requires
 numbered-requires c κs = search needs
 
 returns : tie.Need-returns
-returns c = put-then _ (numbered _) (c .before .before .before .before .before .before .put-all .ensures) (c .before .before .numbered .ensures)
+returns c =
+    let put-all = c .before .before .before .before .before .before .put-all in
+    let numbered-there = c .before .before .numbered in
+    put-then _ (numbered _) (put-all .ensures) (numbered-there .ensures)
 
 same-length : tie.Need-same-length
 same-length c = put-length (returns c)

@@ -14,7 +14,10 @@ decimal-requires : tie.Need-decimal-requires
 decimal-requires c κs = search needs
 
 returns : tie.Need-returns
-returns c = put-then (space ∷ []) (decimal _) (c .before .before .before .before .before .before .put .ensures) (c .before .before .decimal .ensures)
+returns c =
+    let put = c .before .before .before .before .before .before .put in
+    let decimal-there = c .before .before .decimal in
+    put-then (space ∷ []) (decimal _) (put .ensures) (decimal-there .ensures)
 
 same-length : tie.Need-same-length
 same-length c = put-length (returns c)

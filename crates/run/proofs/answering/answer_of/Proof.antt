@@ -36,7 +36,13 @@ returns : tie.Need-returns
 returns c = answers-done _ (c .before .before .before .before .progress-of .ensures) (c .before .before .before .steps-of .ensures) (c .before .enum-told .given .1) (c .done .ensures)
 
 returns-2 : tie.Need-returns-2
-returns-2 c = answers-stop _ (c .before .before .before .before .before .before .before .before .progress-of .ensures) (c .before .before .before .before .before .before .before .steps-of .ensures) (c .before .before .before .before .before .reply .given .1) (c .before .before .before .expects .ensures) (c .before .before .number-of .ensures) refl (c .before .detail-of .ensures) (c .stop .ensures)
+returns-2 c =
+    let progress-of = c .before .before .before .before .before .before .before .before .progress-of in
+    let steps-of = c .before .before .before .before .before .before .before .steps-of in
+    let reply = c .before .before .before .before .before .reply in
+    let expects = c .before .before .before .expects in
+    let number-of = c .before .before .number-of in
+    answers-stop _ (progress-of .ensures) (steps-of .ensures) (reply .given .1) (expects .ensures) (number-of .ensures) refl (c .before .detail-of .ensures) (c .stop .ensures)
 
 pub answer-of-spec : {M : Type 1} → statement M
 answer-of-spec =

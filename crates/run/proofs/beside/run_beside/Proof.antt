@@ -11,10 +11,14 @@ write-words-requires : tie.Need-write-words-requires
 write-words-requires c κs = search needs
 
 sub-result : tie.Need-sub-result
-sub-result c = account-inside (c .before .before .before .before .before .before .before .account .ensures)
+sub-result c =
+    let account = c .before .before .before .before .before .before .before .account in
+    account-inside (account .ensures)
 
 part-result-start : tie.Need-part-result-start
-part-result-start c = account-inside (c .before .before .before .before .before .before .before .account .ensures)
+part-result-start c =
+    let account = c .before .before .before .before .before .before .before .account in
+    account-inside (account .ensures)
 
 part-result-end : tie.Need-part-result-end
 part-result-end c = search needs
@@ -26,7 +30,9 @@ same-length-2 : tie.Need-same-length-2
 same-length-2 c = search needs
 
 returns : tie.Need-returns
-returns c = account-shown (c .before .before .before .before .before .before .before .before .account .ensures) (c .before .write-words .ensures)
+returns c =
+    let account = c .before .before .before .before .before .before .before .before .account in
+    account-shown (account .ensures) (c .before .write-words .ensures)
 
 pub run-beside-spec : {M : Type 1} → statement M
 run-beside-spec =

@@ -23,7 +23,10 @@ div-row : tie.Need-div-row
 div-row c = search needs
 
 cast-is-of : tie.Need-cast-is-of
-cast-is-of c = omega (arith, row-below (c .before .before .before .before .before .args .i) (c .before .before .before .before .before .args .outline .nonterminals) (c .before .before .before .before .before .args .outline .tokens) (c .before .before .before .before .before .pre))
+cast-is-of c =
+    let args = c .before .before .before .before .before .args in
+    let pre = c .before .before .before .before .before .pre in
+    omega (arith, row-below (args .i) (args .outline .nonterminals) (args .outline .tokens) pre)
 
 is-of-requires : tie.Need-is-of-requires
 is-of-requires c κs = search needs

@@ -37,19 +37,42 @@ refusal-requires-4 : tie.Need-refusal-requires-4
 refusal-requires-4 c κs = search needs
 
 returns-4 : tie.Need-returns-4
-returns-4 c = λ stack e. check-strange (outlined-sized _ _ _) (c .before .before .before .before .before .before .before .table-size .ensures) (c .before .before .before .before .before .before .if1 .left) (c .before .before .before .before .before .first-misfit .ensures) (c .before .before .before .before .if2 .left) (c .before .before .before .if3 .left) (c .before .before .first-above .ensures) (c .before .if4 .taken) (c .refusal4 .ensures)
+returns-4 c =
+    let table-size = c .before .before .before .before .before .before .before .table-size in
+    let if1 = c .before .before .before .before .before .before .if1 in
+    let first-misfit = c .before .before .before .before .before .first-misfit in
+    let if2 = c .before .before .before .before .if2 in
+    let if3 = c .before .before .before .if3 in
+    let first-above = c .before .before .first-above in
+    λ stack e. check-strange (outlined-sized _ _ _) (table-size .ensures) (if1 .left) (first-misfit .ensures) (if2 .left) (if3 .left) (first-above .ensures) (c .before .if4 .taken) (c .refusal4 .ensures)
 
 refusal-requires-5 : tie.Need-refusal-requires-5
 refusal-requires-5 c κs = search needs
 
 returns-5 : tie.Need-returns-5
-returns-5 c = λ stack e. check-no-stack (outlined-sized _ _ _) (c .before .before .before .before .before .before .before .before .table-size .ensures) (c .before .before .before .before .before .before .before .if1 .left) (c .before .before .before .before .before .before .first-misfit .ensures) (c .before .before .before .before .before .if2 .left) (c .before .before .before .before .if3 .left) (c .before .before .before .first-above .ensures) (c .before .before .if4 .left) (e ∙ c .before .if5 .taken) (c .refusal5 .ensures)
+returns-5 c =
+    let table-size = c .before .before .before .before .before .before .before .before .table-size in
+    let if1 = c .before .before .before .before .before .before .before .if1 in
+    let first-misfit = c .before .before .before .before .before .before .first-misfit in
+    let if2 = c .before .before .before .before .before .if2 in
+    let if3 = c .before .before .before .before .if3 in
+    let first-above = c .before .before .before .first-above in
+    let if4 = c .before .before .if4 in
+    λ stack e. check-no-stack (outlined-sized _ _ _) (table-size .ensures) (if1 .left) (first-misfit .ensures) (if2 .left) (if3 .left) (first-above .ensures) (if4 .left) (e ∙ c .before .if5 .taken) (c .refusal5 .ensures)
 
 done-requires : tie.Need-done-requires
 done-requires c κs = search needs
 
 returns-6 : tie.Need-returns-6
-returns-6 c = λ stack e. check-done (outlined-sized _ _ _) (c .before .before .before .before .before .before .before .before .table-size .ensures) (c .before .before .before .before .before .before .before .if1 .left) (c .before .before .before .before .before .before .first-misfit .ensures) (c .before .before .before .before .before .if2 .left) (c .before .before .before .before .if3 .left) (c .before .before .before .first-above .ensures) (c .before .before .if4 .left) (λ f. c .before .if5 .left (sym e ∙ f)) (c .done .ensures)
+returns-6 c =
+    let table-size = c .before .before .before .before .before .before .before .before .table-size in
+    let if1 = c .before .before .before .before .before .before .before .if1 in
+    let first-misfit = c .before .before .before .before .before .before .first-misfit in
+    let if2 = c .before .before .before .before .before .if2 in
+    let if3 = c .before .before .before .before .if3 in
+    let first-above = c .before .before .before .first-above in
+    let if4 = c .before .before .if4 in
+    λ stack e. check-done (outlined-sized _ _ _) (table-size .ensures) (if1 .left) (first-misfit .ensures) (if2 .left) (if3 .left) (first-above .ensures) (if4 .left) (λ f. c .before .if5 .left (sym e ∙ f)) (c .done .ensures)
 
 pub check-spec : {M : Type 1} → statement M
 check-spec =

@@ -28,7 +28,9 @@ slice-aggregate-cell-fits : tie.Need-slice-aggregate-cell-fits Inv-loop μ-loop
 slice-aggregate-cell-fits c = search needs
 
 cell-fits-requires : tie.Need-cell-fits-requires Inv-loop μ-loop
-cell-fits-requires c κs = omega (arith, c .before .loop-test .taken, c .before .before .before .before .before .before .before .pre)
+cell-fits-requires c κs =
+    let pre = c .before .before .before .before .before .before .before .pre in
+    omega (arith, c .before .loop-test .taken, pre)
 
 returns : tie.Need-returns Inv-loop μ-loop
 returns c = record { inside = search needs; earlier = c .before .before .before .before .loop .inv .1; misfit = λ h. decides-false _ (c .before .cell-fits .result) (c .before .cell-fits .ensures _ _ (c .before .before .before .before .before .gather .ensures)) (not-true _ (c .if1 .taken)) }

@@ -21,7 +21,11 @@ refusal-requires-2 : tie.Need-refusal-requires-2
 refusal-requires-2 c κs = search needs
 
 returns-3 : tie.Need-returns-3
-returns-3 c = expand-no-stack (c .before .before .before .before .before .before .judge .ensures) (c .before .before .before .if1 .left) (c .before .before .if2 .left) (c .before .if3 .taken) (c .refusal2 .ensures)
+returns-3 c =
+    let judge = c .before .before .before .before .before .before .judge in
+    let if1 = c .before .before .before .if1 in
+    let if2 = c .before .before .if2 in
+    expand-no-stack (judge .ensures) (if1 .left) (if2 .left) (c .before .if3 .taken) (c .refusal2 .ensures)
 
 outline-of-requires : tie.Need-outline-of-requires
 outline-of-requires c κs = search needs
@@ -39,7 +43,14 @@ same-length-2 : tie.Need-same-length-2
 same-length-2 c = search needs
 
 returns-4 : tie.Need-returns-4
-returns-4 c = expand-ended (c .before .before .before .before .before .before .before .before .before .before .before .before .before .before .before .judge .ensures) (c .before .before .before .before .before .before .before .before .before .before .before .before .if1 .left) (c .before .before .before .before .before .before .before .before .before .before .before .if2 .left) (omega (arith, c .before .before .before .before .before .before .before .before .before .before .if3 .left)) (rw (c .before .before .before .before .before .before .before .before .outline-of .ensures) at (c .before .before .before .before .expand-on .ensures))
+returns-4 c =
+    let judge = c .before .before .before .before .before .before .before .before .before .before .before .before .before .before .before .judge in
+    let if1 = c .before .before .before .before .before .before .before .before .before .before .before .before .if1 in
+    let if2 = c .before .before .before .before .before .before .before .before .before .before .before .if2 in
+    let if3 = c .before .before .before .before .before .before .before .before .before .before .if3 in
+    let outline-of = c .before .before .before .before .before .before .before .before .outline-of in
+    let expand-on = c .before .before .before .before .expand-on in
+    expand-ended (judge .ensures) (if1 .left) (if2 .left) (omega (arith, if3 .left)) (rw (outline-of .ensures) at (expand-on .ensures))
 
 pub expand-spec : {M : Type 1} → statement M
 expand-spec =

@@ -24,7 +24,10 @@ clear-requires : tie.Need-clear-requires
 clear-requires c κs = search needs
 
 answer-to-requires : tie.Need-answer-to-requires
-answer-to-requires c κs = unfolds-countable (c .before .before .before .before .before .before .before .before .unfold-all .ensures) (omega (arith, c .before .before .before .before .before .before .before .before .before .before .before .before .before .before .before .before .before .before .before .before .good))
+answer-to-requires c κs =
+    let good = c .before .before .before .before .before .before .before .before .before .before .before .before .before .before .before .before .before .before .before .before .good in
+    let unfold-all = c .before .before .before .before .before .before .before .before .unfold-all in
+    unfolds-countable (unfold-all .ensures) (omega (arith, good))
 
 same-length : tie.Need-same-length
 same-length c = search needs
@@ -33,7 +36,10 @@ same-length-2 : tie.Need-same-length-2
 same-length-2 c = search needs
 
 returns : tie.Need-returns
-returns c = unfolds-answered (c .before .before .before .before .before .before .before .before .before .unfold-all .ensures) (c .answer-to .ensures) (c .before .before .before .clear .ensures)
+returns c =
+    let unfold-all = c .before .before .before .before .before .before .before .before .before .unfold-all in
+    let clear = c .before .before .before .clear in
+    unfolds-answered (unfold-all .ensures) (c .answer-to .ensures) (clear .ensures)
 
 pub expand-on-spec : {M : Type 1} → statement M
 expand-on-spec =

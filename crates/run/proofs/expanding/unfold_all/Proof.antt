@@ -26,7 +26,10 @@ counts-requires : tie.Need-counts-requires Inv-loop μ-loop
 counts-requires c κs = search needs
 
 loop-holds : tie.Need-loop-holds Inv-loop μ-loop
-loop-holds c = unrolled-start _ _ _ _ _ _ (c .before .before .before .before .before .before .before .before .before .args .stack .now) (c .before .before .before .before .before .before .before .before .before .pre .0) refl
+loop-holds c =
+    let args = c .before .before .before .before .before .before .before .before .before .args in
+    let pre = c .before .before .before .before .before .before .before .before .before .pre in
+    unrolled-start _ _ _ _ _ _ (args .stack .now) (pre .0) refl
 
 turn-at-requires : tie.Need-turn-at-requires Inv-loop μ-loop
 turn-at-requires c κs = omega (arith, unrolled-height _ _ _ _ _ _ (c .before .loop .inv), unrolled-stack _ _ _ _ _ _ (c .before .loop .inv))
@@ -35,22 +38,52 @@ enum-known-turn : tie.Need-enum-known-turn Inv-loop μ-loop
 enum-known-turn c = search needs
 
 sub-height : tie.Need-sub-height Inv-loop μ-loop
-sub-height c = write-fits _ _ _ _ _ _ (c .before .before .before .before .before .loop .inv) (c .before .before .before .before .before .before .counts .ensures) (c .before .before .before .turn-at .ensures _ _ (c .before .before .before .before .before .before .before .before .before .before .before .before .before .before .before .pre .1) (c .before .before .before .before .before .before .before .before .before .before .before .before .before .before .before .pre .2)) (c .before .turn .given .1) .some-symbol
+sub-height c =
+    let pre = c .before .before .before .before .before .before .before .before .before .before .before .before .before .before .before .pre in
+    let counts = c .before .before .before .before .before .before .counts in
+    let loop = c .before .before .before .before .before .loop in
+    let turn-at = c .before .before .before .turn-at in
+    write-fits _ _ _ _ _ _ (loop .inv) (counts .ensures) (turn-at .ensures _ _ (pre .1) (pre .2)) (c .before .turn .given .1) .some-symbol
 
 slice-write-stack-2 : tie.Need-slice-write-stack-2 Inv-loop μ-loop
-slice-write-stack-2 c = omega (arith, write-fits _ _ _ _ _ _ (c .before .before .before .before .before .loop .inv) (c .before .before .before .before .before .before .counts .ensures) (c .before .before .before .turn-at .ensures _ _ (c .before .before .before .before .before .before .before .before .before .before .before .before .before .before .before .pre .1) (c .before .before .before .before .before .before .before .before .before .before .before .before .before .before .before .pre .2)) (c .before .turn .given .1) .some-symbol, unrolled-height _ _ _ _ _ _ (c .before .before .before .before .before .loop .inv), unrolled-stack _ _ _ _ _ _ (c .before .before .before .before .before .loop .inv))
+slice-write-stack-2 c =
+    let pre = c .before .before .before .before .before .before .before .before .before .before .before .before .before .before .before .pre in
+    let counts = c .before .before .before .before .before .before .counts in
+    let loop = c .before .before .before .before .before .loop in
+    let turn-at = c .before .before .before .turn-at in
+    omega (arith, write-fits _ _ _ _ _ _ (loop .inv) (counts .ensures) (turn-at .ensures _ _ (pre .1) (pre .2)) (c .before .turn .given .1) .some-symbol, unrolled-height _ _ _ _ _ _ (loop .inv), unrolled-stack _ _ _ _ _ _ (loop .inv))
 
 slice-write-output : tie.Need-slice-write-output Inv-loop μ-loop
-slice-write-output c = omega (arith, write-fits _ _ _ _ _ _ (c .before .before .before .before .before .loop .inv) (c .before .before .before .before .before .before .counts .ensures) (c .before .before .before .turn-at .ensures _ _ (c .before .before .before .before .before .before .before .before .before .before .before .before .before .before .before .pre .1) (c .before .before .before .before .before .before .before .before .before .before .before .before .before .before .before .pre .2)) (c .before .turn .given .1) .output-left, unrolled-output _ _ _ _ _ _ (c .before .before .before .before .before .loop .inv))
+slice-write-output c =
+    let pre = c .before .before .before .before .before .before .before .before .before .before .before .before .before .before .before .pre in
+    let counts = c .before .before .before .before .before .before .counts in
+    let loop = c .before .before .before .before .before .loop in
+    let turn-at = c .before .before .before .turn-at in
+    omega (arith, write-fits _ _ _ _ _ _ (loop .inv) (counts .ensures) (turn-at .ensures _ _ (pre .1) (pre .2)) (c .before .turn .given .1) .output-left, unrolled-output _ _ _ _ _ _ (loop .inv))
 
 add-written : tie.Need-add-written Inv-loop μ-loop
-add-written c = omega (arith, write-fits _ _ _ _ _ _ (c .before .before .before .before .before .loop .inv) (c .before .before .before .before .before .before .counts .ensures) (c .before .before .before .turn-at .ensures _ _ (c .before .before .before .before .before .before .before .before .before .before .before .before .before .before .before .pre .1) (c .before .before .before .before .before .before .before .before .before .before .before .before .before .before .before .pre .2)) (c .before .turn .given .1) .output-left)
+add-written c =
+    let pre = c .before .before .before .before .before .before .before .before .before .before .before .before .before .before .before .pre in
+    let counts = c .before .before .before .before .before .before .counts in
+    let loop = c .before .before .before .before .before .loop in
+    let turn-at = c .before .before .before .turn-at in
+    omega (arith, write-fits _ _ _ _ _ _ (loop .inv) (counts .ensures) (turn-at .ensures _ _ (pre .1) (pre .2)) (c .before .turn .given .1) .output-left)
 
 loop-less : tie.Need-loop-less Inv-loop μ-loop
-loop-less c = omega (arith, write-fits _ _ _ _ _ _ (c .before .before .before .before .before .loop .inv) (c .before .before .before .before .before .before .counts .ensures) (c .before .before .before .turn-at .ensures _ _ (c .before .before .before .before .before .before .before .before .before .before .before .before .before .before .before .pre .1) (c .before .before .before .before .before .before .before .before .before .before .before .before .before .before .before .pre .2)) (c .before .turn .given .1) .output-left)
+loop-less c =
+    let pre = c .before .before .before .before .before .before .before .before .before .before .before .before .before .before .before .pre in
+    let counts = c .before .before .before .before .before .before .counts in
+    let loop = c .before .before .before .before .before .loop in
+    let turn-at = c .before .before .before .turn-at in
+    omega (arith, write-fits _ _ _ _ _ _ (loop .inv) (counts .ensures) (turn-at .ensures _ _ (pre .1) (pre .2)) (c .before .turn .given .1) .output-left)
 
 loop-again : tie.Need-loop-again Inv-loop μ-loop
-loop-again c = unrolled-write _ _ _ _ _ _ (c .before .before .before .before .before .loop .inv) (c .before .before .before .before .before .before .counts .ensures) (c .before .before .before .turn-at .ensures _ _ (c .before .before .before .before .before .before .before .before .before .before .before .before .before .before .before .pre .1) (c .before .before .before .before .before .before .before .before .before .before .before .before .before .before .before .pre .2)) (c .before .turn .given .1)
+loop-again c =
+    let pre = c .before .before .before .before .before .before .before .before .before .before .before .before .before .before .before .pre in
+    let counts = c .before .before .before .before .before .before .counts in
+    let loop = c .before .before .before .before .before .loop in
+    let turn-at = c .before .before .before .turn-at in
+    unrolled-write _ _ _ _ _ _ (loop .inv) (counts .ensures) (turn-at .ensures _ _ (pre .1) (pre .2)) (c .before .turn .given .1)
 
 enum-known-turn-2 : tie.Need-enum-known-turn-2 Inv-loop μ-loop
 enum-known-turn-2 c = search needs
@@ -59,7 +92,13 @@ right-length-requires : tie.Need-right-length-requires Inv-loop μ-loop
 right-length-requires c κs = search needs
 
 sub-below : tie.Need-sub-below Inv-loop μ-loop
-sub-below c = apply-fits _ _ _ _ _ _ (c .before .before .before .before .before .before .loop .inv) (c .before .before .before .before .before .before .before .counts .ensures) (c .right-length .ensures .1 _ _ _ (c .before .before .before .before .before .before .before .before .before .before .before .before .before .before .before .before .pre .2)) (c .before .before .before .before .turn-at .ensures _ _ (c .before .before .before .before .before .before .before .before .before .before .before .before .before .before .before .before .pre .1) (c .before .before .before .before .before .before .before .before .before .before .before .before .before .before .before .before .pre .2)) (c .before .before .turn2 .given .1) .some-symbol
+sub-below c =
+    let pre = c .before .before .before .before .before .before .before .before .before .before .before .before .before .before .before .before .pre in
+    let counts = c .before .before .before .before .before .before .before .counts in
+    let loop = c .before .before .before .before .before .before .loop in
+    let turn-at = c .before .before .before .before .turn-at in
+    let turn2 = c .before .before .turn2 in
+    apply-fits _ _ _ _ _ _ (loop .inv) (counts .ensures) (c .right-length .ensures .1 _ _ _ (pre .2)) (turn-at .ensures _ _ (pre .1) (pre .2)) (turn2 .given .1) .some-symbol
 
 cast-place-at : tie.Need-cast-place-at Inv-loop μ-loop
 cast-place-at c = search needs
@@ -68,31 +107,87 @@ place-at-requires : tie.Need-place-at-requires Inv-loop μ-loop
 place-at-requires c κs = search needs
 
 replace-requires : tie.Need-replace-requires Inv-loop μ-loop
-replace-requires c κs = let fits = apply-fits _ _ _ _ _ _ (c .before .before .before .before .before .before .before .before .loop .inv) (c .before .before .before .before .before .before .before .before .before .counts .ensures) (c .before .before .right-length .ensures .1 _ _ _ (c .before .before .before .before .before .before .before .before .before .before .before .before .before .before .before .before .before .before .pre .2)) (c .before .before .before .before .before .before .turn-at .ensures _ _ (c .before .before .before .before .before .before .before .before .before .before .before .before .before .before .before .before .before .before .pre .1) (c .before .before .before .before .before .before .before .before .before .before .before .before .before .before .before .before .before .before .pre .2)) (c .before .before .before .before .turn2 .given .1) in (omega (arith, fits .some-symbol, unrolled-height _ _ _ _ _ _ (c .before .before .before .before .before .before .before .before .loop .inv), unrolled-stack _ _ _ _ _ _ (c .before .before .before .before .before .before .before .before .loop .inv)), omega (arith, fits .stack-left, unrolled-stack _ _ _ _ _ _ (c .before .before .before .before .before .before .before .before .loop .inv)))
+replace-requires c κs =
+    let pre = c .before .before .before .before .before .before .before .before .before .before .before .before .before .before .before .before .before .before .pre in
+    let counts = c .before .before .before .before .before .before .before .before .before .counts in
+    let loop = c .before .before .before .before .before .before .before .before .loop in
+    let turn-at = c .before .before .before .before .before .before .turn-at in
+    let turn2 = c .before .before .before .before .turn2 in
+    let right-length = c .before .before .right-length in
+    let fits = apply-fits _ _ _ _ _ _ (loop .inv) (counts .ensures) (right-length .ensures .1 _ _ _ (pre .2)) (turn-at .ensures _ _ (pre .1) (pre .2)) (turn2 .given .1) in (omega (arith, fits .some-symbol, unrolled-height _ _ _ _ _ _ (loop .inv), unrolled-stack _ _ _ _ _ _ (loop .inv)), omega (arith, fits .stack-left, unrolled-stack _ _ _ _ _ _ (loop .inv)))
 
 add-height : tie.Need-add-height Inv-loop μ-loop
-add-height c = omega (arith, apply-fits _ _ _ _ _ _ (c .before .before .before .before .before .before .before .before .before .before .before .loop .inv) (c .before .before .before .before .before .before .before .before .before .before .before .before .counts .ensures) (c .before .before .before .before .before .right-length .ensures .1 _ _ _ (c .before .before .before .before .before .before .before .before .before .before .before .before .before .before .before .before .before .before .before .before .before .pre .2)) (c .before .before .before .before .before .before .before .before .before .turn-at .ensures _ _ (c .before .before .before .before .before .before .before .before .before .before .before .before .before .before .before .before .before .before .before .before .before .pre .1) (c .before .before .before .before .before .before .before .before .before .before .before .before .before .before .before .before .before .before .before .before .before .pre .2)) (c .before .before .before .before .before .before .before .turn2 .given .1) .stack-left)
+add-height c =
+    let pre = c .before .before .before .before .before .before .before .before .before .before .before .before .before .before .before .before .before .before .before .before .before .pre in
+    let counts = c .before .before .before .before .before .before .before .before .before .before .before .before .counts in
+    let loop = c .before .before .before .before .before .before .before .before .before .before .before .loop in
+    let turn-at = c .before .before .before .before .before .before .before .before .before .turn-at in
+    let turn2 = c .before .before .before .before .before .before .before .turn2 in
+    let right-length = c .before .before .before .before .before .right-length in
+    omega (arith, apply-fits _ _ _ _ _ _ (loop .inv) (counts .ensures) (right-length .ensures .1 _ _ _ (pre .2)) (turn-at .ensures _ _ (pre .1) (pre .2)) (turn2 .given .1) .stack-left)
 
 add-used : tie.Need-add-used Inv-loop μ-loop
-add-used c = omega (arith, apply-fits _ _ _ _ _ _ (c .before .before .before .before .before .before .before .before .before .before .before .loop .inv) (c .before .before .before .before .before .before .before .before .before .before .before .before .counts .ensures) (c .before .before .before .before .before .right-length .ensures .1 _ _ _ (c .before .before .before .before .before .before .before .before .before .before .before .before .before .before .before .before .before .before .before .before .before .pre .2)) (c .before .before .before .before .before .before .before .before .before .turn-at .ensures _ _ (c .before .before .before .before .before .before .before .before .before .before .before .before .before .before .before .before .before .before .before .before .before .pre .1) (c .before .before .before .before .before .before .before .before .before .before .before .before .before .before .before .before .before .before .before .before .before .pre .2)) (c .before .before .before .before .before .before .before .turn2 .given .1) .list-left, c .before .before .before .before .before .before .before .before .before .before .before .before .before .before .before .before .before .before .before .before .before .good)
+add-used c =
+    let good = c .before .before .before .before .before .before .before .before .before .before .before .before .before .before .before .before .before .before .before .before .before .good in
+    let pre = c .before .before .before .before .before .before .before .before .before .before .before .before .before .before .before .before .before .before .before .before .before .pre in
+    let counts = c .before .before .before .before .before .before .before .before .before .before .before .before .counts in
+    let loop = c .before .before .before .before .before .before .before .before .before .before .before .loop in
+    let turn-at = c .before .before .before .before .before .before .before .before .before .turn-at in
+    let turn2 = c .before .before .before .before .before .before .before .turn2 in
+    let right-length = c .before .before .before .before .before .right-length in
+    omega (arith, apply-fits _ _ _ _ _ _ (loop .inv) (counts .ensures) (right-length .ensures .1 _ _ _ (pre .2)) (turn-at .ensures _ _ (pre .1) (pre .2)) (turn2 .given .1) .list-left, good)
 
 loop-less-2 : tie.Need-loop-less-2 Inv-loop μ-loop
-loop-less-2 c = omega (arith, apply-fits _ _ _ _ _ _ (c .before .before .before .before .before .before .before .before .before .before .before .loop .inv) (c .before .before .before .before .before .before .before .before .before .before .before .before .counts .ensures) (c .before .before .before .before .before .right-length .ensures .1 _ _ _ (c .before .before .before .before .before .before .before .before .before .before .before .before .before .before .before .before .before .before .before .before .before .pre .2)) (c .before .before .before .before .before .before .before .before .before .turn-at .ensures _ _ (c .before .before .before .before .before .before .before .before .before .before .before .before .before .before .before .before .before .before .before .before .before .pre .1) (c .before .before .before .before .before .before .before .before .before .before .before .before .before .before .before .before .before .before .before .before .before .pre .2)) (c .before .before .before .before .before .before .before .turn2 .given .1) .list-left)
+loop-less-2 c =
+    let pre = c .before .before .before .before .before .before .before .before .before .before .before .before .before .before .before .before .before .before .before .before .before .pre in
+    let counts = c .before .before .before .before .before .before .before .before .before .before .before .before .counts in
+    let loop = c .before .before .before .before .before .before .before .before .before .before .before .loop in
+    let turn-at = c .before .before .before .before .before .before .before .before .before .turn-at in
+    let turn2 = c .before .before .before .before .before .before .before .turn2 in
+    let right-length = c .before .before .before .before .before .right-length in
+    omega (arith, apply-fits _ _ _ _ _ _ (loop .inv) (counts .ensures) (right-length .ensures .1 _ _ _ (pre .2)) (turn-at .ensures _ _ (pre .1) (pre .2)) (turn2 .given .1) .list-left)
 
 loop-again-2 : tie.Need-loop-again-2 Inv-loop μ-loop
-loop-again-2 c = unrolled-apply _ _ _ _ _ _ (c .before .before .before .before .before .before .before .before .before .before .before .loop .inv) (c .before .before .before .before .before .before .before .before .before .before .before .before .counts .ensures) (c .before .before .before .before .before .right-length .ensures .1 _ _ _ (c .before .before .before .before .before .before .before .before .before .before .before .before .before .before .before .before .before .before .before .before .before .pre .2)) (c .before .before .before .before .before .before .before .before .before .turn-at .ensures _ _ (c .before .before .before .before .before .before .before .before .before .before .before .before .before .before .before .before .before .before .before .before .before .pre .1) (c .before .before .before .before .before .before .before .before .before .before .before .before .before .before .before .before .before .before .before .before .before .pre .2)) (c .before .before .before .before .before .before .before .turn2 .given .1) (c .before .before .before .before .place-at .ensures) (c .before .before .replace .ensures)
+loop-again-2 c =
+    let pre = c .before .before .before .before .before .before .before .before .before .before .before .before .before .before .before .before .before .before .before .before .before .pre in
+    let counts = c .before .before .before .before .before .before .before .before .before .before .before .before .counts in
+    let loop = c .before .before .before .before .before .before .before .before .before .before .before .loop in
+    let turn-at = c .before .before .before .before .before .before .before .before .before .turn-at in
+    let turn2 = c .before .before .before .before .before .before .before .turn2 in
+    let right-length = c .before .before .before .before .before .right-length in
+    let place-at = c .before .before .before .before .place-at in
+    let replace = c .before .before .replace in
+    unrolled-apply _ _ _ _ _ _ (loop .inv) (counts .ensures) (right-length .ensures .1 _ _ _ (pre .2)) (turn-at .ensures _ _ (pre .1) (pre .2)) (turn2 .given .1) (place-at .ensures) (replace .ensures)
 
 enum-known-turn-3 : tie.Need-enum-known-turn-3 Inv-loop μ-loop
 enum-known-turn-3 c = search needs
 
 same-length : tie.Need-same-length Inv-loop μ-loop
-same-length c = unfolds-from (c .before .before .before .before .before .before .before .before .before .before .before .before .before .before .before .args .stack .now) _ (unrolled-close _ _ _ _ _ _ (c .before .before .before .before .before .loop .inv) (c .before .before .before .before .before .before .counts .ensures) (c .before .before .before .turn-at .ensures _ _ (c .before .before .before .before .before .before .before .before .before .before .before .before .before .before .before .pre .1) (c .before .before .before .before .before .before .before .before .before .before .before .before .before .before .before .pre .2)) (c .before .turn3 .given .1)) .stack-length
+same-length c =
+    let args = c .before .before .before .before .before .before .before .before .before .before .before .before .before .before .before .args in
+    let pre = c .before .before .before .before .before .before .before .before .before .before .before .before .before .before .before .pre in
+    let counts = c .before .before .before .before .before .before .counts in
+    let loop = c .before .before .before .before .before .loop in
+    let turn-at = c .before .before .before .turn-at in
+    unfolds-from (args .stack .now) _ (unrolled-close _ _ _ _ _ _ (loop .inv) (counts .ensures) (turn-at .ensures _ _ (pre .1) (pre .2)) (c .before .turn3 .given .1)) .stack-length
 
 same-length-2 : tie.Need-same-length-2 Inv-loop μ-loop
-same-length-2 c = unfolds-from (c .before .before .before .before .before .before .before .before .before .before .before .before .before .before .before .args .stack .now) _ (unrolled-close _ _ _ _ _ _ (c .before .before .before .before .before .loop .inv) (c .before .before .before .before .before .before .counts .ensures) (c .before .before .before .turn-at .ensures _ _ (c .before .before .before .before .before .before .before .before .before .before .before .before .before .before .before .pre .1) (c .before .before .before .before .before .before .before .before .before .before .before .before .before .before .before .pre .2)) (c .before .turn3 .given .1)) .output-length
+same-length-2 c =
+    let args = c .before .before .before .before .before .before .before .before .before .before .before .before .before .before .before .args in
+    let pre = c .before .before .before .before .before .before .before .before .before .before .before .before .before .before .before .pre in
+    let counts = c .before .before .before .before .before .before .counts in
+    let loop = c .before .before .before .before .before .loop in
+    let turn-at = c .before .before .before .turn-at in
+    unfolds-from (args .stack .now) _ (unrolled-close _ _ _ _ _ _ (loop .inv) (counts .ensures) (turn-at .ensures _ _ (pre .1) (pre .2)) (c .before .turn3 .given .1)) .output-length
 
 returns : tie.Need-returns Inv-loop μ-loop
-returns c = unfolds-from (c .before .before .before .before .before .before .before .before .before .before .before .before .before .before .before .args .stack .now) _ (unrolled-close _ _ _ _ _ _ (c .before .before .before .before .before .loop .inv) (c .before .before .before .before .before .before .counts .ensures) (c .before .before .before .turn-at .ensures _ _ (c .before .before .before .before .before .before .before .before .before .before .before .before .before .before .before .pre .1) (c .before .before .before .before .before .before .before .before .before .before .before .before .before .before .before .pre .2)) (c .before .turn3 .given .1))
+returns c =
+    let args = c .before .before .before .before .before .before .before .before .before .before .before .before .before .before .before .args in
+    let pre = c .before .before .before .before .before .before .before .before .before .before .before .before .before .before .before .pre in
+    let counts = c .before .before .before .before .before .before .counts in
+    let loop = c .before .before .before .before .before .loop in
+    let turn-at = c .before .before .before .turn-at in
+    unfolds-from (args .stack .now) _ (unrolled-close _ _ _ _ _ _ (loop .inv) (counts .ensures) (turn-at .ensures _ _ (pre .1) (pre .2)) (c .before .turn3 .given .1))
 
 pub unfold-all-spec : {M : Type 1} → statement M
 unfold-all-spec =

@@ -15,7 +15,9 @@ add-row : tie.Need-add-row
 add-row c = search needs
 
 mul-row : tie.Need-mul-row
-mul-row c = let h = row-fits (c .before .before .before .before .args .n) (c .before .before .before .before .args .outline .tokens) (search needs) (search needs) in search needs
+mul-row c =
+    let args = c .before .before .before .before .args in
+    let h = row-fits (args .n) (args .outline .tokens) (search needs) (search needs) in search needs
 
 enum-known-ahead : tie.Need-enum-known-ahead
 enum-known-ahead c = search needs
@@ -24,7 +26,9 @@ cast-cell-at : tie.Need-cast-cell-at
 cast-cell-at c = search needs
 
 add-cell-at : tie.Need-add-cell-at
-add-cell-at c = let args = c .before .before .before .before .before .before .before .before .before .args in omega (arith, row-fits (args .n) (args .outline .tokens) (search needs) (search needs))
+add-cell-at c =
+    let args-there = c .before .before .before .before .before .before .before .before .before .args in
+    let args = args-there in omega (arith, row-fits (args .n) (args .outline .tokens) (search needs) (search needs))
 
 cell-at-requires : tie.Need-cell-at-requires
 cell-at-requires c κs = search needs
@@ -36,7 +40,9 @@ cast-cell-at-2 : tie.Need-cast-cell-at-2
 cast-cell-at-2 c = search needs
 
 add-cell-at-2 : tie.Need-add-cell-at-2
-add-cell-at-2 c = let args = c .before .before .before .before .before .before .before .args in omega (arith, row-fits (args .n) (args .outline .tokens) (search needs) (search needs))
+add-cell-at-2 c =
+    let args-there = c .before .before .before .before .before .before .before .args in
+    let args = args-there in omega (arith, row-fits (args .n) (args .outline .tokens) (search needs) (search needs))
 
 cell-at-requires-2 : tie.Need-cell-at-requires-2
 cell-at-requires-2 c κs = search needs

@@ -35,7 +35,12 @@ returns-2 : tie.Need-returns-2
 returns-2 c = λ book places sides. chosen-finish (spelled-top _ _ (c .before .before .before .before .before .if1 .left) (c .before .before .before .symbol-of .ensures)) (c .before .before .decide .ensures _ (outlined-sized _ _ _)) (c .enum-told .given .1)
 
 returns-3 : tie.Need-returns-3
-returns-3 c = λ book places sides. chosen-full-list (spelled-top _ _ (c .before .before .before .before .before .before .before .if1 .left) (c .before .before .before .before .before .symbol-of .ensures)) (c .before .before .before .before .decide .ensures _ (outlined-sized _ _ _)) (c .before .before .choice .given .1) (c .if2 .taken)
+returns-3 c =
+    let if1 = c .before .before .before .before .before .before .before .if1 in
+    let symbol-of = c .before .before .before .before .before .symbol-of in
+    let decide = c .before .before .before .before .decide in
+    let choice = c .before .before .choice in
+    λ book places sides. chosen-full-list (spelled-top _ _ (if1 .left) (symbol-of .ensures)) (decide .ensures _ (outlined-sized _ _ _)) (choice .given .1) (c .if2 .taken)
 
 counts-requires : tie.Need-counts-requires
 counts-requires c κs = search needs
@@ -47,10 +52,24 @@ add-if3 : tie.Need-add-if3
 add-if3 c = search needs
 
 returns-4 : tie.Need-returns-4
-returns-4 c = λ book places sides. chosen-full-stack (spelled-top _ _ (c .before .before .before .before .before .before .before .before .before .before .if1 .left) (c .before .before .before .before .before .before .before .before .symbol-of .ensures)) (c .before .before .before .before .before .before .before .decide .ensures _ (outlined-sized _ _ _)) (c .before .before .before .before .before .choice .given .1) (c .before .before .before .if2 .left) (omega (arith, replaced-length (c .before .right-length .ensures .1 _ _ (c .before .before .before .before .before .before .before .before .before .before .before .before .before .before .args .outline) sides) (c .before .before .before .before .before .before .before .before .before .before .before .before .before .before .args .stack .now) (c .before .before .before .before .before .before .before .before .before .before .before .before .before .before .args .height - 1)))
+returns-4 c =
+    let args = c .before .before .before .before .before .before .before .before .before .before .before .before .before .before .args in
+    let if1 = c .before .before .before .before .before .before .before .before .before .before .if1 in
+    let symbol-of = c .before .before .before .before .before .before .before .before .symbol-of in
+    let decide = c .before .before .before .before .before .before .before .decide in
+    let choice = c .before .before .before .before .before .choice in
+    let if2 = c .before .before .before .if2 in
+    λ book places sides. chosen-full-stack (spelled-top _ _ (if1 .left) (symbol-of .ensures)) (decide .ensures _ (outlined-sized _ _ _)) (choice .given .1) (if2 .left) (omega (arith, replaced-length (c .before .right-length .ensures .1 _ _ (args .outline) sides) (args .stack .now) (args .height - 1)))
 
 returns-5 : tie.Need-returns-5
-returns-5 c = λ book places sides. chosen-use (spelled-top _ _ (c .before .before .before .before .before .before .before .before .before .before .if1 .left) (c .before .before .before .before .before .before .before .before .symbol-of .ensures)) (c .before .before .before .before .before .before .before .decide .ensures _ (outlined-sized _ _ _)) (c .before .before .before .before .before .choice .given .1) (c .before .before .before .if2 .left) (omega (arith, replaced-length (c .before .right-length .ensures .1 _ _ (c .before .before .before .before .before .before .before .before .before .before .before .before .before .before .args .outline) sides) (c .before .before .before .before .before .before .before .before .before .before .before .before .before .before .args .stack .now) (c .before .before .before .before .before .before .before .before .before .before .before .before .before .before .args .height - 1)))
+returns-5 c =
+    let args = c .before .before .before .before .before .before .before .before .before .before .before .before .before .before .args in
+    let if1 = c .before .before .before .before .before .before .before .before .before .before .if1 in
+    let symbol-of = c .before .before .before .before .before .before .before .before .symbol-of in
+    let decide = c .before .before .before .before .before .before .before .decide in
+    let choice = c .before .before .before .before .before .choice in
+    let if2 = c .before .before .before .if2 in
+    λ book places sides. chosen-use (spelled-top _ _ (if1 .left) (symbol-of .ensures)) (decide .ensures _ (outlined-sized _ _ _)) (choice .given .1) (if2 .left) (omega (arith, replaced-length (c .before .right-length .ensures .1 _ _ (args .outline) sides) (args .stack .now) (args .height - 1)))
 
 pub choose-spec : {M : Type 1} → statement M
 choose-spec =

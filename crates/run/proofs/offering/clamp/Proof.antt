@@ -23,7 +23,12 @@ lower-requires-3 c κs = search needs
 
 returns : tie.Need-returns
 unfolding clamped
-returns c = λ i. record { height = (c .before .before .before .lower .ensures ∙ ap (min (c .before .before .before .before .before .args .at .height)) (c .before .before .before .before .counts .ensures)) i; listed = (c .before .lower2 .ensures ∙ ap (min (c .before .before .before .before .before .args .at .listed)) (c .before .before .counts2 .ensures)) i; matched = c .lower3 .ensures i }
+returns c =
+    let args = c .before .before .before .before .before .args in
+    let counts = c .before .before .before .before .counts in
+    let lower = c .before .before .before .lower in
+    let counts2 = c .before .before .counts2 in
+    λ i. record { height = (lower .ensures ∙ ap (min (args .at .height)) (counts .ensures)) i; listed = (c .before .lower2 .ensures ∙ ap (min (args .at .listed)) (counts2 .ensures)) i; matched = c .lower3 .ensures i }
 
 pub clamp-spec : {M : Type 1} → statement M
 clamp-spec =

@@ -29,7 +29,11 @@ slice-aggregate-offer-at-2 : tie.Need-slice-aggregate-offer-at-2
 slice-aggregate-offer-at-2 c = search needs
 
 offer-at-requires : tie.Need-offer-at-requires
-offer-at-requires c κs = (rw (c .before .before .before .before .clamp .ensures) (clamped-ready _ _ _), rw (c .before .before .before .before .before .before .outline-of .ensures) (c .before .before .before .before .before .before .before .gather .ensures))
+offer-at-requires c κs =
+    let gather = c .before .before .before .before .before .before .before .gather in
+    let outline-of = c .before .before .before .before .before .before .outline-of in
+    let clamp = c .before .before .before .before .clamp in
+    (rw (clamp .ensures) (clamped-ready _ _ _), rw (outline-of .ensures) (gather .ensures))
 
 same-length : tie.Need-same-length
 same-length c = search needs
@@ -39,7 +43,12 @@ same-length-2 c = search needs
 
 returns : tie.Need-returns
 unfolding outlined grammarIn
-returns c = offer-resumed _ _ _ _ (c .before .before .before .before .before .before .before .before .before .clamp .ensures) (c .before .before .before .before .before .before .before .before .before .before .column-ahead .ensures _ refl) (rw (c .before .before .before .before .before .before .before .before .before .before .before .outline-of .ensures) at (c .before .before .before .before .offer-at .ensures))
+returns c =
+    let outline-of = c .before .before .before .before .before .before .before .before .before .before .before .outline-of in
+    let column-ahead = c .before .before .before .before .before .before .before .before .before .before .column-ahead in
+    let clamp = c .before .before .before .before .before .before .before .before .before .clamp in
+    let offer-at = c .before .before .before .before .offer-at in
+    offer-resumed _ _ _ _ (clamp .ensures) (column-ahead .ensures _ refl) (rw (outline-of .ensures) at (offer-at .ensures))
 
 pub offer-spec : {M : Type 1} → statement M
 offer-spec =

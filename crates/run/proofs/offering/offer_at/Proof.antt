@@ -6,7 +6,7 @@ use lib.ListN.{length}
 use borrow.Author.Needs.{needs}
 use Rattle.run.specs.Moves.{columnIn}
 use Rattle.run.specs.Running.{counted}
-use Rattle.run.proofs.Turning.{finished-length, Turning, turning-start, use-fits, turning-use, turning-finish, match-some}
+use Rattle.run.proofs.Turning.{finished-length, Turning, UseFits, turning-start, use-fits, turning-use, turning-finish, match-some}
 use Rattle.run.proofs.offering.offer_at.Statement.{statement}
 use Rattle.run.proofs.offering.offer_at.Tie as tie
 
@@ -21,7 +21,9 @@ counts-requires : tie.Need-counts-requires Inv-loop μ-loop
 counts-requires c κs = search needs
 
 loop-holds : tie.Need-loop-holds Inv-loop μ-loop
-loop-holds c = turning-start _ _ _ _ _ _ _ _ (c .before .before .before .before .before .before .before .pre .0)
+loop-holds c =
+    let pre = c .before .before .before .before .before .before .before .pre in
+    turning-start _ _ _ _ _ _ _ _ (pre .0)
 
 choose-requires : tie.Need-choose-requires Inv-loop μ-loop
 choose-requires c κs = omega (arith, c .before .loop .inv .height-fits, c .before .loop .inv .stack-length)
@@ -32,14 +34,25 @@ enum-known-choice c = search needs
 right-length-requires : tie.Need-right-length-requires Inv-loop μ-loop
 right-length-requires c κs = search needs
 
+-- a production that is used fits the list and the stack
+fits : (d : tie.After-right-length Inv-loop μ-loop)
+    → UseFits (d .before .before .before .before .before .before .loop .height) (d .before .before .before .before .before .before .loop .listed) (d .right-length .result) (counted (d .before .before .before .before .before .before .before .before .before .before .before .before .before .before .args .stack .now)) (counted (d .before .before .before .before .before .before .before .before .before .before .before .before .before .before .args .list .now))
+fits d =
+    let pre = d .before .before .before .before .before .before .before .before .before .before .before .before .before .before .pre in
+    let counts = d .before .before .before .before .before .before .before .counts in
+    let loop = d .before .before .before .before .before .before .loop in
+    let choose = d .before .before .before .before .choose in
+    let choice = d .before .before .choice in
+    use-fits _ _ _ _ _ _ _ _ (loop .inv) (counts .ensures) (d .right-length .ensures .1 _ _ _ (pre .1)) (choose .ensures _ _ (pre .1)) (choice .given .1)
+
 sub-below : tie.Need-sub-below Inv-loop μ-loop
-sub-below c = use-fits _ _ _ _ _ _ _ _ (c .before .before .before .before .before .before .loop .inv) (c .before .before .before .before .before .before .before .counts .ensures) (c .right-length .ensures .1 _ _ _ (c .before .before .before .before .before .before .before .before .before .before .before .before .before .before .pre .1)) (c .before .before .before .before .choose .ensures _ _ (c .before .before .before .before .before .before .before .before .before .before .before .before .before .before .pre .1)) (c .before .before .choice .given .1) .some-symbol
+sub-below c = fits c .some-symbol
 
 slice-write-list : tie.Need-slice-write-list Inv-loop μ-loop
-slice-write-list c = omega (arith, use-fits _ _ _ _ _ _ _ _ (c .before .before .before .before .before .before .loop .inv) (c .before .before .before .before .before .before .before .counts .ensures) (c .right-length .ensures .1 _ _ _ (c .before .before .before .before .before .before .before .before .before .before .before .before .before .before .pre .1)) (c .before .before .before .before .choose .ensures _ _ (c .before .before .before .before .before .before .before .before .before .before .before .before .before .before .pre .1)) (c .before .before .choice .given .1) .list-left, c .before .before .before .before .before .before .loop .inv .list-length)
+slice-write-list c = omega (arith, fits c .list-left, c .before .before .before .before .before .before .loop .inv .list-length)
 
 add-listed : tie.Need-add-listed Inv-loop μ-loop
-add-listed c = omega (arith, use-fits _ _ _ _ _ _ _ _ (c .before .before .before .before .before .before .loop .inv) (c .before .before .before .before .before .before .before .counts .ensures) (c .right-length .ensures .1 _ _ _ (c .before .before .before .before .before .before .before .before .before .before .before .before .before .before .pre .1)) (c .before .before .before .before .choose .ensures _ _ (c .before .before .before .before .before .before .before .before .before .before .before .before .before .before .pre .1)) (c .before .before .choice .given .1) .list-left)
+add-listed c = omega (arith, fits c .list-left)
 
 cast-place-at : tie.Need-cast-place-at Inv-loop μ-loop
 cast-place-at c = search needs
@@ -48,31 +61,62 @@ place-at-requires : tie.Need-place-at-requires Inv-loop μ-loop
 place-at-requires c κs = search needs
 
 replace-requires : tie.Need-replace-requires Inv-loop μ-loop
-replace-requires c κs = let fits = use-fits _ _ _ _ _ _ _ _ (c .before .before .before .before .before .before .before .before .loop .inv) (c .before .before .before .before .before .before .before .before .before .counts .ensures) (c .before .before .right-length .ensures .1 _ _ _ (c .before .before .before .before .before .before .before .before .before .before .before .before .before .before .before .before .pre .1)) (c .before .before .before .before .before .before .choose .ensures _ _ (c .before .before .before .before .before .before .before .before .before .before .before .before .before .before .before .before .pre .1)) (c .before .before .before .before .choice .given .1) in (omega (arith, fits .some-symbol, c .before .before .before .before .before .before .before .before .loop .inv .height-fits, c .before .before .before .before .before .before .before .before .loop .inv .stack-length), omega (arith, fits .stack-left, c .before .before .before .before .before .before .before .before .loop .inv .stack-length))
+replace-requires c κs =
+    let used = fits (c .before .before) in
+    let inv = c .before .before .before .before .before .before .before .before .loop .inv in
+    (omega (arith, used .some-symbol, inv .height-fits, inv .stack-length), omega (arith, used .stack-left, inv .stack-length))
 
 add-height : tie.Need-add-height Inv-loop μ-loop
-add-height c = omega (arith, use-fits _ _ _ _ _ _ _ _ (c .before .before .before .before .before .before .before .before .before .before .before .loop .inv) (c .before .before .before .before .before .before .before .before .before .before .before .before .counts .ensures) (c .before .before .before .before .before .right-length .ensures .1 _ _ _ (c .before .before .before .before .before .before .before .before .before .before .before .before .before .before .before .before .before .before .before .pre .1)) (c .before .before .before .before .before .before .before .before .before .choose .ensures _ _ (c .before .before .before .before .before .before .before .before .before .before .before .before .before .before .before .before .before .before .before .pre .1)) (c .before .before .before .before .before .before .before .choice .given .1) .stack-left)
+add-height c = omega (arith, fits (c .before .before .before .before .before) .stack-left)
 
 loop-less : tie.Need-loop-less Inv-loop μ-loop
-loop-less c = omega (arith, use-fits _ _ _ _ _ _ _ _ (c .before .before .before .before .before .before .before .before .before .before .before .loop .inv) (c .before .before .before .before .before .before .before .before .before .before .before .before .counts .ensures) (c .before .before .before .before .before .right-length .ensures .1 _ _ _ (c .before .before .before .before .before .before .before .before .before .before .before .before .before .before .before .before .before .before .before .pre .1)) (c .before .before .before .before .before .before .before .before .before .choose .ensures _ _ (c .before .before .before .before .before .before .before .before .before .before .before .before .before .before .before .before .before .before .before .pre .1)) (c .before .before .before .before .before .before .before .choice .given .1) .list-left)
+loop-less c = omega (arith, fits (c .before .before .before .before .before) .list-left)
 
 loop-again : tie.Need-loop-again Inv-loop μ-loop
-loop-again c = turning-use _ _ _ _ _ _ _ _ (c .before .before .before .before .before .before .before .before .before .before .before .loop .inv) (c .before .before .before .before .before .before .before .before .before .before .before .before .counts .ensures) (c .before .before .before .before .before .right-length .ensures .1 _ _ _ (c .before .before .before .before .before .before .before .before .before .before .before .before .before .before .before .before .before .before .before .pre .1)) (c .before .before .before .before .before .before .before .before .before .choose .ensures _ _ (c .before .before .before .before .before .before .before .before .before .before .before .before .before .before .before .before .before .before .before .pre .1)) (c .before .before .before .before .before .before .before .choice .given .1) (c .before .before .before .before .place-at .ensures) (c .before .before .replace .ensures)
+loop-again c =
+    let pre = c .before .before .before .before .before .before .before .before .before .before .before .before .before .before .before .before .before .before .before .pre in
+    let counts = c .before .before .before .before .before .before .before .before .before .before .before .before .counts in
+    let loop = c .before .before .before .before .before .before .before .before .before .before .before .loop in
+    let choose = c .before .before .before .before .before .before .before .before .before .choose in
+    let choice = c .before .before .before .before .before .before .before .choice in
+    let right-length = c .before .before .before .before .before .right-length in
+    let place-at = c .before .before .before .before .place-at in
+    let replace = c .before .before .replace in
+    turning-use _ _ _ _ _ _ _ _ (loop .inv) (counts .ensures) (right-length .ensures .1 _ _ _ (pre .1)) (choose .ensures _ _ (pre .1)) (choice .given .1) (place-at .ensures) (replace .ensures)
 
 enum-known-choice-2 : tie.Need-enum-known-choice-2 Inv-loop μ-loop
 enum-known-choice-2 c = search needs
 
 finish-requires : tie.Need-finish-requires Inv-loop μ-loop
-finish-requires c κs = (match-some _ _ _ _ _ _ _ _ (c .before .before .before .before .before .before .loop .inv) (c .before .before .before .before .before .before .before .counts .ensures) (c .before .before .before .before .choose .ensures _ _ (c .before .before .before .before .before .before .before .before .before .before .before .before .before .before .pre .1)) (c .before .before .choice2 .given .1), omega (arith, c .before .before .before .before .before .before .loop .inv .height-fits, c .before .before .before .before .before .before .loop .inv .stack-length), c .before .before .before .before .before .before .before .before .before .before .before .before .before .before .pre .0 .matched)
+finish-requires c κs =
+    let pre = c .before .before .before .before .before .before .before .before .before .before .before .before .before .before .pre in
+    let counts = c .before .before .before .before .before .before .before .counts in
+    let loop = c .before .before .before .before .before .before .loop in
+    let choose = c .before .before .before .before .choose in
+    let choice2 = c .before .before .choice2 in
+    (match-some _ _ _ _ _ _ _ _ (loop .inv) (counts .ensures) (choose .ensures _ _ (pre .1)) (choice2 .given .1), omega (arith, loop .inv .height-fits, loop .inv .stack-length), pre .0 .matched)
 
 same-length : tie.Need-same-length Inv-loop μ-loop
-same-length c = ap length (c .before .before .finish .ensures .1) ∙ finished-length (c .before .before .before .before .before .choice2 .given .0 .0) _ _ ∙ c .before .before .before .before .before .before .before .before .before .loop .inv .stack-length
+same-length c =
+    let loop = c .before .before .before .before .before .before .before .before .before .loop in
+    let choice2 = c .before .before .before .before .before .choice2 in
+    let finish = c .before .before .finish in
+    ap length (finish .ensures .1) ∙ finished-length (choice2 .given .0 .0) _ _ ∙ loop .inv .stack-length
 
 same-length-2 : tie.Need-same-length-2 Inv-loop μ-loop
-same-length-2 c = c .before .before .before .before .before .before .before .before .before .loop .inv .list-length
+same-length-2 c =
+    let loop = c .before .before .before .before .before .before .before .before .before .loop in
+    loop .inv .list-length
 
 returns : tie.Need-returns Inv-loop μ-loop
-returns c = turning-finish _ _ _ _ _ _ _ _ (c .before .before .before .before .before .before .before .before .before .loop .inv) (c .before .before .before .before .before .before .before .before .before .before .counts .ensures) (c .before .before .before .before .before .before .before .choose .ensures _ _ (c .before .before .before .before .before .before .before .before .before .before .before .before .before .before .before .before .before .pre .1)) (c .before .before .before .before .before .choice2 .given .1) (c .before .before .finish .ensures .0) (c .before .before .finish .ensures .1)
+returns c =
+    let pre = c .before .before .before .before .before .before .before .before .before .before .before .before .before .before .before .before .before .pre in
+    let counts = c .before .before .before .before .before .before .before .before .before .before .counts in
+    let loop = c .before .before .before .before .before .before .before .before .before .loop in
+    let choose = c .before .before .before .before .before .before .before .choose in
+    let choice2 = c .before .before .before .before .before .choice2 in
+    let finish = c .before .before .finish in
+    turning-finish _ _ _ _ _ _ _ _ (loop .inv) (counts .ensures) (choose .ensures _ _ (pre .1)) (choice2 .given .1) (finish .ensures .0) (finish .ensures .1)
 
 pub offer-at-spec : {M : Type 1} → statement M
 offer-at-spec =

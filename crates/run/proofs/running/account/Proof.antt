@@ -26,7 +26,12 @@ same-length-2 : tie.Need-same-length-2
 same-length-2 c = search needs
 
 returns-2 : tie.Need-returns-2
-returns-2 c = account-served (c .before .before .before .before .before .before .before .before .before .before .before .before .before .judge .ensures) (c .before .before .before .before .before .before .before .before .before .before .if1 .left) (rw (c .before .before .before .before .before .before .before .before .outline-of .ensures) at (c .before .before .before .before .account-on .ensures))
+returns-2 c =
+    let judge = c .before .before .before .before .before .before .before .before .before .before .before .before .before .judge in
+    let if1 = c .before .before .before .before .before .before .before .before .before .before .if1 in
+    let outline-of = c .before .before .before .before .before .before .before .before .outline-of in
+    let account-on = c .before .before .before .before .account-on in
+    account-served (judge .ensures) (if1 .left) (rw (outline-of .ensures) at (account-on .ensures))
 
 pub account-spec : {M : Type 1} → statement M
 account-spec =

@@ -11,16 +11,28 @@ check-requires : tie.Need-check-requires
 check-requires c κs = search needs
 
 returns : tie.Need-returns
-returns c = account-barred (c .before .before .check .ensures (c .before .before .before .before .before .before .before .before .before .args .stack .now) refl) (c .if1 .taken)
+returns c =
+    let args = c .before .before .before .before .before .before .before .before .before .args in
+    let check = c .before .before .check in
+    account-barred (check .ensures (args .stack .now) refl) (c .if1 .taken)
 
 run-on-requires : tie.Need-run-on-requires
-run-on-requires c κs = checked-admits (c .before .before .before .before .check .ensures (c .before .before .before .before .before .before .before .before .before .before .before .args .stack .now) refl) (c .before .before .if1 .left) .stacked
+run-on-requires c κs =
+    let args = c .before .before .before .before .before .before .before .before .before .before .before .args in
+    let check = c .before .before .before .before .check in
+    let if1 = c .before .before .if1 in
+    checked-admits (check .ensures (args .stack .now) refl) (if1 .left) .stacked
 
 progress-of-requires : tie.Need-progress-of-requires
 progress-of-requires c κs = search needs
 
 answer-of-requires : tie.Need-answer-of-requires
-answer-of-requires c κs = reply-countable _ _ _ _ _ (c .before .before .before .before .before .run-on .ensures .answer) (omega (arith, checked-admits (c .before .before .before .before .before .before .before .before .before .before .check .ensures (c .before .before .before .before .before .before .before .before .before .before .before .before .before .before .before .before .before .args .stack .now) refl) (c .before .before .before .before .before .before .before .before .if1 .left) .short))
+answer-of-requires c κs =
+    let args = c .before .before .before .before .before .before .before .before .before .before .before .before .before .before .before .before .before .args in
+    let check = c .before .before .before .before .before .before .before .before .before .before .check in
+    let if1 = c .before .before .before .before .before .before .before .before .if1 in
+    let run-on = c .before .before .before .before .before .run-on in
+    reply-countable _ _ _ _ _ (run-on .ensures .answer) (omega (arith, checked-admits (check .ensures (args .stack .now) refl) (if1 .left) .short))
 
 same-length : tie.Need-same-length
 same-length c = search needs
@@ -29,7 +41,12 @@ same-length-2 : tie.Need-same-length-2
 same-length-2 c = search needs
 
 returns-2 : tie.Need-returns-2
-returns-2 c = account-stepped (checked-admits (c .before .before .before .before .before .before .before .before .before .before .before .check .ensures (c .before .before .before .before .before .before .before .before .before .before .before .before .before .before .before .before .before .before .args .stack .now) refl) (c .before .before .before .before .before .before .before .before .before .if1 .left)) (outlined-sized _ _ _) (c .before .before .before .before .before .before .run-on .ensures) (c .before .progress-of .ensures) (c .answer-of .ensures)
+returns-2 c =
+    let args = c .before .before .before .before .before .before .before .before .before .before .before .before .before .before .before .before .before .before .args in
+    let check = c .before .before .before .before .before .before .before .before .before .before .before .check in
+    let if1 = c .before .before .before .before .before .before .before .before .before .if1 in
+    let run-on = c .before .before .before .before .before .before .run-on in
+    account-stepped (checked-admits (check .ensures (args .stack .now) refl) (if1 .left)) (outlined-sized _ _ _) (run-on .ensures) (c .before .progress-of .ensures) (c .answer-of .ensures)
 
 pub account-on-spec : {M : Type 1} → statement M
 account-on-spec =

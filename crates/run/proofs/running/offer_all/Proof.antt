@@ -22,13 +22,19 @@ slice-write-stack : tie.Need-slice-write-stack Inv-loop μ-loop
 slice-write-stack c = search needs
 
 loop-holds : tie.Need-loop-holds Inv-loop μ-loop
-loop-holds c = running-start _ _ _ _ _ _ _ (c .before .before .before .before .before .before .before .before .args .stack .now) (c .before .before .before .before .before .before .before .before .pre .0) refl
+loop-holds c =
+    let args = c .before .before .before .before .before .before .before .before .args in
+    let pre = c .before .before .before .before .before .before .before .before .pre in
+    running-start _ _ _ _ _ _ _ (args .stack .now) (pre .0) refl
 
 ahead-of-requires : tie.Need-ahead-of-requires Inv-loop μ-loop
 ahead-of-requires c κs = search needs
 
 offer-at-requires : tie.Need-offer-at-requires Inv-loop μ-loop
-offer-at-requires c κs = (running-ready _ _ _ _ _ _ _ (c .before .before .before .loop .inv) (search needs), c .before .before .before .before .before .before .before .before .before .before .before .before .pre .1)
+offer-at-requires c κs =
+    let pre = c .before .before .before .before .before .before .before .before .before .before .before .before .pre in
+    let loop = c .before .before .before .loop in
+    (running-ready _ _ _ _ _ _ _ (loop .inv) (search needs), pre .1)
 
 enum-known-reply : tie.Need-enum-known-reply Inv-loop μ-loop
 enum-known-reply c = search needs
@@ -37,28 +43,71 @@ enum-told : tie.Need-enum-told Inv-loop μ-loop
 enum-told c = search needs
 
 same-length : tie.Need-same-length Inv-loop μ-loop
-same-length c = stepped-from (c .before .before .before .before .before .before .before .before .before .before .before .before .before .before .before .before .before .before .before .args .stack .now) _ (running-stopped _ _ _ _ _ _ _ (c .before .before .before .before .before .before .before .before .before .before .loop .inv) (c .before .before .before .before .before .before .before .before .before .ahead-of .ensures) (c .before .before .before .before .before .before .offer-at .ensures) (c .enum-told .given .1)) .stack-length
+same-length c =
+    let args = c .before .before .before .before .before .before .before .before .before .before .before .before .before .before .before .before .before .before .before .args in
+    let loop = c .before .before .before .before .before .before .before .before .before .before .loop in
+    let ahead-of = c .before .before .before .before .before .before .before .before .before .ahead-of in
+    let offer-at = c .before .before .before .before .before .before .offer-at in
+    stepped-from (args .stack .now) _ (running-stopped _ _ _ _ _ _ _ (loop .inv) (ahead-of .ensures) (offer-at .ensures) (c .enum-told .given .1)) .stack-length
 
 same-length-2 : tie.Need-same-length-2 Inv-loop μ-loop
-same-length-2 c = stepped-from (c .before .before .before .before .before .before .before .before .before .before .before .before .before .before .before .before .before .before .before .args .stack .now) _ (running-stopped _ _ _ _ _ _ _ (c .before .before .before .before .before .before .before .before .before .before .loop .inv) (c .before .before .before .before .before .before .before .before .before .ahead-of .ensures) (c .before .before .before .before .before .before .offer-at .ensures) (c .enum-told .given .1)) .list-length
+same-length-2 c =
+    let args = c .before .before .before .before .before .before .before .before .before .before .before .before .before .before .before .before .before .before .before .args in
+    let loop = c .before .before .before .before .before .before .before .before .before .before .loop in
+    let ahead-of = c .before .before .before .before .before .before .before .before .before .ahead-of in
+    let offer-at = c .before .before .before .before .before .before .offer-at in
+    stepped-from (args .stack .now) _ (running-stopped _ _ _ _ _ _ _ (loop .inv) (ahead-of .ensures) (offer-at .ensures) (c .enum-told .given .1)) .list-length
 
 returns : tie.Need-returns Inv-loop μ-loop
-returns c = stepped-from (c .before .before .before .before .before .before .before .before .before .before .before .before .before .before .before .before .before .before .before .args .stack .now) _ (running-stopped _ _ _ _ _ _ _ (c .before .before .before .before .before .before .before .before .before .before .loop .inv) (c .before .before .before .before .before .before .before .before .before .ahead-of .ensures) (c .before .before .before .before .before .before .offer-at .ensures) (c .enum-told .given .1))
+returns c =
+    let args = c .before .before .before .before .before .before .before .before .before .before .before .before .before .before .before .before .before .before .before .args in
+    let loop = c .before .before .before .before .before .before .before .before .before .before .loop in
+    let ahead-of = c .before .before .before .before .before .before .before .before .before .ahead-of in
+    let offer-at = c .before .before .before .before .before .before .offer-at in
+    stepped-from (args .stack .now) _ (running-stopped _ _ _ _ _ _ _ (loop .inv) (ahead-of .ensures) (offer-at .ensures) (c .enum-told .given .1))
 
 same-length-3 : tie.Need-same-length-3 Inv-loop μ-loop
-same-length-3 c = stepped-from (c .before .before .before .before .before .before .before .before .before .before .before .before .before .before .before .before .before .before .before .before .before .args .stack .now) _ (running-over _ _ _ _ _ _ _ (c .before .before .before .before .before .before .before .before .before .before .before .before .loop .inv) (c .before .before .before .before .before .before .before .before .before .before .before .ahead-of .ensures) (c .before .before .before .before .before .before .before .before .offer-at .ensures) (c .before .before .reply .given .1) (c .if1 .taken)) .stack-length
+same-length-3 c =
+    let args = c .before .before .before .before .before .before .before .before .before .before .before .before .before .before .before .before .before .before .before .before .before .args in
+    let loop = c .before .before .before .before .before .before .before .before .before .before .before .before .loop in
+    let ahead-of = c .before .before .before .before .before .before .before .before .before .before .before .ahead-of in
+    let offer-at = c .before .before .before .before .before .before .before .before .offer-at in
+    let reply = c .before .before .reply in
+    stepped-from (args .stack .now) _ (running-over _ _ _ _ _ _ _ (loop .inv) (ahead-of .ensures) (offer-at .ensures) (reply .given .1) (c .if1 .taken)) .stack-length
 
 same-length-4 : tie.Need-same-length-4 Inv-loop μ-loop
-same-length-4 c = stepped-from (c .before .before .before .before .before .before .before .before .before .before .before .before .before .before .before .before .before .before .before .before .before .args .stack .now) _ (running-over _ _ _ _ _ _ _ (c .before .before .before .before .before .before .before .before .before .before .before .before .loop .inv) (c .before .before .before .before .before .before .before .before .before .before .before .ahead-of .ensures) (c .before .before .before .before .before .before .before .before .offer-at .ensures) (c .before .before .reply .given .1) (c .if1 .taken)) .list-length
+same-length-4 c =
+    let args = c .before .before .before .before .before .before .before .before .before .before .before .before .before .before .before .before .before .before .before .before .before .args in
+    let loop = c .before .before .before .before .before .before .before .before .before .before .before .before .loop in
+    let ahead-of = c .before .before .before .before .before .before .before .before .before .before .before .ahead-of in
+    let offer-at = c .before .before .before .before .before .before .before .before .offer-at in
+    let reply = c .before .before .reply in
+    stepped-from (args .stack .now) _ (running-over _ _ _ _ _ _ _ (loop .inv) (ahead-of .ensures) (offer-at .ensures) (reply .given .1) (c .if1 .taken)) .list-length
 
 returns-2 : tie.Need-returns-2 Inv-loop μ-loop
-returns-2 c = stepped-from (c .before .before .before .before .before .before .before .before .before .before .before .before .before .before .before .before .before .before .before .before .before .args .stack .now) _ (running-over _ _ _ _ _ _ _ (c .before .before .before .before .before .before .before .before .before .before .before .before .loop .inv) (c .before .before .before .before .before .before .before .before .before .before .before .ahead-of .ensures) (c .before .before .before .before .before .before .before .before .offer-at .ensures) (c .before .before .reply .given .1) (c .if1 .taken))
+returns-2 c =
+    let args = c .before .before .before .before .before .before .before .before .before .before .before .before .before .before .before .before .before .before .before .before .before .args in
+    let loop = c .before .before .before .before .before .before .before .before .before .before .before .before .loop in
+    let ahead-of = c .before .before .before .before .before .before .before .before .before .before .before .ahead-of in
+    let offer-at = c .before .before .before .before .before .before .before .before .offer-at in
+    let reply = c .before .before .reply in
+    stepped-from (args .stack .now) _ (running-over _ _ _ _ _ _ _ (loop .inv) (ahead-of .ensures) (offer-at .ensures) (reply .given .1) (c .if1 .taken))
 
 loop-less : tie.Need-loop-less Inv-loop μ-loop
-loop-less c = omega (arith, running-next _ _ _ _ _ _ _ (c .before .before .before .before .before .before .before .before .before .before .before .before .loop .inv) (c .before .before .before .before .before .before .before .before .before .before .before .ahead-of .ensures) (c .before .before .before .before .before .before .before .before .offer-at .ensures) (c .before .before .reply .given .1) (c .if1 .left) .1)
+loop-less c =
+    let loop = c .before .before .before .before .before .before .before .before .before .before .before .before .loop in
+    let ahead-of = c .before .before .before .before .before .before .before .before .before .before .before .ahead-of in
+    let offer-at = c .before .before .before .before .before .before .before .before .offer-at in
+    let reply = c .before .before .reply in
+    omega (arith, running-next _ _ _ _ _ _ _ (loop .inv) (ahead-of .ensures) (offer-at .ensures) (reply .given .1) (c .if1 .left) .1)
 
 loop-again : tie.Need-loop-again Inv-loop μ-loop
-loop-again c = running-next _ _ _ _ _ _ _ (c .before .before .before .before .before .before .before .before .before .before .before .before .loop .inv) (c .before .before .before .before .before .before .before .before .before .before .before .ahead-of .ensures) (c .before .before .before .before .before .before .before .before .offer-at .ensures) (c .before .before .reply .given .1) (c .if1 .left) .0
+loop-again c =
+    let loop = c .before .before .before .before .before .before .before .before .before .before .before .before .loop in
+    let ahead-of = c .before .before .before .before .before .before .before .before .before .before .before .ahead-of in
+    let offer-at = c .before .before .before .before .before .before .before .before .offer-at in
+    let reply = c .before .before .reply in
+    running-next _ _ _ _ _ _ _ (loop .inv) (ahead-of .ensures) (offer-at .ensures) (reply .given .1) (c .if1 .left) .0
 
 pub offer-all-spec : {M : Type 1} → statement M
 offer-all-spec =

@@ -35,7 +35,11 @@ same-length-2 c = search needs
 
 returns-2 : tie.Need-returns-2
 unfolding outlined grammarIn
-returns-2 c = judged-ended (omega (arith, c .before .before .before .before .before .before .before .before .before .before .before .if1 .left)) (outlined-sized _ _ _) (rw (c .before .before .before .before .before .before .before .before .before .outline-of .ensures) at (c .before .before .before .before .before .run-on .ensures)) (rw (c .before .before .before .before .before .before .before .before .before .outline-of .ensures) at (c .answer-of .ensures))
+returns-2 c =
+    let if1 = c .before .before .before .before .before .before .before .before .before .before .before .if1 in
+    let outline-of = c .before .before .before .before .before .before .before .before .before .outline-of in
+    let run-on = c .before .before .before .before .before .run-on in
+    judged-ended (omega (arith, if1 .left)) (outlined-sized _ _ _) (rw (outline-of .ensures) at (run-on .ensures)) (rw (outline-of .ensures) at (c .answer-of .ensures))
 
 pub run-judged-spec : {M : Type 1} → statement M
 run-judged-spec =

@@ -25,7 +25,10 @@ same-length-2 : tie.Need-same-length-2
 same-length-2 c = search needs
 
 returns : tie.Need-returns
-returns c = record { answer = c .before .before .before .before .before .before .before .before .offer-all .ensures .answer; stack-cells = c .before .before .clear .ensures ∙ ap (λ (n : ℕ). replicate n 0) (c .before .before .before .before .before .before .before .before .offer-all .ensures .stack-length); list-cells = c .before .before .before .before .before .before .before .before .offer-all .ensures .lists }
+returns c =
+    let offer-all = c .before .before .before .before .before .before .before .before .offer-all in
+    let clear = c .before .before .clear in
+    record { answer = offer-all .ensures .answer; stack-cells = clear .ensures ∙ ap (λ (n : ℕ). replicate n 0) (offer-all .ensures .stack-length); list-cells = offer-all .ensures .lists }
 
 pub run-on-spec : {M : Type 1} → statement M
 run-on-spec =

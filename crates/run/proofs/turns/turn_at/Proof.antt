@@ -55,22 +55,59 @@ enum-told : tie.Need-enum-told
 enum-told c = search needs
 
 returns-2 : tie.Need-returns-2
-returns-2 c = λ book places lefts lengths. turn-write (spelled-top _ _ (c .before .before .before .before .before .before .if1 .left) (c .before .before .before .before .symbol-of .ensures)) (c .before .before .symbol .given .1) (c .if2 .taken)
+returns-2 c =
+    let if1 = c .before .before .before .before .before .before .if1 in
+    let symbol-of = c .before .before .before .before .symbol-of in
+    let symbol = c .before .before .symbol in
+    λ book places lefts lengths. turn-write (spelled-top _ _ (if1 .left) (symbol-of .ensures)) (symbol .given .1) (c .if2 .taken)
 
 returns-3 : tie.Need-returns-3
-returns-3 c = λ book places lefts lengths. turn-no-output (spelled-top _ _ (c .before .before .before .before .before .before .if1 .left) (c .before .before .before .before .symbol-of .ensures)) (c .before .before .symbol .given .1) (c .if2 .left)
+returns-3 c =
+    let if1 = c .before .before .before .before .before .before .if1 in
+    let symbol-of = c .before .before .before .before .symbol-of in
+    let symbol = c .before .before .symbol in
+    λ book places lefts lengths. turn-no-output (spelled-top _ _ (if1 .left) (symbol-of .ensures)) (symbol .given .1) (c .if2 .left)
 
 returns-4 : tie.Need-returns-4
-returns-4 c = λ book places lefts lengths. turn-misfit (spelled-top _ _ (c .before .before .before .before .before .before .before .before .before .before .before .if1 .left) (c .before .before .before .before .before .before .before .before .before .symbol-of .ensures)) (c .before .before .before .before .before .before .before .symbol2 .given .1) (c .before .before .before .before .before .ahead-of2 .ensures) (c .before .before .before .ahead .given .1) (sym (c .before .is-of .ensures _ _ lefts) ∙ not-true _ (c .if3 .taken))
+returns-4 c =
+    let if1 = c .before .before .before .before .before .before .before .before .before .before .before .if1 in
+    let symbol-of = c .before .before .before .before .before .before .before .before .before .symbol-of in
+    let symbol2 = c .before .before .before .before .before .before .before .symbol2 in
+    let ahead-of2 = c .before .before .before .before .before .ahead-of2 in
+    let ahead = c .before .before .before .ahead in
+    λ book places lefts lengths. turn-misfit (spelled-top _ _ (if1 .left) (symbol-of .ensures)) (symbol2 .given .1) (ahead-of2 .ensures) (ahead .given .1) (sym (c .before .is-of .ensures _ _ lefts) ∙ not-true _ (c .if3 .taken))
 
 returns-5 : tie.Need-returns-5
-returns-5 c = λ book places lefts lengths. turn-no-stack (spelled-top _ _ (c .before .before .before .before .before .before .before .before .before .before .before .before .before .before .if1 .left) (c .before .before .before .before .before .before .before .before .before .before .before .before .symbol-of .ensures)) (c .before .before .before .before .before .before .before .before .before .before .symbol2 .given .1) (c .before .before .before .before .before .before .before .before .ahead-of2 .ensures) (c .before .before .before .before .before .before .ahead .given .1) (sym (c .before .before .before .before .is-of .ensures _ _ lefts) ∙ not-false _ (c .before .before .before .if3 .left)) (omega (arith, replaced-length (c .before .right-length .ensures .1 _ _ (c .before .before .before .before .before .before .before .before .before .before .before .before .before .before .before .before .before .before .before .args .outline) lengths) (c .before .before .before .before .before .before .before .before .before .before .before .before .before .before .before .before .before .before .before .args .stack .now) (c .before .before .before .before .before .before .before .before .before .before .before .before .before .before .before .before .before .before .before .args .height - 1)))
+returns-5 c =
+    let args = c .before .before .before .before .before .before .before .before .before .before .before .before .before .before .before .before .before .before .before .args in
+    let if1 = c .before .before .before .before .before .before .before .before .before .before .before .before .before .before .if1 in
+    let symbol-of = c .before .before .before .before .before .before .before .before .before .before .before .before .symbol-of in
+    let symbol2 = c .before .before .before .before .before .before .before .before .before .before .symbol2 in
+    let ahead-of2 = c .before .before .before .before .before .before .before .before .ahead-of2 in
+    let ahead = c .before .before .before .before .before .before .ahead in
+    let is-of = c .before .before .before .before .is-of in
+    let if3 = c .before .before .before .if3 in
+    λ book places lefts lengths. turn-no-stack (spelled-top _ _ (if1 .left) (symbol-of .ensures)) (symbol2 .given .1) (ahead-of2 .ensures) (ahead .given .1) (sym (is-of .ensures _ _ lefts) ∙ not-false _ (if3 .left)) (omega (arith, replaced-length (c .before .right-length .ensures .1 _ _ (args .outline) lengths) (args .stack .now) (args .height - 1)))
 
 returns-6 : tie.Need-returns-6
-returns-6 c = λ book places lefts lengths. turn-apply (spelled-top _ _ (c .before .before .before .before .before .before .before .before .before .before .before .before .before .before .if1 .left) (c .before .before .before .before .before .before .before .before .before .before .before .before .symbol-of .ensures)) (c .before .before .before .before .before .before .before .before .before .before .symbol2 .given .1) (c .before .before .before .before .before .before .before .before .ahead-of2 .ensures) (c .before .before .before .before .before .before .ahead .given .1) (sym (c .before .before .before .before .is-of .ensures _ _ lefts) ∙ not-false _ (c .before .before .before .if3 .left)) (omega (arith, replaced-length (c .before .right-length .ensures .1 _ _ (c .before .before .before .before .before .before .before .before .before .before .before .before .before .before .before .before .before .before .before .args .outline) lengths) (c .before .before .before .before .before .before .before .before .before .before .before .before .before .before .before .before .before .before .before .args .stack .now) (c .before .before .before .before .before .before .before .before .before .before .before .before .before .before .before .before .before .before .before .args .height - 1)))
+returns-6 c =
+    let args = c .before .before .before .before .before .before .before .before .before .before .before .before .before .before .before .before .before .before .before .args in
+    let if1 = c .before .before .before .before .before .before .before .before .before .before .before .before .before .before .if1 in
+    let symbol-of = c .before .before .before .before .before .before .before .before .before .before .before .before .symbol-of in
+    let symbol2 = c .before .before .before .before .before .before .before .before .before .before .symbol2 in
+    let ahead-of2 = c .before .before .before .before .before .before .before .before .ahead-of2 in
+    let ahead = c .before .before .before .before .before .before .ahead in
+    let is-of = c .before .before .before .before .is-of in
+    let if3 = c .before .before .before .if3 in
+    λ book places lefts lengths. turn-apply (spelled-top _ _ (if1 .left) (symbol-of .ensures)) (symbol2 .given .1) (ahead-of2 .ensures) (ahead .given .1) (sym (is-of .ensures _ _ lefts) ∙ not-false _ (if3 .left)) (omega (arith, replaced-length (c .before .right-length .ensures .1 _ _ (args .outline) lengths) (args .stack .now) (args .height - 1)))
 
 returns-7 : tie.Need-returns-7
-returns-7 c = λ book places lefts lengths. turn-too-short (spelled-top _ _ (c .before .before .before .before .before .before .before .before .if1 .left) (c .before .before .before .before .before .before .symbol-of .ensures)) (c .before .before .before .before .symbol2 .given .1) (c .before .before .ahead-of2 .ensures) (c .enum-told .given .1)
+returns-7 c =
+    let if1 = c .before .before .before .before .before .before .before .before .if1 in
+    let symbol-of = c .before .before .before .before .before .before .symbol-of in
+    let symbol2 = c .before .before .before .before .symbol2 in
+    let ahead-of2 = c .before .before .ahead-of2 in
+    λ book places lefts lengths. turn-too-short (spelled-top _ _ (if1 .left) (symbol-of .ensures)) (symbol2 .given .1) (ahead-of2 .ensures) (c .enum-told .given .1)
 
 pub turn-at-spec : {M : Type 1} → statement M
 turn-at-spec =

@@ -33,7 +33,10 @@ returns-2 : tie.Need-returns-2
 returns-2 c = rw (told (c .before .before)) (enters (c .if2 .taken))
 
 cast-lowest : tie.Need-cast-lowest
-cast-lowest c = omega (arith, c .before .before .before .slice-known2 .given (c .before .before .before .before .before .before .before .args .cell))
+cast-lowest c =
+    let args = c .before .before .before .before .before .before .before .args in
+    let slice-known2 = c .before .before .before .slice-known2 in
+    omega (arith, slice-known2 .given (args .cell))
 
 returns-3 : tie.Need-returns-3
 returns-3 c = rw (told (c .before .before .before .before)) (contests (c .before .before .if2 .left) (c .if3 .taken))

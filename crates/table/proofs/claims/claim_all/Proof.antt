@@ -32,14 +32,24 @@ left-at-requires : tie.Need-left-at-requires Inv-loop μ-loop
 left-at-requires c κs = search needs
 
 lookahead-at-requires : tie.Need-lookahead-at-requires Inv-loop μ-loop
-lookahead-at-requires c κs = rw (c .before .place-at .ensures) (c .before .before .before .before .before .before .before .before .before .pre .readable .each _ (c .before .before .loop-test .taken))
+lookahead-at-requires c κs =
+    let pre = c .before .before .before .before .before .before .before .before .before .pre in
+    let loop-test = c .before .before .loop-test in
+    rw (c .before .place-at .ensures) (pre .readable .each _ (loop-test .taken))
 
 cast-claim-row : tie.Need-cast-claim-row Inv-loop μ-loop
-cast-claim-row c = omega (arith, c .before .before .before .before .before .before .before .before .before .before .pre .numbered)
+cast-claim-row c =
+    let pre = c .before .before .before .before .before .before .before .before .before .before .pre in
+    omega (arith, pre .numbered)
 
 claim-row-requires : tie.Need-claim-row-requires Inv-loop μ-loop
 claim-row-requires c κs =
-    (rw (c .before .before .left-at .ensures, c .before .before .before .place-at .ensures, c .before .before .before .before .before .loop .inv .1) (c .before .before .before .before .before .before .before .before .before .before .before .pre .rows _ (c .before .before .before .before .loop-test .taken)), omega (arith, c .before .before .before .before .before .before .before .before .before .before .before .pre .numbered))
+    let pre = c .before .before .before .before .before .before .before .before .before .before .before .pre in
+    let loop = c .before .before .before .before .before .loop in
+    let loop-test = c .before .before .before .before .loop-test in
+    let place-at = c .before .before .before .place-at in
+    let left-at = c .before .before .left-at in
+    (rw (left-at .ensures, place-at .ensures, loop .inv .1) (pre .rows _ (loop-test .taken)), omega (arith, pre .numbered))
 
 add-p : tie.Need-add-p Inv-loop μ-loop
 add-p c = search needs
@@ -55,11 +65,14 @@ looked : (d : tie.After-lookahead-at Inv-loop μ-loop) → lookaheadOf (d .befor
 looked d = rw (d .lookahead-at .ensures, d .before .before .place-at .ensures)
 
 loop-again : tie.Need-loop-again Inv-loop μ-loop
-loop-again c = (
-  search needs,
-  omega (arith, c .before .before .claim-row .kept .1 .1 .1 .1 .0, c .before .before .before .before .before .before .before .before .loop .inv .1),
-  c .before .before .claim-row .ensures .laid _ _ (sided (c .before .before .before .before)) (looked (c .before .before .before .before)) (c .before .before .before .before .before .before .before .before .loop .inv .2),
-)
+loop-again c =
+    let loop = c .before .before .before .before .before .before .before .before .loop in
+    let state = c .before .before .before .before in
+    let claim-row = c .before .before .claim-row in (
+      search needs,
+      omega (arith, claim-row .kept .1 .1 .1 .1 .0, loop .inv .1),
+      claim-row .ensures .laid _ _ (sided state) (looked state) (loop .inv .2),
+    )
 
 same-length : tie.Need-same-length Inv-loop μ-loop
 same-length c = search needs

@@ -50,11 +50,16 @@ loop-less : tie.Need-loop-less Inv-loop μ-loop
 loop-less c = search needs
 
 loop-again : tie.Need-loop-again Inv-loop μ-loop
-loop-again c = (
-  search needs,
-  omega (arith, c .before .before .claim .kept .1 .1 .1 .1 .0, c .before .before .before .before .before .loop .inv .1),
-  row-next (c .before .before .before .before .before .loop .inv .2) (omega (arith, c .before .before .before .before .loop-test .taken)) (in-row (c .before .before .before .before .before) _ (omega (arith, c .before .before .before .before .loop-test .taken))) (c .before .before .before .before .before .before .before .pre .1) (c .before .before .claim .ensures) (rw (lt-ltb _ _ (c .before .before .before .before .loop-test .taken))),
-)
+loop-again c =
+    let pre = c .before .before .before .before .before .before .before .pre in
+    let loop = c .before .before .before .before .before .loop in
+    let state = c .before .before .before .before .before in
+    let loop-test = c .before .before .before .before .loop-test in
+    let claim = c .before .before .claim in (
+      search needs,
+      omega (arith, claim .kept .1 .1 .1 .1 .0, loop .inv .1),
+      row-next (loop .inv .2) (omega (arith, loop-test .taken)) (in-row state _ (omega (arith, loop-test .taken))) (pre .1) (claim .ensures) (rw (lt-ltb _ _ (loop-test .taken))),
+    )
 
 add-claim-2 : tie.Need-add-claim-2 Inv-loop μ-loop
 add-claim-2 c = omega (arith, in-row (c .before) (c .before .before .before .args .tokens) (omega arith))
@@ -67,8 +72,14 @@ same-length c = search needs
 
 returns : tie.Need-returns Inv-loop μ-loop
 returns c =
-    let all : c .before .before .before .before .before .loop .column ≡ c .before .before .before .before .before .before .before .args .tokens = omega (arith, c .before .before .before .before .before .loop .inv .0, c .before .before .before .before .loop-test .left) in
-    row-over (row-next (rw all at (c .before .before .before .before .before .loop .inv .2)) (omega arith) (in-row (c .before .before .before .before .before) _ (omega arith)) (c .before .before .before .before .before .before .before .pre .1) (c .before .before .claim2 .ensures) (rw (le-ltb (c .before .before .before .before .before .before .before .args .tokens) (c .before .before .before .before .before .before .before .args .tokens) (omega arith)))) (omega arith)
+    let args = c .before .before .before .before .before .before .before .args in
+    let pre = c .before .before .before .before .before .before .before .pre in
+    let loop = c .before .before .before .before .before .loop in
+    let state = c .before .before .before .before .before in
+    let loop-test = c .before .before .before .before .loop-test in
+    let claim2 = c .before .before .claim2 in
+    let all : loop .column ≡ args .tokens = omega (arith, loop .inv .0, loop-test .left) in
+    row-over (row-next (rw all at (loop .inv .2)) (omega arith) (in-row state _ (omega arith)) (pre .1) (claim2 .ensures) (rw (le-ltb (args .tokens) (args .tokens) (omega arith)))) (omega arith)
 
 pub claim-row-spec : {M : Type 1} → statement M
 claim-row-spec =

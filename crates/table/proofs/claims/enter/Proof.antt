@@ -31,31 +31,52 @@ slice-aggregate-tabulate : tie.Need-slice-aggregate-tabulate
 slice-aggregate-tabulate c = sym (taken-sized (c .before .before .before .before .before .if1 .taken) (c .before .before .before .before .vacant-few .ensures))
 
 tabulate-requires : tie.Need-tabulate-requires
-tabulate-requires c κs = enter-ready (c .before .before .before .before .before .before .before .before .before .before .before .pre) (c .before .before .before .before .before .before .if1 .taken) (c .before .before .before .before .before .vacant-few .ensures)
+tabulate-requires c κs =
+    let pre = c .before .before .before .before .before .before .before .before .before .before .before .pre in
+    let if1 = c .before .before .before .before .before .before .if1 in
+    let vacant-few = c .before .before .before .before .before .vacant-few in
+    enter-ready pre (if1 .taken) (vacant-few .ensures)
 
 vacant-most-requires : tie.Need-vacant-most-requires
 vacant-most-requires c κs = search needs
 
 array-borrow-prefix-claimed-2 : tie.Need-array-borrow-prefix-claimed-2
-array-borrow-prefix-claimed-2 c = omega (arith, given-most (c .before .before .before .before .before .before .before .before .before .pre .given))
+array-borrow-prefix-claimed-2 c =
+    let pre = c .before .before .before .before .before .before .before .before .before .pre in
+    omega (arith, given-most (pre .given))
 
 slice-aggregate-tabulate-2 : tie.Need-slice-aggregate-tabulate-2
-slice-aggregate-tabulate-2 c = sym (taken-sized (given-most (c .before .before .before .before .before .before .before .before .before .before .pre .given)) (c .before .before .before .before .vacant-most .ensures))
+slice-aggregate-tabulate-2 c =
+    let pre = c .before .before .before .before .before .before .before .before .before .before .pre in
+    let vacant-most = c .before .before .before .before .vacant-most in
+    sym (taken-sized (given-most (pre .given)) (vacant-most .ensures))
 
 tabulate-requires-2 : tie.Need-tabulate-requires-2
-tabulate-requires-2 c κs = enter-ready (c .before .before .before .before .before .before .before .before .before .before .before .pre) (given-most (c .before .before .before .before .before .before .before .before .before .before .before .pre .given)) (c .before .before .before .before .before .vacant-most .ensures)
+tabulate-requires-2 c κs =
+    let pre = c .before .before .before .before .before .before .before .before .before .before .before .pre in
+    let vacant-most = c .before .before .before .before .before .vacant-most in
+    enter-ready pre (given-most (pre .given)) (vacant-most .ensures)
 
 same-length : tie.Need-same-length
 same-length c = search needs
 
 returns : tie.Need-returns
-returns c = enter-tabulated (c .before .before .before .before .before .before .before .before .before .before .before .before .before .before .before .pre) (taken-sized (c .before .before .before .before .before .before .before .before .before .before .if1 .taken) (c .before .before .before .before .before .before .before .before .before .vacant-few .ensures)) (c .before .before .before .tabulate .ensures)
+returns c =
+    let pre = c .before .before .before .before .before .before .before .before .before .before .before .before .before .before .before .pre in
+    let if1 = c .before .before .before .before .before .before .before .before .before .before .if1 in
+    let vacant-few = c .before .before .before .before .before .before .before .before .before .vacant-few in
+    let tabulate = c .before .before .before .tabulate in
+    enter-tabulated pre (taken-sized (if1 .taken) (vacant-few .ensures)) (tabulate .ensures)
 
 same-length-2 : tie.Need-same-length-2
 same-length-2 c = search needs
 
 returns-2 : tie.Need-returns-2
-returns-2 c = enter-tabulated (c .before .before .before .before .before .before .before .before .before .before .before .before .before .before .before .pre) (taken-sized (given-most (c .before .before .before .before .before .before .before .before .before .before .before .before .before .before .before .pre .given)) (c .before .before .before .before .before .before .before .before .before .vacant-most .ensures)) (c .before .before .before .tabulate2 .ensures)
+returns-2 c =
+    let pre = c .before .before .before .before .before .before .before .before .before .before .before .before .before .before .before .pre in
+    let vacant-most = c .before .before .before .before .before .before .before .before .before .vacant-most in
+    let tabulate2 = c .before .before .before .tabulate2 in
+    enter-tabulated pre (taken-sized (given-most (pre .given)) (vacant-most .ensures)) (tabulate2 .ensures)
 
 pub enter-spec : {M : Type 1} → statement M
 enter-spec =

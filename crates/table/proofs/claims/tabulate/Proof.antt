@@ -20,13 +20,21 @@ same-length-2 : tie.Need-same-length-2
 same-length-2 c = search needs
 
 returns : tie.Need-returns
-returns c = tabulated-written (c .before .before .before .before .before .before .before .before .before .before .claim-all .kept .1 .1 .1 .1 .1 .1 .0) (c .before .before .before .before .before .before .before .before .before .before .claim-all .ensures) (c .before .before .before .before .before .before .before .settle .ensures) (c .before .before .before .before .before .if1 .taken) (c .before .before .write-table .ensures)
+returns c =
+    let claim-all = c .before .before .before .before .before .before .before .before .before .before .claim-all in
+    let settle = c .before .before .before .before .before .before .before .settle in
+    let if1 = c .before .before .before .before .before .if1 in
+    let write-table = c .before .before .write-table in
+    tabulated-written (claim-all .kept .1 .1 .1 .1 .1 .1 .0) (claim-all .ensures) (settle .ensures) (if1 .taken) (write-table .ensures)
 
 same-length-3 : tie.Need-same-length-3
 same-length-3 c = search needs
 
 returns-2 : tie.Need-returns-2
-returns-2 c = tabulated-refused (c .before .before .before .before .before .claim-all .kept .1 .1 .1 .1 .1 .1 .0) (c .before .before .before .before .before .claim-all .ensures) (c .before .before .settle .ensures) (c .if1 .left)
+returns-2 c =
+    let claim-all = c .before .before .before .before .before .claim-all in
+    let settle = c .before .before .settle in
+    tabulated-refused (claim-all .kept .1 .1 .1 .1 .1 .1 .0) (claim-all .ensures) (settle .ensures) (c .if1 .left)
 
 pub tabulate-spec : {M : Type 1} → statement M
 tabulate-spec =

@@ -25,9 +25,12 @@ same-length c = search needs
 
 returns : tie.Need-returns
 returns c =
+    let load = c .before .before .before .before .before .before .before .before .load in
+    let union = c .before .before .before .before .before .before .union in
+    let store = c .before .before .before .before .before .store in
     made-united _ _ _ (c .same .result)
-    (rw (c .before .before .before .before .before .store .ensures, union-is (c .before .before .before .before .before .before .union .ensures), c .before .before .before .before .before .before .before .before .load .ensures .loaded))
-    (rw (c .before .load2 .ensures .loaded, c .before .before .before .before .before .before .before .before .load .ensures .loaded) at (c .same .ensures))
+    (rw (store .ensures, union-is (union .ensures), load .ensures .loaded))
+    (rw (c .before .load2 .ensures .loaded, load .ensures .loaded) at (c .same .ensures))
 
 pub unite-spec : {M : Type 1} → statement M
 unite-spec = tie.close (tie.spec load-requires union-requires store-requires load-requires-2 same-requires same-length returns)

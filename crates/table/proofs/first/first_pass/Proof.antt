@@ -25,10 +25,15 @@ mul-first-step : tie.Need-mul-first-step Inv-loop μ-loop
 mul-first-step c = search needs
 
 shared-slice-read-first-step : tie.Need-shared-slice-read-first-step Inv-loop μ-loop
-shared-slice-read-first-step c = omega (arith, c .before .before .before .before .before .before .pre .listed)
+shared-slice-read-first-step c =
+    let pre = c .before .before .before .before .before .before .pre in
+    omega (arith, pre .listed)
 
 first-step-requires : tie.Need-first-step-requires Inv-loop μ-loop
-first-step-requires c κs = c .before .before .before .before .before .before .before .pre .each _ (c .before .before .loop-test .taken)
+first-step-requires c κs =
+    let pre = c .before .before .before .before .before .before .before .pre in
+    let loop-test = c .before .before .loop-test in
+    pre .each _ (loop-test .taken)
 
 add-p : tie.Need-add-p Inv-loop μ-loop
 add-p c = search needs
@@ -37,11 +42,14 @@ loop-less : tie.Need-loop-less Inv-loop μ-loop
 loop-less c = search needs
 
 loop-again : tie.Need-loop-again Inv-loop μ-loop
-loop-again c = (
-  search needs,
-  omega (arith, c .before .before .first-step .kept .1 .1 .0),
-  made-next (first-expands _ (c .before .before .before .before .before .before .before .before .before .before .args .places .now)) (c .before .before .before .before .before .before .loop .p) _ _ (c .before .before .before .before .before .before .loop .inv .2) (c .before .before .first-step .ensures),
-)
+loop-again c =
+    let args = c .before .before .before .before .before .before .before .before .before .before .args in
+    let loop = c .before .before .before .before .before .before .loop in
+    let first-step = c .before .before .first-step in (
+      search needs,
+      omega (arith, first-step .kept .1 .1 .0),
+      made-next (first-expands _ (args .places .now)) (loop .p) _ _ (loop .inv .2) (first-step .ensures),
+    )
 
 same-length : tie.Need-same-length Inv-loop μ-loop
 same-length c = search needs

@@ -31,7 +31,9 @@ shared-slice-read-unite : tie.Need-shared-slice-read-unite
 shared-slice-read-unite c = search needs
 
 cast-unite : tie.Need-cast-unite
-cast-unite c = record { fits = omega (arith, c .shared-slice-known3 .given (c .before .before .before .before .before .before .before .before .args .place + 2) .fits) }
+cast-unite c =
+    let args = c .before .before .before .before .before .before .before .before .args in
+    record { fits = omega (arith, c .shared-slice-known3 .given (args .place + 2) .fits) }
 
 unite-requires : tie.Need-unite-requires
 unite-requires c κs = search needs
@@ -42,9 +44,12 @@ same-length c = search needs
 returns : tie.Need-returns
 unfolding firstStep
 returns c =
+    let single = c .before .before .before .before .before .before .single in
+    let trail-of = c .before .before .before .before .before .trail-of in
+    let unite = c .before .before .unite in
     record {
-      made = rw (c .before .before .unite .ensures .made, c .before .before .before .before .before .trail-of .ensures, c .before .before .before .before .before .before .single .ensures);
-      same = c .before .before .unite .ensures .same;
+      made = rw (unite .ensures .made, trail-of .ensures, single .ensures);
+      same = unite .ensures .same;
     }
 
 pub first-step-spec : {M : Type 1} → statement M

@@ -22,14 +22,22 @@ first-pass-requires : tie.Need-first-pass-requires Inv-loop μ-loop
 first-pass-requires c κs = search needs
 
 loop-less : tie.Need-loop-less Inv-loop μ-loop
-loop-less c = round-nearer (first-refines _ _ _ (c .before .before .before .before .before .before .pre .0)) (c .before .before .before .loop .inv) (c .before .first-pass .ensures) (not-true _ (c .if1 .taken))
+loop-less c =
+    let pre = c .before .before .before .before .before .before .pre in
+    let loop = c .before .before .before .loop in
+    round-nearer (first-refines _ _ _ (pre .0)) (loop .inv) (c .before .first-pass .ensures) (not-true _ (c .if1 .taken))
 
 loop-again : tie.Need-loop-again Inv-loop μ-loop
-loop-again c = round-next (first-refines _ _ _ (c .before .before .before .before .before .before .pre .0)) (c .before .before .before .loop .inv) (c .before .first-pass .ensures)
+loop-again c =
+    let pre = c .before .before .before .before .before .before .pre in
+    let loop = c .before .before .before .loop in
+    round-next (first-refines _ _ _ (pre .0)) (loop .inv) (c .before .first-pass .ensures)
 
 returns : tie.Need-returns Inv-loop μ-loop
 returns c =
-    first-found _ _ _ (round-next (first-refines _ _ _ (c .before .before .before .before .before .before .pre .0)) (c .before .before .before .loop .inv) (c .before .first-pass .ensures))
+    let pre = c .before .before .before .before .before .before .pre in
+    let loop = c .before .before .before .loop in
+    first-found _ _ _ (round-next (first-refines _ _ _ (pre .0)) (loop .inv) (c .before .first-pass .ensures))
     (round-last (c .before .first-pass .ensures) (not-false _ (c .if1 .left)))
 
 pub firsts-spec : {M : Type 1} → statement M

@@ -26,13 +26,20 @@ mul-follow-step : tie.Need-mul-follow-step Inv-loop μ-loop
 mul-follow-step c = search needs
 
 shared-slice-read-follow-step : tie.Need-shared-slice-read-follow-step Inv-loop μ-loop
-shared-slice-read-follow-step c = omega (arith, c .before .before .before .before .before .before .before .before .pre .readable .listed)
+shared-slice-read-follow-step c =
+    let pre = c .before .before .before .before .before .before .before .before .pre in
+    omega (arith, pre .readable .listed)
 
 shared-slice-read-follow-step-2 : tie.Need-shared-slice-read-follow-step-2 Inv-loop μ-loop
-shared-slice-read-follow-step-2 c = omega (arith, c .before .before .before .before .before .before .before .before .before .pre .listed)
+shared-slice-read-follow-step-2 c =
+    let pre = c .before .before .before .before .before .before .before .before .before .pre in
+    omega (arith, pre .listed)
 
 follow-step-requires : tie.Need-follow-step-requires Inv-loop μ-loop
-follow-step-requires c κs = (c .before .before .before .before .before .before .before .before .before .before .pre .readable .each _ (c .before .before .before .loop-test .taken), c .before .before .before .before .before .before .before .before .before .before .pre .inside _ (c .before .before .before .loop-test .taken))
+follow-step-requires c κs =
+    let pre = c .before .before .before .before .before .before .before .before .before .before .pre in
+    let loop-test = c .before .before .before .loop-test in
+    (pre .readable .each _ (loop-test .taken), pre .inside _ (loop-test .taken))
 
 add-p : tie.Need-add-p Inv-loop μ-loop
 add-p c = search needs
@@ -41,11 +48,14 @@ loop-less : tie.Need-loop-less Inv-loop μ-loop
 loop-less c = search needs
 
 loop-again : tie.Need-loop-again Inv-loop μ-loop
-loop-again c = (
-  search needs,
-  omega (arith, c .before .before .follow-step .kept .1 .1 .1 .1 .0, c .before .before .before .before .before .before .before .loop .inv .1),
-  made-next (follow-expands _ (c .before .before .before .before .before .before .before .before .before .before .before .before .before .args .places .now) _ (c .before .before .before .before .before .before .before .before .before .before .before .before .before .args .from .now)) (c .before .before .before .before .before .before .before .loop .p) _ _ (c .before .before .before .before .before .before .before .loop .inv .2) (c .before .before .follow-step .ensures),
-)
+loop-again c =
+    let args = c .before .before .before .before .before .before .before .before .before .before .before .before .before .args in
+    let loop = c .before .before .before .before .before .before .before .loop in
+    let follow-step = c .before .before .follow-step in (
+      search needs,
+      omega (arith, follow-step .kept .1 .1 .1 .1 .0, loop .inv .1),
+      made-next (follow-expands _ (args .places .now) _ (args .from .now)) (loop .p) _ _ (loop .inv .2) (follow-step .ensures),
+    )
 
 same-length : tie.Need-same-length Inv-loop μ-loop
 same-length c = search needs

@@ -40,11 +40,15 @@ add-j : tie.Need-add-j Inv-loop μ-loop
 add-j c = search needs
 
 shared-slice-read-j : tie.Need-shared-slice-read-j Inv-loop μ-loop
-shared-slice-read-j c = omega (arith, c .before .before .before .before .before .before .before .pre .0 .inside)
+shared-slice-read-j c =
+    let pre = c .before .before .before .before .before .before .before .pre in
+    omega (arith, pre .0 .inside)
 
 loop-holds : tie.Need-loop-holds Inv-loop μ-loop
 unfolding trail walked
-loop-holds c = (c .before .before .before .before .before .before .before .pre .1, search needs, refl, rw form-none, rw form-none (record { made = refl; same = refl }))
+loop-holds c =
+    let pre = c .before .before .before .before .before .before .before .pre in
+    (pre .1, search needs, refl, rw form-none, rw form-none (record { made = refl; same = refl }))
 
 sub-j : tie.Need-sub-j Inv-loop μ-loop
 sub-j c = search needs
@@ -59,24 +63,34 @@ add-byte-2 : tie.Need-add-byte-2 Inv-loop μ-loop
 add-byte-2 c = search needs
 
 shared-slice-read-byte : tie.Need-shared-slice-read-byte Inv-loop μ-loop
-shared-slice-read-byte c = omega (arith, c .before .before .before .before .before .before .before .before .before .before .pre .0 .inside, c .before .before .loop .inv .1)
+shared-slice-read-byte c =
+    let pre = c .before .before .before .before .before .before .before .before .before .before .pre in
+    let loop = c .before .before .loop in
+    omega (arith, pre .0 .inside, loop .inv .1)
 
 pass-over-requires : tie.Need-pass-over-requires Inv-loop μ-loop
-pass-over-requires c κs = every-in _ _ _ (c .before .before .before .before .before .before .before .before .before .before .before .pre .0 .right) _ (omega (arith, c .before .before .before .loop .inv .1, c .before .before .loop-test .taken))
+pass-over-requires c κs =
+    let pre = c .before .before .before .before .before .before .before .before .before .before .before .pre in
+    let loop = c .before .before .before .loop in
+    let loop-test = c .before .before .loop-test in
+    every-in _ _ _ (pre .0 .right) _ (omega (arith, loop .inv .1, loop-test .taken))
 
 loop-less : tie.Need-loop-less Inv-loop μ-loop
 loop-less c = search needs
 
 loop-again : tie.Need-loop-again Inv-loop μ-loop
 unfolding trail
-loop-again c = (
-  omega (arith, c .before .before .before .before .before .before .before .loop-test .taken),
-  omega (arith, c .before .before .before .before .before .before .before .before .loop .inv .1),
-  omega (arith, c .before .before .before .before .pass-over .kept .1 .1 .1 .0, c .before .before .before .before .before .before .before .before .loop .inv .2),
-  rw (form-turn _ _ _ _ (omega (arith, c .before .before .before .before .before .before .before .loop-test .taken)) (c .before .before .before .before .before .before .before .before .loop .inv .1), c .before .before .before .before .pass-over .ensures .ahead, c .before .before .before .before .before .before .before .before .loop .inv .3),
-  rw (form-turn _ _ _ _ (omega (arith, c .before .before .before .before .before .before .before .loop-test .taken)) (c .before .before .before .before .before .before .before .before .loop .inv .1))
-      (made-walked _ _ _ _ _ _ (c .before .before .before .before .before .before .before .before .loop .inv .4) (rw (c .before .before .before .before .before .before .before .before .loop .inv .3) at (c .before .before .before .before .pass-over .ensures .added))),
-)
+loop-again c =
+    let loop = c .before .before .before .before .before .before .before .before .loop in
+    let loop-test = c .before .before .before .before .before .before .before .loop-test in
+    let pass-over = c .before .before .before .before .pass-over in (
+      omega (arith, loop-test .taken),
+      omega (arith, loop .inv .1),
+      omega (arith, pass-over .kept .1 .1 .1 .0, loop .inv .2),
+      rw (form-turn _ _ _ _ (omega (arith, loop-test .taken)) (loop .inv .1), pass-over .ensures .ahead, loop .inv .3),
+      rw (form-turn _ _ _ _ (omega (arith, loop-test .taken)) (loop .inv .1))
+          (made-walked _ _ _ _ _ _ (loop .inv .4) (rw (loop .inv .3) at (pass-over .ensures .added))),
+    )
 
 same-length : tie.Need-same-length Inv-loop μ-loop
 same-length c = search needs
@@ -84,9 +98,11 @@ same-length c = search needs
 returns : tie.Need-returns Inv-loop μ-loop
 unfolding followStep
 returns c =
-    let there : c .before .loop .j ≡ c .before .before .before .before .before .before .before .before .before .args .from = omega (arith, c .before .loop .inv .0, c .loop-test .left) in
+    let args = c .before .before .before .before .before .before .before .before .before .args in
+    let load = c .before .before .before .load in
+    let there : c .before .loop .j ≡ args .from = omega (arith, c .before .loop .inv .0, c .loop-test .left) in
     record {
-      made = rw (there, c .before .before .before .load .ensures .loaded) at (c .before .loop .inv .4 .made);
+      made = rw (there, load .ensures .loaded) at (c .before .loop .inv .4 .made);
       same = c .before .loop .inv .4 .same;
     }
 

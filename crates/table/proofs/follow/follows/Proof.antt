@@ -27,7 +27,9 @@ slice-aggregate-follow-pass : tie.Need-slice-aggregate-follow-pass Inv-loop μ-l
 slice-aggregate-follow-pass c = search needs
 
 follow-pass-requires : tie.Need-follow-pass-requires Inv-loop μ-loop
-follow-pass-requires c κs = whole-walkable (c .before .before .before .before .before .before .before .before .pre .0) (c .before .before .before .before .before .before .before .before .pre .1)
+follow-pass-requires c κs =
+    let pre = c .before .before .before .before .before .before .before .before .pre in
+    whole-walkable (pre .0) (pre .1)
 
 slice-aggregate-find-tails : tie.Need-slice-aggregate-find-tails Inv-loop μ-loop
 slice-aggregate-find-tails c = search needs
@@ -37,25 +39,47 @@ find-tails-requires c κs = search needs
 
 loop-holds : tie.Need-loop-holds Inv-loop μ-loop
 loop-holds c =
-    follow-begun-round _ _ _ _ _ (c .before .before .before .before .before .before .before .before .before .before .before .before .pre .0) (record { each = λ A. c .before .before .before .before .before .before .before .before .before .shared-slice-known3 .given A .fits }) (replicate 128 0) (none-at 128)
-    (rw (c .before .before .before .before .before .before .before .before .before .before .before .before .pre .2, c .before .before .before .before .before .before .before .single .ensures) at (c .before .before .before .before .before .before .store .ensures)) (c .before .before .before .follow-pass .ensures .made)
+    let pre = c .before .before .before .before .before .before .before .before .before .before .before .before .pre in
+    let shared-slice-known3 = c .before .before .before .before .before .before .before .before .before .shared-slice-known3 in
+    let single = c .before .before .before .before .before .before .before .single in
+    let store = c .before .before .before .before .before .before .store in
+    let follow-pass = c .before .before .before .follow-pass in
+    follow-begun-round _ _ _ _ _ (pre .0) (record { each = λ A. shared-slice-known3 .given A .fits }) (replicate 128 0) (none-at 128)
+    (rw (pre .2, single .ensures) at (store .ensures)) (follow-pass .ensures .made)
 
 slice-aggregate-follow-pass-2 : tie.Need-slice-aggregate-follow-pass-2 Inv-loop μ-loop
 slice-aggregate-follow-pass-2 c = search needs
 
 follow-pass-requires-2 : tie.Need-follow-pass-requires-2 Inv-loop μ-loop
-follow-pass-requires-2 c κs = tails-walkable (c .before .before .before .before .before .before .before .before .before .before .before .before .before .before .before .pre .0) (omega (arith, c .before .before .before .before .find-tails .kept .1 .1 .1 .1 .0, c .before .before .before .before .before .before .before .before .before .before .before .before .before .before .before .pre .1)) (c .before .before .before .before .find-tails .ensures)
+follow-pass-requires-2 c κs =
+    let pre = c .before .before .before .before .before .before .before .before .before .before .before .before .before .before .before .pre in
+    let find-tails = c .before .before .before .before .find-tails in
+    tails-walkable (pre .0) (omega (arith, find-tails .kept .1 .1 .1 .1 .0, pre .1)) (find-tails .ensures)
 
 loop-less : tie.Need-loop-less Inv-loop μ-loop
-loop-less c = round-nearer (follow-refines _ _ _ _ _ (c .before .before .before .before .before .before .find-tails .last .1 .1 .1 .1 .0) (c .before .before .before .before .before .before .before .before .before .before .before .before .before .before .before .before .before .pre .0) (record { each = λ A. c .before .before .before .before .before .before .before .before .before .before .before .before .before .before .shared-slice-known3 .given A .fits })) (c .before .before .before .before .loop .inv) (c .before .follow-pass2 .ensures) (not-true _ (c .if1 .taken))
+loop-less c =
+    let pre = c .before .before .before .before .before .before .before .before .before .before .before .before .before .before .before .before .before .pre in
+    let shared-slice-known3 = c .before .before .before .before .before .before .before .before .before .before .before .before .before .before .shared-slice-known3 in
+    let find-tails = c .before .before .before .before .before .before .find-tails in
+    let loop = c .before .before .before .before .loop in
+    round-nearer (follow-refines _ _ _ _ _ (find-tails .last .1 .1 .1 .1 .0) (pre .0) (record { each = λ A. shared-slice-known3 .given A .fits })) (loop .inv) (c .before .follow-pass2 .ensures) (not-true _ (c .if1 .taken))
 
 loop-again : tie.Need-loop-again Inv-loop μ-loop
-loop-again c = round-next (follow-refines _ _ _ _ _ (c .before .before .before .before .before .before .find-tails .last .1 .1 .1 .1 .0) (c .before .before .before .before .before .before .before .before .before .before .before .before .before .before .before .before .before .pre .0) (record { each = λ A. c .before .before .before .before .before .before .before .before .before .before .before .before .before .before .shared-slice-known3 .given A .fits })) (c .before .before .before .before .loop .inv) (c .before .follow-pass2 .ensures)
+loop-again c =
+    let pre = c .before .before .before .before .before .before .before .before .before .before .before .before .before .before .before .before .before .pre in
+    let shared-slice-known3 = c .before .before .before .before .before .before .before .before .before .before .before .before .before .before .shared-slice-known3 in
+    let find-tails = c .before .before .before .before .before .before .find-tails in
+    let loop = c .before .before .before .before .loop in
+    round-next (follow-refines _ _ _ _ _ (find-tails .last .1 .1 .1 .1 .0) (pre .0) (record { each = λ A. shared-slice-known3 .given A .fits })) (loop .inv) (c .before .follow-pass2 .ensures)
 
 returns : tie.Need-returns Inv-loop μ-loop
 returns c =
-    follow-found _ _ _ _ _ (c .before .before .before .before .before .before .find-tails .ensures)
-    (round-next (follow-refines _ _ _ _ _ (c .before .before .before .before .before .before .find-tails .last .1 .1 .1 .1 .0) (c .before .before .before .before .before .before .before .before .before .before .before .before .before .before .before .before .before .pre .0) (record { each = λ A. c .before .before .before .before .before .before .before .before .before .before .before .before .before .before .shared-slice-known3 .given A .fits })) (c .before .before .before .before .loop .inv) (c .before .follow-pass2 .ensures))
+    let pre = c .before .before .before .before .before .before .before .before .before .before .before .before .before .before .before .before .before .pre in
+    let shared-slice-known3 = c .before .before .before .before .before .before .before .before .before .before .before .before .before .before .shared-slice-known3 in
+    let find-tails = c .before .before .before .before .before .before .find-tails in
+    let loop = c .before .before .before .before .loop in
+    follow-found _ _ _ _ _ (find-tails .ensures)
+    (round-next (follow-refines _ _ _ _ _ (find-tails .last .1 .1 .1 .1 .0) (pre .0) (record { each = λ A. shared-slice-known3 .given A .fits })) (loop .inv) (c .before .follow-pass2 .ensures))
     (round-last (c .before .follow-pass2 .ensures) (not-false _ (c .if1 .left)))
 
 pub follows-spec : {M : Type 1} → statement M

@@ -41,8 +41,11 @@ same-length c = search needs
 returns-2 : tie.Need-returns-2
 unfolding symbolSet spread
 returns-2 c =
-    rw (symbol-nonterminal _ (narrow-high (c .before .before .before .before .before .before .before .before .before .pre) (c .before .before .before .before .before .before .if1 .left)))
-    (record { added = c .before .before .before .before .unite .ensures; ahead = rw (← (c .before .load .ensures .loaded)) (join-is (c .join .ensures)) })
+    let pre = c .before .before .before .before .before .before .before .before .before .pre in
+    let if1 = c .before .before .before .before .before .before .if1 in
+    let unite = c .before .before .before .before .unite in
+    rw (symbol-nonterminal _ (narrow-high pre (if1 .left)))
+    (record { added = unite .ensures; ahead = rw (← (c .before .load .ensures .loaded)) (join-is (c .join .ensures)) })
 
 pub pass-over-spec : {M : Type 1} → statement M
 pass-over-spec =

@@ -41,7 +41,9 @@ shared-slice-read-symbol-set : tie.Need-shared-slice-read-symbol-set Inv-loop μ
 shared-slice-read-symbol-set c = search needs
 
 symbol-set-requires : tie.Need-symbol-set-requires Inv-loop μ-loop
-symbol-set-requires c κs = every-in _ _ _ (c .before .before .before .before .before .before .before .before .pre .1) _ (omega arith)
+symbol-set-requires c κs =
+    let pre = c .before .before .before .before .before .before .before .before .pre in
+    every-in _ _ _ (pre .1) _ (omega arith)
 
 join-requires : tie.Need-join-requires Inv-loop μ-loop
 join-requires c κs = search needs
@@ -54,11 +56,13 @@ loop-less c = search needs
 
 loop-again : tie.Need-loop-again Inv-loop μ-loop
 unfolding trail
-loop-again c = (
-  search needs,
-  rw (join-is (c .join .ensures), c .before .symbol-set .ensures, join-assoc)
-      (rw (form-next _ _ _ _ (c .before .before .before .before .before .loop-test .taken)) at (c .before .before .before .before .before .before .loop .inv .1)),
-)
+loop-again c =
+    let loop = c .before .before .before .before .before .before .loop in
+    let loop-test = c .before .before .before .before .before .loop-test in (
+      search needs,
+      rw (join-is (c .join .ensures), c .before .symbol-set .ensures, join-assoc)
+          (rw (form-next _ _ _ _ (loop-test .taken)) at (loop .inv .1)),
+    )
 
 join-requires-2 : tie.Need-join-requires-2 Inv-loop μ-loop
 join-requires-2 c κs = search needs

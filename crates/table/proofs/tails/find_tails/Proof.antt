@@ -23,13 +23,20 @@ mul-tail-at : tie.Need-mul-tail-at Inv-loop μ-loop
 mul-tail-at c = search needs
 
 shared-slice-read-tail-at : tie.Need-shared-slice-read-tail-at Inv-loop μ-loop
-shared-slice-read-tail-at c = omega (arith, c .before .before .before .before .before .before .before .pre .0 .listed)
+shared-slice-read-tail-at c =
+    let pre = c .before .before .before .before .before .before .before .pre in
+    omega (arith, pre .0 .listed)
 
 tail-at-requires : tie.Need-tail-at-requires Inv-loop μ-loop
-tail-at-requires c κs = c .before .before .before .before .before .before .before .pre .0 .each _ (c .before .loop-test .taken)
+tail-at-requires c κs =
+    let pre = c .before .before .before .before .before .before .before .pre in
+    pre .0 .each _ (c .before .loop-test .taken)
 
 slice-write-tails : tie.Need-slice-write-tails Inv-loop μ-loop
-slice-write-tails c = omega (arith, c .before .before .before .loop .inv .1, c .before .before .before .before .before .before .before .before .pre .1)
+slice-write-tails c =
+    let pre = c .before .before .before .before .before .before .before .before .pre in
+    let loop = c .before .before .before .loop in
+    omega (arith, loop .inv .1, pre .1)
 
 add-p : tie.Need-add-p Inv-loop μ-loop
 add-p c = search needs
@@ -38,11 +45,13 @@ loop-less : tie.Need-loop-less Inv-loop μ-loop
 loop-less c = search needs
 
 loop-again : tie.Need-loop-again Inv-loop μ-loop
-loop-again c = (
-  search needs,
-  rw length-set (c .before .before .before .loop .inv .1),
-  tails-next (omega (arith, c .before .before .before .loop .inv .1, c .before .before .before .before .before .before .before .before .pre .1)) (c .before .before .before .loop .inv .2) (c .tail-at .ensures),
-)
+loop-again c =
+    let pre = c .before .before .before .before .before .before .before .before .pre in
+    let loop = c .before .before .before .loop in (
+      search needs,
+      rw length-set (loop .inv .1),
+      tails-next (omega (arith, loop .inv .1, pre .1)) (loop .inv .2) (c .tail-at .ensures),
+    )
 
 same-length : tie.Need-same-length Inv-loop μ-loop
 same-length c = c .before .loop .inv .1

@@ -40,20 +40,29 @@ add-symbol-set-2 : tie.Need-add-symbol-set-2 Inv-loop μ-loop
 add-symbol-set-2 c = search needs
 
 shared-slice-read-symbol-set : tie.Need-shared-slice-read-symbol-set Inv-loop μ-loop
-shared-slice-read-symbol-set c = omega (arith, c .before .before .before .before .before .before .pre .inside, c .before .before .loop .inv)
+shared-slice-read-symbol-set c =
+    let pre = c .before .before .before .before .before .before .pre in
+    let loop = c .before .before .loop in
+    omega (arith, pre .inside, loop .inv)
 
 symbol-set-requires : tie.Need-symbol-set-requires Inv-loop μ-loop
-symbol-set-requires c κs = every-in _ _ _ (c .before .before .before .before .before .before .pre .right) _ (omega (arith, c .before .before .loop .inv, c .before .loop-test .taken))
+symbol-set-requires c κs =
+    let pre = c .before .before .before .before .before .before .pre in
+    let loop = c .before .before .loop in
+    every-in _ _ _ (pre .right) _ (omega (arith, loop .inv, c .before .loop-test .taken))
 
 has-requires : tie.Need-has-requires Inv-loop μ-loop
 has-requires c κs = search needs
 
 returns : tie.Need-returns Inv-loop μ-loop
 returns c =
-    let stays : member emptyString (symbolSet _ _) ≡ false = rw (c .before .before .symbol-set .ensures) at (sym (c .before .has .ensures) ∙ not-true _ (c .if1 .taken)) in
+    let loop = c .before .before .before .before .before .loop in
+    let loop-test = c .before .before .before .before .loop-test in
+    let symbol-set = c .before .before .symbol-set in
+    let stays : member emptyString (symbolSet _ _) ≡ false = rw (symbol-set .ensures) at (sym (c .before .has .ensures) ∙ not-true _ (c .if1 .taken)) in
     record {
-      inside = omega (arith, c .before .before .before .before .before .loop .inv);
-      halts = λ positive. rw (form-turn _ _ _ _ (c .before .before .before .before .loop-test .taken) (c .before .before .before .before .before .loop .inv)) (halts-here stays);
+      inside = omega (arith, loop .inv);
+      halts = λ positive. rw (form-turn _ _ _ _ (loop-test .taken) (loop .inv)) (halts-here stays);
     }
 
 loop-less : tie.Need-loop-less Inv-loop μ-loop
