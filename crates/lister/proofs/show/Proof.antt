@@ -19,10 +19,9 @@ same-length c = search needs
 
 returns : tie.Need-returns
 returns c =
-    let state = c .before .before .before .before .before .before .before in
+    let start = c .before .before .before .before .before .before .before in
     let list = c .before .before .list in
     let listed = list .ensures in
-    let start = state in
     record {
       within = listed-within listed;
       listing = λ input same.

@@ -49,12 +49,11 @@ same-length c = search needs
 returns : tie.Need-returns
 unfolding servedText indexOf
 returns c g index =
-    let args-there = c .before .before .before .before .before .before .before .before .before .before .before .before .before .before .before .before .before .before .before .before .before .before .before .before .before .before .args in
+    let args = c .before .before .before .before .before .before .before .before .before .before .before .before .before .before .before .before .before .before .before .before .before .before .before .before .before .before .args in
     let grammar-line = c .before .before .before .before .before .before .before .before .before .before .before .before .before .before .before .before .before .before .before .grammar-line in
     let set-lines = c .before .before .before .before .before .before .before .before .before .before .before .before .before .set-lines in
     let set-lines2 = c .before .before .before .before .before .before .before .set-lines2 in
     let row-lines = c .before .before .row-lines in
-    let args = args-there in
     let firsts = setLines firstWord 0 (take (g .nonterminals) (args .first .now)) in
     let follows = setLines followWord 0 (take (g .nonterminals) (args .follow .now)) in
     let rows = rowLines (g .tokens + 1) 0 (g .nonterminals) (args .table .now) in

@@ -47,12 +47,12 @@ returns : (t : ℕ) → decimal-lts.Need-returns (calls t) (given t) decimal.Pos
 returns t c =
     let args = c .before .before .before .before .before .before .before .args in
     let if1 = c .before .before .before .before .before .if1 in
-    let digit-there = c .before .before .before .digit in
-    let put-there = c .before .before .put in
+    let digit-call = c .before .before .before .digit in
+    let put-call = c .before .before .put in
     let n : ℕ = args .n in
     let put : Put (if1 .out) (if1 .last)
-    (digit (n % 10) ∷ []) (put-there .last .0) (put-there .result) =
-    rw (digit-there .ensures) at (put-there .ensures) in
+    (digit (n % 10) ∷ []) (put-call .last .0) (put-call .result) =
+    rw (digit-call .ensures) at (put-call .ensures) in
     ⊎-elim (λ w. put-last (w .0 .taken) (w .2 .ensures) (rw (w .5, w .6) at put))
     (λ w. put-only (w .0 .left) (rw (w .1, w .2) at put))
     (if1 .came)

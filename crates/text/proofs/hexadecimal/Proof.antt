@@ -44,7 +44,7 @@ loop-again c =
     let args = c .before .before .before .before .before .before .before .before .args in
     let loop = c .before .before .before .before .before .before .loop in
     let loop-test = c .before .before .before .before .before .loop-test in
-    let digit-there = c .before .before .before .digit in
+    let digit-call = c .before .before .before .digit in
     let put = c .before .before .put in
     let n : ℕ = args .n in
     let left : ℕ = loop .left in (
@@ -52,7 +52,7 @@ loop-again c =
       completes-more (digit (n / 2 ^ (4 * (left - 1)) % 16) ∷ []) (hexDigits (left - 1) n)
           (rw (hexDigits-next left n (loop-test .taken)) at
           (loop .inv .1))
-          (rw (digit-there .ensures) at (put .ensures)),
+          (rw (digit-call .ensures) at (put .ensures)),
     )
 
 returns : tie.Need-returns Inv-loop μ-loop

@@ -31,10 +31,10 @@ returns-2 c =
     let args = c .before .before .before .before .before .before .before .before .before .before .args in
     let put = c .before .before .before .before .before .before .before .put in
     let if1 = c .before .before .before .before .if1 in
-    let decimal-there = c .before .before .decimal in
+    let decimal-call = c .before .before .decimal in
     let cell = args .cell in
     rw (cell-filled cell (if1 .left))
-    (put-then (space ∷ []) (decimal cell) (put .ensures) (decimal-there .ensures))
+    (put-then (space ∷ []) (decimal cell) (put .ensures) (decimal-call .ensures))
 
 same-length : tie.Need-same-length
 same-length c = put-length (returns c)

@@ -25,11 +25,10 @@ put-requires c κs = search needs
 returns : tie.Need-returns
 unfolding rowLine
 returns c =
-    let args-there = c .before .before .before .before .before .before .before .before .before .before .before .before .before .before .before .before .args in
+    let args = c .before .before .before .before .before .before .before .before .before .before .before .before .before .before .before .before .args in
     let opening = c .before .before .before .before .before .before .before .before .before .before .opening in
     let cells = c .before .before .before .before .before .before .cells in
     let put = c .before .before .put in
-    let args = args-there in
     let text = cellsText (args .row .now) in
     put-behind rowWord (numbered (args .nonterminal ∷ [])) (text ++ (newline ∷ [])) (opening .ensures)
     (put-then text (newline ∷ []) (cells .ensures) (put .ensures))

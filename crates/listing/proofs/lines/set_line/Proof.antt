@@ -26,17 +26,16 @@ put-requires-2 c κs = search needs
 returns : tie.Need-returns
 unfolding setLine
 returns c =
-    let args-there = c .before .before .before .before .before .before .before .before .before .before .before .before .before .before .before .before .before .before .before .args in
+    let args = c .before .before .before .before .before .before .before .before .before .before .before .before .before .before .before .before .before .before .before .args in
     let opening = c .before .before .before .before .before .before .before .before .before .before .before .before .before .before .opening in
     let put = c .before .before .before .before .before .before .before .before .before .before .put in
-    let hexadecimal-there = c .before .before .before .before .before .before .hexadecimal in
+    let hexadecimal-call = c .before .before .before .before .before .before .hexadecimal in
     let put2 = c .before .before .put2 in
-    let args = args-there in
     put-behind (args .word .now) (numbered (args .nonterminal ∷ [])) ((space ∷ hexadecimal (args .set)) ++ (newline ∷ []))
     (opening .ensures)
     (put-then (space ∷ []) (hexadecimal (args .set) ++ (newline ∷ []))
     (put .ensures)
-    (put-then (hexadecimal (args .set)) (newline ∷ []) (hexadecimal-there .ensures) (put2 .ensures)))
+    (put-then (hexadecimal (args .set)) (newline ∷ []) (hexadecimal-call .ensures) (put2 .ensures)))
 
 same-length : tie.Need-same-length
 same-length c = put-length (returns c)

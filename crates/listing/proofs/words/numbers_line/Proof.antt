@@ -16,10 +16,9 @@ put-requires c κs = search needs
 returns : tie.Need-returns
 unfolding numbersLine
 returns c =
-    let args-there = c .before .before .before .before .before .before .before .before .before .before .before .args in
+    let args = c .before .before .before .before .before .before .before .before .before .before .before .args in
     let opening = c .before .before .before .before .before .before .opening in
     let put = c .before .before .put in
-    let args = args-there in
     put-behind (args .word .now) (numbered (args .numbers .now)) (newline ∷ [])
     (opening .ensures) (put .ensures)
 

@@ -14,8 +14,8 @@ numbered-requires c κs = search needs
 returns : tie.Need-returns
 returns c =
     let put-all = c .before .before .before .before .before .before .put-all in
-    let numbered-there = c .before .before .numbered in
-    put-then _ (numbered _) (put-all .ensures) (numbered-there .ensures)
+    let numbered-call = c .before .before .numbered in
+    put-then _ (numbered _) (put-all .ensures) (numbered-call .ensures)
 
 same-length : tie.Need-same-length
 same-length c = put-length (returns c)

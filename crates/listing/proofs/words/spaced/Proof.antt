@@ -16,8 +16,8 @@ decimal-requires c κs = search needs
 returns : tie.Need-returns
 returns c =
     let put = c .before .before .before .before .before .before .put in
-    let decimal-there = c .before .before .decimal in
-    put-then (space ∷ []) (decimal _) (put .ensures) (decimal-there .ensures)
+    let decimal-call = c .before .before .decimal in
+    put-then (space ∷ []) (decimal _) (put .ensures) (decimal-call .ensures)
 
 same-length : tie.Need-same-length
 same-length c = put-length (returns c)

@@ -27,8 +27,8 @@ cast-cell-at c = search needs
 
 add-cell-at : tie.Need-add-cell-at
 add-cell-at c =
-    let args-there = c .before .before .before .before .before .before .before .before .before .args in
-    let args = args-there in omega (arith, row-fits (args .n) (args .outline .tokens) (search needs) (search needs))
+    let args = c .before .before .before .before .before .before .before .before .before .args in
+    omega (arith, row-fits (args .n) (args .outline .tokens) (search needs) (search needs))
 
 cell-at-requires : tie.Need-cell-at-requires
 cell-at-requires c κs = search needs
@@ -41,8 +41,8 @@ cast-cell-at-2 c = search needs
 
 add-cell-at-2 : tie.Need-add-cell-at-2
 add-cell-at-2 c =
-    let args-there = c .before .before .before .before .before .before .before .args in
-    let args = args-there in omega (arith, row-fits (args .n) (args .outline .tokens) (search needs) (search needs))
+    let args = c .before .before .before .before .before .before .before .args in
+    omega (arith, row-fits (args .n) (args .outline .tokens) (search needs) (search needs))
 
 cell-at-requires-2 : tie.Need-cell-at-requires-2
 cell-at-requires-2 c κs = search needs
