@@ -1,5 +1,5 @@
 -- Every answer fits its four words, wherever the book and the table are shorter than 2 ^ 64.
-use mathlib.Core.List.{List, [], _∷_}
+use mathlib.Core.List.{List}
 use mathlib.Core.Option.{Option, some, none}
 use Prim.Native.Nat.{ℕ, zero, suc, _+_, _*_, _^_, _≤_, _<_}
 use native.Mathlib.Nat.{mul-le-mul}
@@ -7,7 +7,6 @@ use native.Mathlib.Decide.{decLt}
 use native.Mathlib.Omega.{arith}
 use borrow.Author.Tests.{lt-ltb, le-ltb}
 use lib.ListN.{length, getD}
-use Rattle.grammar.specs.declared.Symbol.the-variants.{Nonterminal}
 use Rattle.grammar.specs.Grammar.{Grammar}
 use Rattle.sets.specs.Calls as sets
 use Rattle.sets.specs.Sets.{width, endMark, columnPlace}
@@ -27,7 +26,7 @@ use Rattle.run.specs.Machine.{Reason, full-list, full-stack, wants-end, wants-t
 use Rattle.run.specs.Expanding.{ExpandOutcome, expansion}
 use Rattle.run.specs.Expanding as expanding
 use Rattle.run.specs.Expansion.{Course, Upshot}
-use Rattle.run.specs.Room.{rightOf, isOf}
+use Rattle.run.specs.Room.{rightOf}
 use Rattle.run.specs.Running.{counted, Misfit, length-given, cell, Barred, bad-table, too-long, strange, no-stack, RunOutcome, marking, filledBelow, expected, ran, answered}
 use Rattle.run.specs.Running as running
 use Rattle.run.proofs.Promise.{Counted, run-steps, run-inside, expand-steps, Told, told, served, short-of-list, short-of-stack, blocked, told-steps, ToldBy, told-by, finished, misfitting, out-of-stack, out-of-output}
@@ -126,20 +125,13 @@ told-by-fits misfitting h k = record { place = h; detail = omega arith; steps = 
 told-by-fits out-of-stack h k = record { place = h; detail = omega arith; steps = k; expected = omega arith }
 told-by-fits out-of-output h k = record { place = h; detail = omega arith; steps = k; expected = omega arith }
 
--- the productions used are of the list, and the output holds the tokens written
-pub expansion-bounded : (g : Grammar) (list stack output : List ℕ)
-    → (expansion g (counted stack) (counted output) list .progress .used ≤ length list) × (length (expansion g (counted stack) (counted output) list .progress .written) ≤ counted output)
-expansion-bounded g list stack output =
-    let counts = expand-steps (isOf g) (rightOf g) (counted stack) (counted output) list (Nonterminal (g .start) ∷ []) in
-    (counts .used, counts .written)
-
 -- of an expansion
 pub expand-fits : {book list stack output : List ℕ} {a : Answer} {stack′ output′ : List ℕ} → length book < 2 ^ 64 → ExpandOutcome book list stack output a stack′ output′ → FitsWords a
 expand-fits b (expanding.refused r) = refused-fits b r
 expand-fits b (expanding.too-long s h) = refusal-fits 4 (omega arith) (omega arith)
 expand-fits b (expanding.no-stack s h e) = refusal-fits 7 (omega arith) (omega arith)
 expand-fits {list = list} {stack} {output} b (expanding.ended {g = g} s h k) =
-    let counts = expand-steps (isOf g) (rightOf g) (counted stack) (counted output) list (Nonterminal (g .start) ∷ []) in
+    let counts = expand-steps g (counted stack) (counted output) list in
     told-by-fits (told-by (expansion g (counted stack) (counted output) list)) (omega (arith, counts .used)) (omega (arith, counts .used, counts .written, counts .moves))
 
 room-fits : {g : Grammar} {first follow : List ℕ} {a : Answer} → Limits g → SetsRoom g first follow a → FitsWords a

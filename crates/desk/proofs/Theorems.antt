@@ -10,13 +10,13 @@ use Rattle.table.specs.Calls.{SetsOutcome, BuildOutcome, LookaheadOutcome, Firs
 use Rattle.table.proofs.Promise.{sets-outcome-unique, build-outcome-unique, lookahead-outcome-unique, first-outcome-unique}
 use Rattle.run.specs.Demands.{BuildMeets2, ExpandMeets2, RunMeets2, RunMeets3, RunStepsAdd, ExpandStepsAdd, Demand2Build, Demand2Expand, Demand2Back, Demand3, RunStepsSum, ExpandStepsSum}
 use Rattle.run.specs.Expanding.{ExpandOutcome}
-use Rattle.run.specs.Running.{RunOutcome}
-use Rattle.run.proofs.Promise.{run-outcome-unique, expand-outcome-unique, build-meets2, run-meets3, run-meets2, run-steps-add, expand-meets2, expand-steps-add}
+use Rattle.run.specs.Running.{RunOutcome, counted}
+use Rattle.run.proofs.Promise.{run-outcome-unique, expand-outcome-unique, build-meets2, run-meets3, run-meets2, run-steps-add, expand-meets2, expand-steps, expand-steps-add}
 use Rattle.desk.specs.Desk.{littleEndian, answerBytes, answerSize, Lent, LentCell, JudgeOutcome, SetOutcome, JudgeCall, SetsCall, BuildCall, RunCall, ExpandCall, LookaheadCall, FirstCall}
 use Rattle.desk.specs.Demands.{CBuild, CRun, CExpand, KeepsBuildCall, KeepsRunCall, KeepsExpandCall, answerFrom, buildWith, runWith, expandWith}
 use Rattle.desk.proofs.Calls.{called-answer, called-unique, two-unique, three-unique, judge-outcome-unique, set-outcome-unique}
 use Rattle.desk.proofs.ReadBack.{FitsWords, answer-read, called-exact}
-use Rattle.desk.proofs.Fitting.{ran-bounded, expansion-bounded, run-fits, expand-fits, judge-fits, sets-fits, build-fits, lookahead-fits, first-fits}
+use Rattle.desk.proofs.Fitting.{ran-bounded, run-fits, expand-fits, judge-fits, sets-fits, build-fits, lookahead-fits, first-fits}
 
 -- any two outcomes that a call allows are equal: the number returned, and every lent buffer
 pub run-call-unique : (book table tokens stack list answer : List ℕ) {n m : ℕ} {s t l k x y : List ℕ}
@@ -115,6 +115,7 @@ module _ {answer : List ℕ} (lent : Lent answer) where
               let counted = adds .sum serves admits in
               let (listed, matched) = ran-bounded g table tokens stack list in
               read .steps (omega (arith, admits .short)) ∙ counted;
+          listed = adds .listed;
           none = λ m. let zero = adds .none m in read .steps (omega arith) ∙ zero;
         }
 
@@ -138,9 +139,10 @@ module _ {answer : List ℕ} (lent : Lent answer) where
       let adds = expand-steps-add book list stack output (record { answer = told .told; stack = s; output = v }) (told .outcome) in
       record {
         sum = λ {g} serves short k.
-            let counted = adds .sum serves short k in
-            let (used, written) = expansion-bounded g list stack output in
-            read .steps (omega arith) ∙ counted;
+            let told-sum = adds .sum serves short k in
+            let spent = expand-steps g (counted stack) (counted output) list in
+            read .steps (omega (arith, spent .used, spent .written)) ∙ told-sum;
+        written = adds .written;
         none = λ m. let zero = adds .none m in read .steps (omega arith) ∙ zero;
       }
 

@@ -33,8 +33,10 @@ use Rattle.run.proofs.RoomNeeded.{room-needed}
 -- and each promise allows one outcome
 pub use Rattle.run.proofs.OutcomeUnique.{run-outcome-unique, beside-outcome-unique, expand-outcome-unique}
 pub use Rattle.run.proofs.OnReading.{judged-run-unique, offer-outcome-unique, shown-unique}
--- on the reading of a book that serves, with a table and tokens that pass the checks, a run on the judged book is the run
+-- on the reading of a book that serves, with a table, tokens and a stack cell that pass the checks, a run on the judged book is the run
 pub use Rattle.run.proofs.OnReading.{judged-run-run}
+-- a string is derivable exactly if some list is a leftmost derivation of it: that is how the demands speak of it
+pub use Rattle.grammar.proofs.Theorems.{derives-complete}
 
 -- demand 2: sets and tables have no member missing and none added, and a conflict is found exactly if two productions claim one cell
 pub build-meets2 : (book first follow table : List ℕ) (r : Built) → BuildOutcome book first follow table (r .answer) (r .first) (r .follow) (r .table) → BuildMeets2 book first follow table r
@@ -71,7 +73,11 @@ module _ (book table tokens stack list : List ℕ) (r : Ran) (o : RunOutcome boo
 
   -- steps = productions listed + tokens matched, in every answer: where steps do not begin, none is counted
   pub run-steps-add : RunStepsAdd book table tokens stack list r
-  run-steps-add = record { sum = λ {g} s a. ends-steps (run-ends book table tokens stack list r o s a); none = λ n. before-steps n o .0 }
+  run-steps-add = record {
+    sum = λ {g} s a. ends-steps (run-ends book table tokens stack list r o s a);
+    listed = λ {g} s a. run-ends book table tokens stack list r o s a .written;
+    none = λ n. before-steps n o .0;
+  }
 
   -- where steps do not begin, nothing is changed
   pub run-before-steps : ((g : Grammar) → Serves book g → ¬ Admits g table tokens stack) → (r .stack ≡ stack) × (r .list ≡ list)
@@ -106,7 +112,11 @@ module _ (book list stack output : List ℕ) (r : Expanded) (o : ExpandOutcome b
   -- steps = productions used + tokens written, in every answer: where steps do not begin, none is counted
   pub expand-steps-add : ExpandStepsAdd book list stack output r
   expand-steps-add =
-      record { sum = λ {g} s short k. ends-moves g list stack output (expansion-ends book list stack output r o s short k); none = λ n. expansion-before-steps n o .0 }
+      record {
+        sum = λ {g} s short k. ends-moves g list stack output (expansion-ends book list stack output r o s short k);
+        written = λ {g} s short k. expansion-ends book list stack output r o s short k .written;
+        none = λ n. expansion-before-steps n o .0;
+      }
 
   -- where steps do not begin, nothing is changed
   pub expand-before-steps : ((g : Grammar) → Serves book g → length list ≤ 65535 → 1 ≤ length stack → ⊥) → (r .stack ≡ stack) × (r .output ≡ output)

@@ -1,12 +1,11 @@
 -- The answer of an expansion from what the code has for its end, and the outcome of a call.
 use mathlib.Core.Path.{_≡_, refl, sym, _∙_, ap, subst}
 use mathlib.Core.Logic.{_≢_}
-use mathlib.Core.List.{List, [], _∷_}
+use mathlib.Core.List.{List}
 use Prim.Native.Nat.{ℕ, _+_, _^_, _≤_, _<_}
 use native.Mathlib.Omega.{arith}
 use lib.ListN.{length, replicate}
 use Rattle.grammar.specs.Grammar.{Grammar}
-use Rattle.grammar.specs.declared.Symbol.the-variants.{Nonterminal}
 use Rattle.sets.proofs.Promise.{none-is}
 use Rattle.sets.specs.Calls.{None}
 use Rattle.sets.specs.declared.Set.{Set}
@@ -16,10 +15,9 @@ use Rattle.book.specs.Judging.{Judged}
 use Rattle.book.specs.Refusals.{limit, room, stackRoom}
 use Rattle.book.specs.declared.Answer.{Answer}
 use Rattle.book.specs.declared.Reading.{Reading}
-use Rattle.run.specs.Expanding.{expansion, answeredBy, ExpandOutcome, refused, too-long, no-stack, ended, Spent}
+use Rattle.run.specs.Expanding.{expansion, answeredBy, ExpandOutcome, refused, too-long, no-stack, ended}
 use Rattle.run.specs.Expansion.{Upshot, complete, unfit, full-stack, full-output, Expansion}
 use Rattle.run.specs.Moves.{outlineIn, outlined}
-use Rattle.run.specs.Room.{rightOf, isOf}
 use Rattle.run.specs.Running.{counted, cleared}
 use Rattle.run.specs.Turns.{finaleOf, unfolded, Unfolds, closing, ExpandedOn}
 use Rattle.run.specs.declared.Finale.the-variants.{Complete}
@@ -49,15 +47,12 @@ module _ (g : Grammar) (list stack output : List ℕ) where
   abbrev end : Expansion
   end = expansion g (counted stack) (counted output) list
 
-  end-counted : Spent (counted stack) (counted output) (length list) (end .progress)
-  end-counted = expand-steps (isOf g) (rightOf g) (counted stack) (counted output) list (Nonterminal (g .start) ∷ [])
-
 module _ {g : Grammar} {list stack output : List ℕ} {u : Unfolding} {stack′ output′ : List ℕ} (h : Unfolds g list stack output u stack′ output′) where
   -- productions used and tokens written can be counted together
   pub unfolds-countable : length list < 2 ^ 63 → u .used + u .written < 2 ^ 64
   unfolding unfolded
   unfolds-countable k =
-      let counts = end-counted g list stack output in
+      let counts = expand-steps g (counted stack) (counted output) list in
       omega (arith, ap (λ (x : Unfolding). x .used) (h .answer), ap (λ (x : Unfolding). x .written) (h .answer), counts .used, counts .written)
 
   -- the steps answered, and the stack cleared
@@ -66,7 +61,7 @@ module _ {g : Grammar} {list stack output : List ℕ} {u : Unfolding} {stack′ 
   unfolds-answered answer clears =
       let e : Expansion = end g list stack output in
       record {
-        answer = answer ∙ ap (λ (x : Unfolding). closing (x .finale) (x .used) (x .used + x .written)) (h .answer) ∙ ap (closing (finaleOf (e .ending)) (e .progress .used)) (sym (end-counted g list stack output .moves)) ∙ sym (answered-closing e (e .ending) refl);
+        answer = answer ∙ ap (λ (x : Unfolding). closing (x .finale) (x .used) (x .used + x .written)) (h .answer) ∙ ap (closing (finaleOf (e .ending)) (e .progress .used)) (sym (expand-steps g (counted stack) (counted output) list .moves)) ∙ sym (answered-closing e (e .ending) refl);
         stack-cells = clears ∙ ap (λ (n : ℕ). replicate n 0) (h .stack-length);
         output-cells = h .written;
       }

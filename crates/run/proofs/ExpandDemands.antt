@@ -17,7 +17,7 @@ use Rattle.run.specs.Demands.{Expanded}
 use Rattle.run.specs.Expansion.{complete, unfit, ended}
 use Rattle.run.specs.Expansion as machine
 use Rattle.run.specs.Expanding.{expansion}
-use Rattle.run.specs.Room.{isOf, rightOf, peak, LongestList}
+use Rattle.run.specs.Room.{peak, LongestList}
 use Rattle.run.specs.Running.{counted}
 use Rattle.run.proofs.Answered.{ToldBy, told-by, told-complete, told-unfit, told-with-room, told-moves, told-kinds, complete-done, unfit-refused}
 use Rattle.run.proofs.Kept.{EndsExpansion, ExpansionBegins, stackless, begins}
@@ -35,7 +35,7 @@ module _ (g : Grammar) (list stack output : List ℕ) where
 
     -- the steps are the productions used and the tokens written
     pub ends-moves : r .answer .steps ≡ expandedBy .progress .used + length (expandedBy .progress .written)
-    ends-moves = told-moves ends-told-by ∙ expand-steps (isOf g) (rightOf g) (counted stack) (counted output) list _ .moves
+    ends-moves = told-moves ends-told-by ∙ expand-steps g (counted stack) (counted output) list .moves
 
     ends-done : expandedBy .ending ≡ complete → r .answer .number ≡ 0
     unfolding done

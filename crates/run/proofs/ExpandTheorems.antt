@@ -2,14 +2,15 @@
 use mathlib.Core.Path.{_≡_}
 use mathlib.Core.Logic.{_↔_, _≢_}
 use mathlib.Core.Bool.{Bool}
-use mathlib.Core.List.{List, _++_}
+use mathlib.Core.List.{List, [], _∷_, _++_}
 use Prim.Native.Nat.{ℕ, suc, _+_, _≤_, _<_}
 use native.Mathlib.Omega.{arith}
 use lib.ListN.{length}
+use Rattle.grammar.specs.declared.Symbol.the-variants.{Nonterminal}
 use Rattle.grammar.specs.Grammar.{Form, Grammar, Complete, WellFormed, Useful}
 use Rattle.grammar.proofs.Useful.{useful-all}
 use Rattle.run.specs.Expansion.{Course, complete, unfit, ended, expandFrom}
-use Rattle.run.specs.Room.{rightOf, peak, LongestList}
+use Rattle.run.specs.Room.{rightOf, isOf, peak, LongestList}
 use Rattle.run.specs.Expanding.{opened, expansion, Spent, WithRoom}
 use Rattle.run.proofs.ExpandTrace.{traced}
 use Rattle.run.proofs.ExpandSteps.{symbols, counted-end, counted-whole, written-grows, room-enough}
@@ -27,11 +28,11 @@ module _ (fits : ℕ → ℕ → Bool) (right : ℕ → Form) (room output : ℕ
   pub expand-grows : (ps : List ℕ) (α : Form) (s : Course) → (u : List ℕ) × (expandFrom fits right room output ps α s .progress .written ≡ s .written ++ u)
   expand-grows ps α s = written-grows (traced fits right room output ps α s)
 
-  -- moves = productions used + tokens written, and of list, output and stack no more is taken than there is
-  pub expand-steps : (ps : List ℕ) (α : Form) → Spent room output (length ps) (expandFrom fits right room output ps α opened .progress)
-  expand-steps ps α = counted-whole (traced fits right room output ps α opened)
-
 module _ (g : Grammar) (room output : ℕ) (ps : List ℕ) where
+  -- moves = productions used + tokens written, and of list, output and stack no more is taken than there is
+  pub expand-steps : Spent room output (length ps) (expansion g room output ps .progress)
+  expand-steps = counted-whole (traced (isOf g) (rightOf g) room output ps (Nonterminal (g .start) ∷ []) opened)
+
   -- done only for a list that is a leftmost derivation of the output
   pub expand-sound : expansion g room output ps .ending ≡ complete → Complete g ps (expansion g room output ps .progress .written) × (expansion g room output ps .progress .used ≡ length ps)
   expand-sound h = whole-sound (whole-to g room output ps h)

@@ -50,7 +50,7 @@ judged-serves : {book table tokens stack list : List ℕ} {g : Grammar} → Serv
 judged-serves serves admits (no-stack e) = absurd (omega (arith, admits .stacked))
 judged-serves serves admits (ended h) = running.ended serves admits
 
--- on the reading of a book that serves, a run on the judged book is the run
+-- on the reading of a book that serves, with a table, tokens and a stack cell that pass the checks, a run on the judged book is the run
 pub judged-run-run : {book table tokens stack list : List ℕ} {g : Grammar} → Serves book g → Admits g table tokens stack
     → {a : Answer} {s l : List ℕ} → JudgedRun (grammarIn book (indexOf g)) table tokens stack list a s l → RunOutcome book table tokens stack list a s l
 judged-run-run {book} {table} {tokens} {stack} {list} {g} serves admits {a} {s} {l} o =

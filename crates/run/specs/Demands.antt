@@ -87,16 +87,19 @@ pub record RunMeets3 (book table tokens stack list : List ℕ) (r : Ran) : Type 
   -- where syntax is the reason, the place is the length of the longest beginning that some derivable string shares
   pub place : (h : Premises book table tokens) → r .answer .number ≡ syntax → Longest (h .built .grammar) tokens (r .answer .place)
 
--- steps = productions listed + tokens matched, as the definition's machine counts them (that the list holds these is in the outcome); 0 in an
--- answer before steps
+-- steps = productions listed + tokens matched, as the definition's machine counts them, and the list holds those productions; 0 in an answer
+-- before steps
 pub record RunStepsAdd (book table tokens stack list : List ℕ) (r : Ran) : Type 0 where
   pub sum : {g : Grammar} → Serves book g → Admits g table tokens stack → r .answer .steps ≡ length (final (ran g table tokens stack list) .listed) + final (ran g table tokens stack list) .matched
+  pub listed : {g : Grammar} → Serves book g → Admits g table tokens stack → r .list ≡ over (final (ran g table tokens stack list) .listed) list
   pub none : ((g : Grammar) → Serves book g → ¬ Admits g table tokens stack) → r .answer .steps ≡ 0
 
--- steps = productions used + tokens written, as the definition counts them; 0 in an answer before steps
+-- steps = productions used + tokens written, as the definition counts them, and the output holds those tokens; 0 in an answer before steps
 pub record ExpandStepsAdd (book list stack output : List ℕ) (r : Expanded) : Type 0 where
   pub sum : {g : Grammar} → Serves book g → length list ≤ 65535 → 1 ≤ length stack
       → r .answer .steps ≡ expansion g (counted stack) (counted output) list .progress .used + length (expansion g (counted stack) (counted output) list .progress .written)
+  pub written : {g : Grammar} → Serves book g → length list ≤ 65535 → 1 ≤ length stack
+      → r .output ≡ over (expansion g (counted stack) (counted output) list .progress .written) output
   pub none : ((g : Grammar) → Serves book g → length list ≤ 65535 → 1 ≤ length stack → ⊥) → r .answer .steps ≡ 0
 
 -- the demands of an outcome function: every call meets them
