@@ -10,7 +10,7 @@ use borrow.Author.Tests.{ltb-true, leb-true, lt-ltb, le-ltb, le-leb}
 use Rattle.grammar.specs.declared.Symbol.{Symbol}
 use Rattle.grammar.specs.declared.Symbol.the-variants.{Token, Nonterminal}
 use Rattle.grammar.specs.Grammar.{Form, Grammar, Known, known-token, known-nonterminal}
-use Rattle.book.specs.Refusals.{short, mark, symbol}
+use Rattle.answers.specs.Refusals.{short, mark, symbol}
 use Rattle.book.specs.Book.{Spelling, refused, reads, Rest, wanted, marked, symbolOf, symbols, byteOf}
 
 pub refused-not-reads : {x : Spelling} {n k : ℕ} {g : Grammar} → x ≡ refused n k → x ≡ reads g → ⊥

@@ -6,11 +6,10 @@ use Prim.Native.Nat.{ℕ, zero, suc, _≤_, _<_}
 use native.Mathlib.Numerals.{add-one}
 use lib.ListN.{length}
 use borrow.Author.Tests.{lt-ltb, le-ltb}
+use Rattle.answers.specs.Refusals.{short}
 use Rattle.book.specs.declared.Verdict.{Verdict}
 use Rattle.book.specs.declared.Verdict.the-variants.{Next, Bad}
-use Rattle.book.specs.Refusals.{short}
-use Rattle.book.specs.Positional.{andThen, nextByte, checkedAt, wantedFrom, symbolFrom}
-use Rattle.book.specs.Positional.{symbolsFrom, markedFrom, rightFrom, recordFrom, eachRecordFrom}
+use Rattle.book.specs.Positional.{andThen, nextByte, checkedAt, wantedFrom, symbolFrom, symbolsFrom, markedFrom, rightFrom, recordFrom, eachRecordFrom}
 
 abbrev pub Passes : (Verdict → Verdict) → Type 0
 Passes K = (number place : ℕ) → K (Bad number place) ≡ Bad number place

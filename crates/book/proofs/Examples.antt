@@ -8,11 +8,11 @@ use Rattle.grammar.specs.Grammar.{Useful}
 use Rattle.grammar.specs.House.{house}
 use Rattle.grammar.proofs.House.{house-useful}
 use Rattle.grammar.proofs.WorkedUseful.{productives, usefuls, productiveTest, usefulTest, has, has-every, productives-sound, usefuls-sound, usefuls-exact}
-use Rattle.book.specs.Answers.{refusal}
+use Rattle.answers.specs.Answers.{refusal}
+use Rattle.answers.specs.Refusals.{short, mark, extra, limit, symbol}
 use Rattle.book.specs.Book.{refused, reads, spells, marked, wanted, records, symbols, symbolOf, ending}
 use Rattle.book.specs.Examples.{GR, PR, houseBook, uselessBook, uselessGrammar}
 use Rattle.book.specs.Judging.{LowestUseless, Refuses, useless-one, Serves}
-use Rattle.book.specs.Refusals.{short, mark, extra, limit, symbol}
 
 pub house-reads : spells houseBook ≡ reads house
 unfolding spells marked wanted records symbols symbolOf ending houseBook house

@@ -8,9 +8,9 @@ use native.Mathlib.Omega.{arith}
 use lib.Dec.{ltb}
 use lib.ListN.{length, getD}
 use borrow.Author.Tests.{lt-ltb, ltb-true}
+use Rattle.answers.specs.Refusals.{mark, limit, symbol}
 use Rattle.book.specs.declared.Verdict.{Verdict}
 use Rattle.book.specs.declared.Verdict.the-variants.{Next}
-use Rattle.book.specs.Refusals.{mark, limit, symbol}
 use Rattle.book.specs.Positional.{andThen, nextByte, within, withinAt, checkedAt, wantedFrom, symbolsFrom, markedFrom, rightFrom, headAt, recordFrom, headerFrom}
 use Rattle.book.proofs.Checked.{Passes, by-cases, symbols-pass}
 use Rattle.book.proofs.Guards.{byte-inside, byte-within, right-inside, goes-on, stops-at}

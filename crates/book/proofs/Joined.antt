@@ -13,13 +13,12 @@ use borrow.Author.Tests.{ltb-true, ltb-false}
 use Rattle.grammar.specs.declared.Symbol.{Symbol}
 use Rattle.grammar.specs.declared.Symbol.the-variants.{Token, Nonterminal}
 use Rattle.grammar.specs.Grammar.{Form, Production, Grammar}
+use Rattle.answers.specs.Refusals.{short, mark, limit, symbol}
 use Rattle.book.specs.declared.Verdict.{Verdict}
 use Rattle.book.specs.declared.Verdict.the-variants.{Next, Bad}
-use Rattle.book.specs.Refusals.{short, mark, limit, symbol}
 use Rattle.book.specs.Book.{refused, Rest, wanted, marked, symbolOf, symbols, records, ending, spells}
 use Rattle.book.specs.Verdicts.{told, verdictOf, placeOf}
-use Rattle.book.specs.Positional.{andThen, nextByte, within, isSymbol, checkedAt, wantedFrom, symbolFrom, symbolsFrom}
-use Rattle.book.specs.Positional.{markedFrom, rightFrom, recordFrom, eachRecordFrom, resumedAt, headerFrom, recordsFrom, endFrom}
+use Rattle.book.specs.Positional.{andThen, nextByte, within, isSymbol, checkedAt, wantedFrom, symbolFrom, symbolsFrom, markedFrom, rightFrom, recordFrom, eachRecordFrom, resumedAt, headerFrom, recordsFrom, endFrom}
 use Rattle.book.proofs.Checked.{Passes, by-cases, checked-right, checked-wrong, checked-short, symbols-pass, records-pass}
 
 module _ (T N : ℕ) where

@@ -6,7 +6,7 @@ use native.Mathlib.Omega.{arith}
 use lib.ListN.{length}
 use Rattle.grammar.specs.declared.Symbol.the-variants.{Token}
 use Rattle.grammar.specs.Grammar.{Form, Production, Grammar}
-use Rattle.book.specs.Refusals.{short, mark, extra, limit, symbol}
+use Rattle.answers.specs.Refusals.{short, mark, extra, limit, symbol}
 use Rattle.book.specs.Book.{Spelling, refused, reads, Rest, marked, symbols, records, ending, spells, Continued}
 use Rattle.book.proofs.Bytes.{token-spelled, Look, taken, turned, Takes, wanted-takes, symbols-takes}
 

@@ -5,14 +5,14 @@ use Prim.Native.Nat.{ℕ, _≤_, _<_, min}
 use native.Mathlib.Omega.{arith}
 use lib.ListN.{length, getD, replicate}
 use Rattle.grammar.specs.Grammar.{Grammar}
-use Rattle.book.specs.declared.Answer.{Answer}
+use Rattle.answers.specs.declared.Answer.{Answer}
+use Rattle.answers.specs.Answers.{done, refusal}
+use Rattle.answers.specs.Refusals.{useless}
 use Rattle.book.specs.declared.Verdict.{Verdict}
 use Rattle.book.specs.declared.Verdict.the-variants.{Next, Bad}
-use Rattle.book.specs.Answers.{done, refusal}
 use Rattle.book.specs.Book.{Spelling, refused, reads, spells}
 use Rattle.book.specs.Fields.{placesOf}
 use Rattle.book.specs.Judging.{AllUseful, refusing, indexOf, Judged, refuses, serves, useless-one}
-use Rattle.book.specs.Refusals.{useless}
 use Rattle.book.specs.Useful.{Surveyed, Sides, FirstUseless, Indexed}
 use Rattle.book.specs.Verdicts.{told, verdictOf}
 use Rattle.book.proofs.Index.{header-tokens, header-nonterminals, header-start, header-productions, places-indexed}

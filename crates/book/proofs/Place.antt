@@ -6,7 +6,7 @@ use Prim.Native.Nat.{ℕ, suc, _+_, _≤_, _<_}
 use native.Mathlib.Omega.{arith}
 use lib.ListN.{length, take, length-append}
 use lib.Seq.{take-at, take-append-add}
-use Rattle.book.specs.Refusals.{short}
+use Rattle.answers.specs.Refusals.{short}
 use Rattle.book.specs.Book.{refused, reads, spells, Continued}
 use Rattle.book.proofs.Bytes.{refused-not-reads}
 use Rattle.book.proofs.Order.{Fault, bad-mark, extra-byte, over-limit, not-a-symbol, Decided, ended, stopped, decided-as, continued}

@@ -10,9 +10,9 @@ use lib.ListN.{length, getD, take, getElem?}
 use Rattle.grammar.specs.declared.Symbol.{Symbol}
 use Rattle.grammar.specs.Grammar.{Form, Grammar, Rule, Productive, Reachable, WellFormed}
 use Rattle.grammar.proofs.Useful.{useful-all}
-use Rattle.book.specs.declared.Answer.{Answer}
+use Rattle.answers.specs.declared.Answer.{Answer}
+use Rattle.answers.specs.Answers.{done, refusal}
 use Rattle.book.specs.declared.Reading.{Reading}
-use Rattle.book.specs.Answers.{done, refusal}
 use Rattle.book.specs.Book.{spells, Limits}
 use Rattle.book.specs.Fields.{leftAt, lengthAt, symbolAt}
 use Rattle.book.specs.Judging.{refusing, indexOf, Refuses, misread, useless-one, Serves, Judged, refuses, serves}

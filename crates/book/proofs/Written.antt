@@ -6,7 +6,7 @@ use native.Mathlib.Omega.{arith}
 use lib.ListN.{length}
 use Rattle.grammar.specs.Grammar.{Form, Production, Grammar, Rule, Every, nothing, each}
 use Rattle.grammar.proofs.Every.{at-every, every-at, every-map}
-use Rattle.book.specs.Refusals.{mark, limit, symbol}
+use Rattle.answers.specs.Refusals.{mark, limit, symbol}
 use Rattle.book.specs.Book.{Spelling, reads, Rest, marked, symbols, records, ending, spells, byteOf, recordBytes, recordsBytes, bytesOf, Limits}
 use Rattle.book.proofs.Bytes.{refused-not-reads, Spelled, Look, taken, turned, Takes, wanted-takes, symbols-takes, wanted-taken, marked-taken, symbolOf-byteOf, symbolOf-known}
 

@@ -10,7 +10,7 @@ use lib.ListN.{length}
 use Rattle.grammar.specs.declared.Symbol.{Symbol}
 use Rattle.grammar.specs.declared.Symbol.the-variants.{Token, Nonterminal}
 use Rattle.grammar.specs.Grammar.{Form, Production, Grammar, Rule, WellFormed}
-use Rattle.book.specs.Refusals.{short, mark, extra, limit, symbol}
+use Rattle.answers.specs.Refusals.{short, mark, extra, limit, symbol}
 
 pub data Spelling : Type 0 where
   refused : (number place : ℕ) → Spelling

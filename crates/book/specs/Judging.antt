@@ -5,11 +5,11 @@ use mathlib.Core.List.{List, [], _∷_, _++_}
 use Prim.Native.Nat.{ℕ, _+_, _-_, _<_}
 use lib.ListN.{length, replicate}
 use Rattle.grammar.specs.Grammar.{Production, Grammar, Useful}
-use Rattle.book.specs.declared.Answer.{Answer}
+use Rattle.answers.specs.declared.Answer.{Answer}
+use Rattle.answers.specs.Answers.{done, refusal}
+use Rattle.answers.specs.Refusals.{useless}
 use Rattle.book.specs.declared.Reading.{Reading}
-use Rattle.book.specs.Answers.{done, refusal}
 use Rattle.book.specs.Book.{refused, reads, spells}
-use Rattle.book.specs.Refusals.{useless}
 
 pub record AllUseful (g : Grammar) : Type 0 where
   pub useful : (A : ℕ) → A < g .nonterminals → Useful g A

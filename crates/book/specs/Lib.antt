@@ -1,4 +1,3 @@
-pub mod Answers
 pub mod Book
 pub mod Closure
 pub mod Examples
@@ -6,6 +5,5 @@ pub mod Fields
 pub mod Judging
 pub mod Positional
 pub mod Reader
-pub mod Refusals
 pub mod Useful
 pub mod Verdicts

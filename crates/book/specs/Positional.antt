@@ -5,7 +5,7 @@ use mathlib.Core.List.{List}
 use Prim.Native.Nat.{ℕ, zero, suc, _+_, _-_}
 use lib.Dec.{leb, ltb}
 use lib.ListN.{length, getD}
-use Rattle.book.specs.Refusals.{short, mark, extra, limit, symbol}
+use Rattle.answers.specs.Refusals.{short, mark, extra, limit, symbol}
 use Rattle.book.specs.declared.Verdict.{Verdict}
 use Rattle.book.specs.declared.Verdict.the-variants.{Next, Bad}
 

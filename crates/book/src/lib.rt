@@ -1,22 +1,11 @@
-use sets::Set;
+use answers::Answer;
 
-pub mod answers;
 mod closure;
 pub mod fields;
 pub mod judging;
-pub mod refusals;
 mod spelling;
 mod useful;
 mod walk;
-
-// Number, place, detail, steps and expected set, as the paper's table of refusals has them.
-pub struct Answer {
-    pub number: u32,
-    pub place: u64,
-    pub detail: u64,
-    pub steps: u64,
-    pub expected: Set,
-}
 
 // The answer to judging a book and, where that is done, T, N, start, P and the place of each record.
 pub struct Reading {

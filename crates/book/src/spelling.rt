@@ -15,11 +15,11 @@ use crate::fields::START;
 use crate::fields::SYMBOLS;
 use crate::fields::TOKENS;
 use crate::fields::byte_at;
-use crate::refusals::EXTRA;
-use crate::refusals::LIMIT;
-use crate::refusals::MARK;
-use crate::refusals::SHORT;
-use crate::refusals::SYMBOL;
+use answers::refusals::EXTRA;
+use answers::refusals::LIMIT;
+use answers::refusals::MARK;
+use answers::refusals::SHORT;
+use answers::refusals::SYMBOL;
 
 // The place that a verdict names.
 pub(crate) fn place_of(v: Verdict) -> usize

@@ -5,8 +5,8 @@ use Prim.Native.Nat.{ℕ}
 use lib.ListN.{length}
 use lib.Seq.{sets, sets-eq}
 use Rattle.sets.specs.Calls.{number}
-use Rattle.book.specs.declared.Answer.{Answer}
-use Rattle.table.specs.Calls.{over}
+use Rattle.answers.specs.declared.Answer.{Answer}
+use Rattle.answers.specs.Buffers.{over}
 use Rattle.desk.specs.Desk.{littleEndian, answerBytes, answerSize, Lent}
 
 -- every answer has as many bytes

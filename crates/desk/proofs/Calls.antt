@@ -5,11 +5,11 @@ use Prim.Native.Nat.{ℕ, _≤_}
 use native.Mathlib.Omega.{arith}
 use lib.ListN.{length, set}
 use Rattle.sets.specs.Calls.{number}
-use Rattle.book.specs.declared.Answer.{Answer}
+use Rattle.answers.specs.declared.Answer.{Answer}
+use Rattle.answers.specs.Buffers.{over}
 use Rattle.book.specs.declared.Reading.{Reading}
 use Rattle.book.proofs.Promise.{judged-unique}
 use Rattle.table.specs.declared.SetAnswer.{SetAnswer}
-use Rattle.table.specs.Calls.{over}
 use Rattle.table.proofs.Promise.{Unique}
 use Rattle.desk.specs.Desk.{answerBytes, LentCell, JudgeOutcome, SetOutcome, Called, short, answered}
 

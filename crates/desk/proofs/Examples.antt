@@ -6,13 +6,13 @@ use native.Mathlib.Omega.{arith}
 use lib.ListN.{replicate}
 use Rattle.grammar.proofs.Every.{every-at}
 use Rattle.grammar.proofs.Tests.{below}
-use Rattle.book.specs.Answers.{done}
+use Rattle.answers.specs.Answers.{done}
 use Rattle.book.specs.Examples.{houseBook}
 use Rattle.table.specs.Examples.{houseFirstSets, houseFollowSets, houseTable}
 use Rattle.table.proofs.Promise.{house-build}
-use Rattle.run.specs.Demands.{Premises}
-use Rattle.run.specs.Examples.{Allowed, answering, runs, expands, exampleA, exampleF, exampleK, examples}
-use Rattle.run.proofs.Promise.{house-premises, examples-allowed}
+use Rattle.demands.proofs.Promise.{house-premises, examples-allowed}
+use Rattle.demands.specs.Demands.{Premises}
+use Rattle.demands.specs.Examples.{Allowed, answering, runs, expands, exampleA, exampleF, exampleK, examples}
 use Rattle.desk.specs.Desk.{littleEndian, answerBytes, Lent, short, answered, BuildCall, RunCall, ExpandCall}
 use Rattle.desk.proofs.AnswerBytes.{answerSize-is}
 

@@ -4,8 +4,8 @@ use mathlib.Core.List.{List}
 use Prim.Native.Nat.{ℕ, _^_, _<_}
 use Rattle.sets.specs.Calls as sets
 use Rattle.sets.proofs.Promise.{number-unique}
-use Rattle.book.specs.declared.Answer.{Answer}
-use Rattle.table.specs.Calls.{over}
+use Rattle.answers.specs.declared.Answer.{Answer}
+use Rattle.answers.specs.Buffers.{over}
 use Rattle.desk.specs.Desk.{littleEndian, answerBytes, Called}
 use Rattle.desk.specs.Demands.{valueOf, wordAt, answerFrom}
 use Rattle.desk.proofs.Calls.{AnswerOf, called-answer}

@@ -6,12 +6,15 @@ use Prim.Native.Nat.{ℕ, _^_, _<_}
 use native.Mathlib.Omega.{arith}
 use lib.ListN.{length}
 use Rattle.grammar.specs.Machine.{Longest}
+use Rattle.answers.specs.Buffers.{counted}
 use Rattle.table.specs.Calls.{SetsOutcome, BuildOutcome, LookaheadOutcome, FirstOutcome}
 use Rattle.table.proofs.Promise.{sets-outcome-unique, build-outcome-unique, lookahead-outcome-unique, first-outcome-unique}
-use Rattle.run.specs.Demands.{BuildMeets2, ExpandMeets2, RunMeets2, RunMeets3, RunStepsAdd, ExpandStepsAdd, Demand2Build, Demand2Expand, Demand2Back, Demand3, RunStepsSum, ExpandStepsSum}
 use Rattle.run.specs.Expanding.{ExpandOutcome}
-use Rattle.run.specs.Running.{RunOutcome, counted}
-use Rattle.run.proofs.Promise.{run-outcome-unique, expand-outcome-unique, build-meets2, run-meets3, run-meets2, run-steps-add, expand-meets2, expand-steps, expand-steps-add}
+use Rattle.run.specs.Running.{RunOutcome}
+use Rattle.machine.proofs.ExpandTheorems.{expand-steps}
+use Rattle.run.proofs.Promise.{run-outcome-unique, expand-outcome-unique}
+use Rattle.demands.proofs.Promise.{build-meets2, run-meets3, run-meets2, run-steps-add, expand-meets2, expand-steps-add}
+use Rattle.demands.specs.Demands.{BuildMeets2, ExpandMeets2, RunMeets2, RunMeets3, RunStepsAdd, ExpandStepsAdd, Demand2Build, Demand2Expand, Demand2Back, Demand3, RunStepsSum, ExpandStepsSum}
 use Rattle.desk.specs.Desk.{littleEndian, answerBytes, answerSize, Lent, LentCell, JudgeOutcome, SetOutcome, JudgeCall, SetsCall, BuildCall, RunCall, ExpandCall, LookaheadCall, FirstCall}
 use Rattle.desk.specs.Demands.{CBuild, CRun, CExpand, KeepsBuildCall, KeepsRunCall, KeepsExpandCall, answerFrom, buildWith, runWith, expandWith}
 use Rattle.desk.proofs.Calls.{called-answer, called-unique, two-unique, three-unique, judge-outcome-unique, set-outcome-unique}

@@ -3,8 +3,8 @@
 use mathlib.Core.List.{List, [], _∷_}
 use Prim.Native.Nat.{ℕ, _+_, _*_}
 use lib.ListN.{take, drop}
-use Rattle.book.specs.declared.Answer.{Answer}
-use Rattle.run.specs.Demands.{Builder, Runner, Expander}
+use Rattle.answers.specs.declared.Answer.{Answer}
+use Rattle.demands.specs.Demands.{Builder, Runner, Expander}
 use Rattle.desk.specs.Desk.{BuildCall, RunCall, ExpandCall}
 
 -- the number that bytes make, the lowest first

@@ -5,13 +5,14 @@ use mathlib.Core.List.{List, [], _∷_, _++_}
 use Prim.Native.Nat.{ℕ, zero, suc, _/_, _%_, _≤_}
 use lib.ListN.{length}
 use Rattle.sets.specs.Calls.{number}
-use Rattle.book.specs.declared.Answer.{Answer}
+use Rattle.answers.specs.declared.Answer.{Answer}
+use Rattle.answers.specs.Answers.{done}
+use Rattle.answers.specs.Refusals.{room}
+use Rattle.answers.specs.Buffers.{over}
 use Rattle.book.specs.declared.Reading.{Reading}
-use Rattle.book.specs.Answers.{done}
 use Rattle.book.specs.Judging.{Judged}
-use Rattle.book.specs.Refusals.{room}
 use Rattle.table.specs.declared.SetAnswer.{SetAnswer}
-use Rattle.table.specs.Calls.{over, SetsOutcome, BuildOutcome, LookaheadOutcome, FirstOutcome}
+use Rattle.table.specs.Calls.{SetsOutcome, BuildOutcome, LookaheadOutcome, FirstOutcome}
 use Rattle.run.specs.Expanding.{ExpandOutcome}
 use Rattle.run.specs.Running.{RunOutcome}
 

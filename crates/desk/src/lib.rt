@@ -4,7 +4,7 @@ ghost use Rattle.desk.specs.Desk.{JudgeCall, SetsCall, BuildCall, RunCal
 use crate::words::ANSWER_SIZE;
 use crate::words::write_answer;
 use book::judging::judge;
-use book::refusals::ROOM;
+use answers::refusals::ROOM;
 use run::expanding::expand;
 use run::running::run;
 

@@ -2,9 +2,9 @@ ghost use mathlib.Core.Path.{_≡_};
 ghost use Prim.Native.Nat.{_+_, _≤_};
 ghost use lib.ListN.{length};
 ghost use lib.Seq.{sets};
-ghost use Rattle.table.specs.Calls.{over};
+ghost use Rattle.answers.specs.Buffers.{over};
 ghost use Rattle.desk.specs.Desk.{littleEndian, answerBytes, Lent};
-use book::Answer;
+use answers::Answer;
 
 // How many bytes the words of an answer take.
 pub(crate) const ANSWER_SIZE: usize = 32;

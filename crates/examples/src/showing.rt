@@ -1,4 +1,4 @@
-use book::Answer;
+use answers::Answer;
 use book::fields::byte_at;
 use libc::STDOUT_FILENO;
 

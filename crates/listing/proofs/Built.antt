@@ -9,14 +9,15 @@ use native.Mathlib.Omega.{arith}
 use lib.ListN.{length, take, drop, replicate, length-append, length-drop, length-replicate}
 use lib.Seq.{take-at, take-append-le, drop-append-le}
 use Rattle.grammar.specs.Grammar.{Grammar}
-use Rattle.book.specs.declared.Answer.{Answer}
+use Rattle.answers.specs.declared.Answer.{Answer}
+use Rattle.answers.specs.Answers.{done, refusal}
+use Rattle.answers.specs.Buffers.{over}
 use Rattle.book.specs.declared.Reading.{Reading}
-use Rattle.book.specs.Answers.{done, refusal}
 use Rattle.book.specs.Book.{Limits}
 use Rattle.book.specs.Judging.{indexOf, Serves, Judged, serves}
 use Rattle.book.proofs.Promise.{refuses-some, serves-limits, judged-unique}
 use Rattle.table.specs.Table.{size}
-use Rattle.table.specs.Calls.{over, SetsRoom, no-first, no-follow, BuildOutcome}
+use Rattle.table.specs.Calls.{SetsRoom, no-first, no-follow, BuildOutcome}
 use Rattle.table.specs.Calls as calls
 use Rattle.listing.specs.Listing.{refusedLine, rowLine, rowLines, servedText, Listing, refused, conflicted, served}
 

@@ -5,7 +5,7 @@ use Prim.Native.Nat.{ℕ}
 use native.Mathlib.Omega.{arith}
 use Rattle.grammar.specs.House.{house}
 use Rattle.text.specs.Text.{digit, lastDigits, decimal, hexDigits, hexadecimal}
-use Rattle.book.specs.Answers.{refusal}
+use Rattle.answers.specs.Answers.{refusal}
 use Rattle.book.specs.Book.{wanted, marked, spells}
 use Rattle.book.specs.Examples.{houseBook, uselessBook}
 use Rattle.book.specs.Judging.{misread}

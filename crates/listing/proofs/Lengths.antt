@@ -14,8 +14,8 @@ use lib.Seq.{getD-drop}
 use Rattle.grammar.specs.Grammar.{Grammar, Column, Cell, only, vacant}
 use Rattle.text.specs.Text.{decimal, hexadecimal}
 use Rattle.text.proofs.Promise.{decimal-length, decimal-length-word, hexadecimal-length}
-use Rattle.book.specs.declared.Answer.{Answer}
-use Rattle.book.specs.Answers.{refusal}
+use Rattle.answers.specs.declared.Answer.{Answer}
+use Rattle.answers.specs.Answers.{refusal}
 use Rattle.book.specs.Book.{Limits}
 use Rattle.book.specs.Judging.{Refuses, misread, useless-one}
 use Rattle.book.proofs.Promise.{refuses-number, refused-within, serves-limits, read-limits, below-rule}

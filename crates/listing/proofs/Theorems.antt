@@ -5,8 +5,8 @@ use mathlib.Core.List.{List, []}
 use Prim.Native.Nat.{ℕ, _≤_}
 use native.Mathlib.Omega.{arith}
 use lib.ListN.{length, take}
+use Rattle.answers.specs.Buffers.{over}
 use Rattle.book.specs.Examples.{houseBook, uselessBook}
-use Rattle.table.specs.Calls.{over}
 use Rattle.table.specs.Examples.{conflictedHouseBook, nestedBook}
 use Rattle.listing.specs.Listing.{Listing}
 use Rattle.listing.specs.Calls.{Listed, mostListed}

@@ -4,16 +4,15 @@ use mathlib.Core.Logic.{_⊎_, inl, inr}
 use mathlib.Core.List.{List}
 use Prim.Native.Nat.{ℕ, _+_, _*_}
 use Rattle.grammar.specs.Grammar.{Grammar}
-use Rattle.book.specs.declared.Answer.{Answer}
-use Rattle.book.specs.Answers.{refusal}
+use Rattle.text.proofs.Promise.{put-unique}
+use Rattle.answers.specs.declared.Answer.{Answer}
+use Rattle.answers.specs.Answers.{refusal}
+use Rattle.answers.specs.Refusals.{conflict}
 use Rattle.book.specs.Book.{Limits}
-use Rattle.book.specs.Refusals.{conflict}
 use Rattle.book.proofs.Promise.{serves-limits}
 use Rattle.table.specs.Numbers.{FirstSets, FollowSets}
 use Rattle.table.specs.Table.{TableOf, FirstConflict}
-use Rattle.table.proofs.Promise.{sets-unique, table-unique, first-conflict-unique, table-no-conflict, first-is-conflict}
-use Rattle.table.proofs.Promise.{Unique, OfBook, of-refusal, of-grammar, of-book-unique}
-use Rattle.text.proofs.Promise.{put-unique}
+use Rattle.table.proofs.Promise.{sets-unique, table-unique, first-conflict-unique, table-no-conflict, first-is-conflict, Unique, OfBook, of-refusal, of-grammar, of-book-unique}
 use Rattle.listing.specs.Listing.{refusedLine, servedText, Listing, refused, conflicted, served}
 use Rattle.listing.specs.Calls.{Listed}
 

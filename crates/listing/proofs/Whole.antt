@@ -6,7 +6,7 @@ use native.Mathlib.Nat.{zero-add}
 use native.Mathlib.Omega.{arith}
 use lib.ListN.{length, take}
 use Rattle.text.proofs.Promise.{put-length, put-room, put-cells, put-front}
-use Rattle.table.specs.Calls.{over}
+use Rattle.answers.specs.Buffers.{over}
 use Rattle.listing.specs.Listing.{Listing}
 use Rattle.listing.specs.Calls.{Listed, mostListed}
 use Rattle.listing.proofs.Lengths.{listing-length}

@@ -10,10 +10,10 @@ use lib.Dec.{eqb}
 use lib.ListN.{length, take, drop}
 use Rattle.grammar.specs.Grammar.{Grammar}
 use Rattle.text.specs.Text.{decimal, hexadecimal}
-use Rattle.book.specs.declared.Answer.{Answer}
-use Rattle.book.specs.Answers.{refusal}
+use Rattle.answers.specs.declared.Answer.{Answer}
+use Rattle.answers.specs.Answers.{refusal}
+use Rattle.answers.specs.Refusals.{conflict}
 use Rattle.book.specs.Judging.{Refuses, Serves}
-use Rattle.book.specs.Refusals.{conflict}
 use Rattle.table.specs.Numbers.{FirstSets, FollowSets}
 use Rattle.table.specs.Table.{TableOf, FirstConflict}
 

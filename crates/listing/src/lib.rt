@@ -12,7 +12,7 @@ use crate::lines::row_lines;
 use crate::lines::set_lines;
 use book::Reading;
 use book::judging::judge;
-use book::refusals::DONE;
+use answers::refusals::DONE;
 use table::build;
 
 mod lines;

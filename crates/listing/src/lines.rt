@@ -8,7 +8,7 @@ ghost use Rattle.text.specs.Text.{Put};
 ghost use Rattle.listing.specs.Listing.{space, refusedLine, grammarLine, setLine, setLines, cellText, cellsText, rowLine, rowLines};
 use crate::words::numbers_line;
 use crate::words::opening;
-use book::Answer;
+use answers::Answer;
 use book::Reading;
 use table::VACANT;
 use text::decimal;

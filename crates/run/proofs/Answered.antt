@@ -3,15 +3,15 @@ use mathlib.Core.Path.{_≡_, refl}
 use mathlib.Core.Logic.{_⊎_, inl, inr, _≢_}
 use native.Mathlib.Omega.{arith}
 use Rattle.sets.specs.declared.Set.{Set}
-use Rattle.book.specs.declared.Answer.{Answer}
-use Rattle.book.specs.Answers.{done, stop, noSet}
-use Rattle.book.specs.Refusals.{room, syntax, production, stackRoom, listRoom, outputRoom}
-use Rattle.run.specs.Machine.{State, Reason, full-list, full-stack, wants-end, wants-token, wants-row, Offered, taken, stopped}
-use Rattle.run.specs.Expansion.{Course, Upshot, complete, unfit, full-output, Expansion}
-use Rattle.run.specs.Expansion as expansion
+use Rattle.answers.specs.declared.Answer.{Answer}
+use Rattle.answers.specs.Answers.{done, stop, noSet}
+use Rattle.answers.specs.Refusals.{room, syntax, production, stackRoom, listRoom, outputRoom}
+use Rattle.machine.specs.Machine.{State, Reason, full-list, full-stack, wants-end, wants-token, wants-row, Offered, taken, stopped}
+use Rattle.machine.specs.Expansion.{Course, Upshot, complete, unfit, full-output, Expansion, WithRoom, completes, misfits}
+use Rattle.machine.specs.Expansion as expansion
+use Rattle.machine.proofs.Walk.{Syntax, wanted-end, wanted-token, wanted-row, Short, short-list, short-stack, final}
 use Rattle.run.specs.Running.{answered}
-use Rattle.run.specs.Expanding.{answeredBy, WithRoom, completes, misfits}
-use Rattle.run.proofs.Walk.{Syntax, wanted-end, wanted-token, wanted-row, Short, short-list, short-stack, final}
+use Rattle.run.specs.Expanding.{answeredBy}
 
 -- how a run ended, and its answer
 pub data Told (e : Reason → Set) : Offered → Answer → Type 0 where

@@ -12,15 +12,15 @@ use lib.ListN.{length, getD, getElem?}
 use borrow.Author.Count.{below-more}
 use borrow.Author.Tests.{eqb-true, eq-eqb}
 use Rattle.grammar.specs.Grammar.{Form, Production, Grammar, Rule}
-use Rattle.sets.proofs.Promise.{decided}
 use Rattle.sets.specs.Calls.{Decides}
-use Rattle.book.specs.Answers.{done, refusal}
-use Rattle.book.specs.Refusals as refusals
-use Rattle.book.specs.declared.Answer.{Answer}
+use Rattle.sets.proofs.Promise.{decided}
+use Rattle.answers.specs.Answers.{done, refusal}
+use Rattle.answers.specs.Refusals as refusals
+use Rattle.answers.specs.declared.Answer.{Answer}
 use Rattle.table.specs.Table.{size, rowAt, held}
+use Rattle.machine.specs.Room.{isOf}
 use Rattle.run.specs.Checking.{FirstMisfit, FirstAbove, Checked, barred, admitted}
 use Rattle.run.specs.Moves.{Outlines}
-use Rattle.run.specs.Room.{isOf}
 use Rattle.run.specs.Running.{Fits, vacant, filled, FitTable, Misfit, bad-table, too-long, strange, no-stack}
 use Rattle.run.specs.declared.Outline.{Outline}
 use Rattle.run.proofs.Deciding.{held-vacant, held-filled}

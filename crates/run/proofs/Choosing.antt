@@ -10,8 +10,8 @@ use Rattle.grammar.specs.Grammar.{Form, Column}
 use Rattle.grammar.specs.declared.Symbol.the-variants.{Nonterminal}
 use Rattle.grammar.specs.declared.Symbol.{Symbol}
 use Rattle.book.specs.Fields.{symbolOfByte}
+use Rattle.machine.specs.Room.{rightOf}
 use Rattle.run.specs.Moves.{outlined, RightSide, Bottom, Faces, Chosen}
-use Rattle.run.specs.Room.{rightOf}
 use Rattle.run.specs.Stack.{spelledBy}
 use Rattle.run.specs.declared.Cause.the-variants.{FullList, FullStack}
 use Rattle.run.specs.declared.Ending.the-variants.{Stop}

@@ -11,7 +11,7 @@ use lib.ListN.{getD}
 use borrow.Author.Tests.{lt-ltb, le-ltb, eqb-true, eqb-false, ne-eqb}
 use Rattle.grammar.specs.Grammar.{Grammar, Column, token, endmark}
 use Rattle.table.specs.Table.{held, cellOf}
-use Rattle.run.specs.Machine.{meets}
+use Rattle.machine.specs.Machine.{meets}
 use Rattle.run.specs.Moves.{columnIn, Outlines, Bottom}
 use Rattle.run.specs.declared.Ahead.the-variants.{Next, End}
 use Rattle.run.specs.declared.Ahead.{Ahead}

@@ -6,24 +6,24 @@ use Prim.Native.Nat.{ℕ, _+_, _^_, _≤_, _<_}
 use native.Mathlib.Omega.{arith}
 use lib.ListN.{length, replicate}
 use Rattle.grammar.specs.Grammar.{Grammar}
-use Rattle.sets.proofs.Promise.{none-is}
 use Rattle.sets.specs.Calls.{None}
 use Rattle.sets.specs.declared.Set.{Set}
-use Rattle.book.proofs.Promise.{judged-done, judged-refused}
-use Rattle.book.specs.Answers.{done, refusal, stop, noSet}
+use Rattle.sets.proofs.Promise.{none-is}
+use Rattle.answers.specs.Answers.{done, refusal, stop, noSet}
+use Rattle.answers.specs.Refusals.{limit, room, stackRoom}
+use Rattle.answers.specs.declared.Answer.{Answer}
+use Rattle.answers.specs.Buffers.{counted, cleared}
 use Rattle.book.specs.Judging.{Judged}
-use Rattle.book.specs.Refusals.{limit, room, stackRoom}
-use Rattle.book.specs.declared.Answer.{Answer}
 use Rattle.book.specs.declared.Reading.{Reading}
-use Rattle.run.specs.Expanding.{expansion, answeredBy, ExpandOutcome, refused, too-long, no-stack, ended}
-use Rattle.run.specs.Expansion.{Upshot, complete, unfit, full-stack, full-output, Expansion}
+use Rattle.book.proofs.Promise.{judged-done, judged-refused}
+use Rattle.machine.specs.Expansion.{expansion, Upshot, complete, unfit, full-stack, full-output, Expansion}
+use Rattle.machine.proofs.ExpandTheorems.{expand-steps}
+use Rattle.run.specs.Expanding.{answeredBy, ExpandOutcome, refused, too-long, no-stack, ended}
 use Rattle.run.specs.Moves.{outlineIn, outlined}
-use Rattle.run.specs.Running.{counted, cleared}
 use Rattle.run.specs.Turns.{finaleOf, unfolded, Unfolds, closing, ExpandedOn}
 use Rattle.run.specs.declared.Finale.the-variants.{Complete}
 use Rattle.run.specs.declared.Finale.{Finale}
 use Rattle.run.specs.declared.Unfolding.{Unfolding}
-use Rattle.run.proofs.ExpandTheorems.{expand-steps}
 use Rattle.run.proofs.Records.{reading-grammar}
 
 -- each finale has its answer

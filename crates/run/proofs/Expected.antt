@@ -11,15 +11,15 @@ use lib.Dec.{ltb}
 use lib.ListN.{length, getD}
 use borrow.Author.Tests.{lt-ltb, le-ltb}
 use Rattle.grammar.specs.Grammar.{Grammar}
-use Rattle.sets.proofs.Promise.{none-is, with-is, same-members}
 use Rattle.sets.specs.Calls.{number, None, With}
 use Rattle.sets.specs.Sets.{width, endMark, columnPlace}
 use Rattle.sets.specs.declared.Set.{Set}
-use Rattle.book.specs.Answers.{done, stop}
-use Rattle.book.specs.declared.Answer.{Answer}
+use Rattle.sets.proofs.Promise.{none-is, with-is, same-members}
+use Rattle.answers.specs.Answers.{done, stop}
+use Rattle.answers.specs.declared.Answer.{Answer}
 use Rattle.table.specs.Table.{held}
+use Rattle.machine.specs.Machine.{State, Reason, full-list, full-stack, wants-end, wants-token, wants-row, Offered, taken, stopped, final}
 use Rattle.run.specs.Answering.{RowColumns, Expects, numberOf, detailOf, progressIn, Answers}
-use Rattle.run.specs.Machine.{State, Reason, full-list, full-stack, wants-end, wants-token, wants-row, Offered, taken, stopped, final}
 use Rattle.run.specs.Moves.{Outlines}
 use Rattle.run.specs.Resuming.{causeOf, progressOf, reported}
 use Rattle.run.specs.Running.{marking, filledBelow, expected, answered}

@@ -8,8 +8,8 @@ use lib.Dec.{eqb}
 use lib.ListN.{length, getD, set, replicate}
 use lib.Seq.{getD-set-same, getD-set-other}
 use Rattle.table.specs.Forms.{formIn}
+use Rattle.machine.specs.Room.{rightOf, isOf}
 use Rattle.run.specs.Moves.{outlined, RightSide, Gathered, Lefts, Lengths}
-use Rattle.run.specs.Room.{rightOf, isOf}
 use Rattle.run.specs.declared.Outline.{Outline}
 use Rattle.run.proofs.Records.{right-found, right-missing, left-found}
 

@@ -9,13 +9,14 @@ use lib.Seq.{sets, drop-cons, set-at}
 use Rattle.grammar.specs.Grammar.{Form, Column, token, Every}
 use Rattle.grammar.specs.declared.Symbol.the-variants.{Token}
 use Rattle.grammar.specs.declared.Symbol.{Symbol}
-use Rattle.table.specs.Calls.{over}
+use Rattle.answers.specs.Buffers.{over, counted}
 use Rattle.table.specs.Forms.{formIn}
-use Rattle.run.specs.Machine.{State, Reason, full-list, full-stack, wants-end, wants-token, wants-row, Offered, taken, stopped, popped, replaced, offer, final}
+use Rattle.machine.specs.Machine.{State, Reason, full-list, full-stack, wants-end, wants-token, wants-row, Offered, taken, stopped, popped, replaced, offer, final}
+use Rattle.machine.proofs.Offer.{offer-match, offer-use, offer-halt}
+use Rattle.machine.proofs.Walk.{Halt}
 use Rattle.run.specs.Moves.{Chosen}
 use Rattle.run.specs.Offering.{Spelled, Holds, Offering, finished, finishedStack}
 use Rattle.run.specs.Resuming.{causeOf, progressOf, reported}
-use Rattle.run.specs.Running.{counted}
 use Rattle.run.specs.Stack.{bytesOf, spelledBy}
 use Rattle.run.specs.declared.Ending.{Ending}
 use Rattle.run.specs.declared.Move.the-variants.{Use, Finish}
@@ -23,9 +24,7 @@ use Rattle.run.specs.declared.Move.{Move}
 use Rattle.run.specs.declared.Progress.{Progress}
 use Rattle.run.specs.declared.Reply.the-variants.{Taken, Stopped}
 use Rattle.run.specs.declared.Reply.{Reply}
-use Rattle.run.proofs.Offer.{offer-match, offer-use, offer-halt}
 use Rattle.run.proofs.Stacked.{symbols-spelled, every-append, every-rest, length-symbols, spelled-stacked, stacked-pop, stacked-replace}
-use Rattle.run.proofs.Walk.{Halt}
 
 -- one production more in the list
 pub over-more : (ps : List ℕ) (p : ℕ) (list : List ℕ) → length ps < length list → set (over ps list) (length ps) p ≡ over (ps ++ (p ∷ [])) list

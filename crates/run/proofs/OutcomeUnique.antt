@@ -6,15 +6,16 @@ use native.Mathlib.Decide.{decLt}
 use native.Mathlib.Omega.{arith}
 use lib.ListN.{length, drop}
 use Rattle.grammar.specs.Grammar.{Grammar}
-use Rattle.book.specs.declared.Answer.{Answer}
-use Rattle.book.specs.Answers.{refusal}
-use Rattle.book.specs.Refusals.{limit, room, stackRoom}
-use Rattle.table.specs.Calls.{over}
+use Rattle.answers.specs.declared.Answer.{Answer}
+use Rattle.answers.specs.Answers.{refusal}
+use Rattle.answers.specs.Refusals.{limit, room, stackRoom}
+use Rattle.answers.specs.Buffers.{over, counted, cleared}
 use Rattle.table.proofs.Promise.{Unique, OfBook, of-refusal, of-grammar, of-book-unique}
-use Rattle.run.specs.Expanding.{ExpandOutcome, expansion, answeredBy}
+use Rattle.machine.specs.Expansion.{expansion}
+use Rattle.machine.specs.Machine.{final}
+use Rattle.run.specs.Expanding.{ExpandOutcome, answeredBy}
 use Rattle.run.specs.Expanding as expanding
-use Rattle.run.specs.Machine.{final}
-use Rattle.run.specs.Running.{FitTable, Misfit, length-given, cell, FirstStrange, Barred, bad-table, too-long, strange, no-stack, Admits, counted, cleared, ran, answered, expected, wordsOf, RunOutcome, BesideOutcome}
+use Rattle.run.specs.Running.{FitTable, Misfit, length-given, cell, FirstStrange, Barred, bad-table, too-long, strange, no-stack, Admits, ran, answered, expected, wordsOf, RunOutcome, BesideOutcome}
 use Rattle.run.specs.Running as running
 
 module _ {g : Grammar} {table : List ℕ} where

@@ -1,10 +1,5 @@
 -- What crates above cite of runs and expansions.
-pub use Rattle.run.proofs.Count.{Counted}
-pub use Rattle.run.proofs.RunTheorems.{run-steps, run-inside}
-pub use Rattle.run.proofs.ExpandTheorems.{expand-steps}
-pub use Rattle.run.proofs.Answered.{Told, told, served, short-of-list, short-of-stack, blocked, told-steps}
-pub use Rattle.run.proofs.Answered.{ToldBy, told-by, finished, misfitting, out-of-stack, out-of-output, told-moves}
-pub use Rattle.run.proofs.OutcomeUnique.{run-outcome-unique, expand-outcome-unique}
-pub use Rattle.run.proofs.Demands.{build-meets2, run-meets3, run-meets2, run-steps-add, expand-meets2, expand-steps-add}
-pub use Rattle.run.proofs.House.{house-premises}
-pub use Rattle.run.proofs.Examples.{examples-allowed}
+pub use Rattle.run.proofs.Answered.{Told, told, served, short-of-list, short-of-stack, blocked, told-done, told-room, told-syntax, told-numbers, told-steps, short-room}
+pub use Rattle.run.proofs.Answered.{ToldBy, told-by, finished, misfitting, out-of-stack, out-of-output, told-complete, told-unfit, told-with-room, told-kinds, told-moves, complete-done, unfit-refused}
+pub use Rattle.run.proofs.OutcomeUnique.{Result, run-outcome-unique, beside-outcome-unique, expand-outcome-unique}
+pub use Rattle.run.proofs.OnReading.{judged-run-unique, offer-outcome-unique, shown-unique, judged-run-run}

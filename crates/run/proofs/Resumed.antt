@@ -7,17 +7,18 @@ use lib.ListN.{length, length-append, take, take-append-drop}
 use lib.Seq.{length-take-le}
 use borrow.Author.Tests.{lt-ltb, le-ltb}
 use Rattle.grammar.specs.Grammar.{Grammar, Column}
+use Rattle.answers.specs.Buffers.{counted}
 use Rattle.table.specs.Table.{columnOf, cellOf}
-use Rattle.run.specs.Machine.{State, full-list, full-stack, wants-end, wants-token, wants-row, Offered, taken, stopped, final, offer}
+use Rattle.machine.specs.Machine.{State, full-list, full-stack, wants-end, wants-token, wants-row, Offered, taken, stopped, final, offer}
+use Rattle.machine.specs.Room.{rightOf}
+use Rattle.machine.proofs.Count.{Grown, gained, offer-grown}
 use Rattle.run.specs.Moves.{columnIn}
 use Rattle.run.specs.Offering.{Holds, Ready, Offering}
 use Rattle.run.specs.Resuming.{causeOf, progressOf, reported, clamped, standing, offeredTo, Offers, answerOf, OfferOutcome}
-use Rattle.run.specs.Room.{rightOf}
-use Rattle.run.specs.Running.{counted, expected, answered}
+use Rattle.run.specs.Running.{expected, answered}
 use Rattle.run.specs.declared.Ahead.the-variants.{Next, End}
 use Rattle.run.specs.declared.Progress.{Progress}
 use Rattle.run.specs.declared.Reply.{Reply}
-use Rattle.run.proofs.Count.{Grown, gained, offer-grown}
 use Rattle.run.proofs.Stacked.{cells-spelled, length-spelled, stacked-spelled}
 
 pub column-next : {column tokens : ℕ} → column < tokens → (g : Grammar) → g .tokens ≡ tokens → columnIn (Next column) ≡ columnOf g column

@@ -7,29 +7,30 @@ use native.Mathlib.Omega.{arith}
 use lib.ListN.{length, take, drop, length-drop}
 use lib.Seq.{take-all}
 use Rattle.grammar.specs.Grammar.{Grammar}
-use Rattle.book.proofs.Promise.{judged-done, judged-refused}
-use Rattle.book.specs.Answers.{done, refusal}
+use Rattle.answers.specs.Answers.{done, refusal}
+use Rattle.answers.specs.declared.Answer.{Answer}
+use Rattle.answers.specs.Buffers.{counted}
 use Rattle.book.specs.Judging.{Judged}
-use Rattle.book.specs.declared.Answer.{Answer}
 use Rattle.book.specs.declared.Reading.{Reading}
+use Rattle.book.proofs.Promise.{judged-done, judged-refused}
 use Rattle.table.specs.Table.{cellOf}
+use Rattle.machine.specs.Machine.{State, Offered, taken, stopped, final}
+use Rattle.machine.specs.Room.{rightOf}
+use Rattle.machine.proofs.Count.{Counted}
+use Rattle.machine.proofs.RunTheorems.{run-steps, run-inside}
 use Rattle.run.specs.Answering.{progressIn, Answers}
 use Rattle.run.specs.Beside.{Shown}
 use Rattle.run.specs.Checking.{Checked, barred, admitted}
 use Rattle.run.specs.Judged.{JudgedRun, ended}
 use Rattle.run.specs.Accounting.{RanThrough, AccountedOn, Accounted}
-use Rattle.run.specs.Machine.{State, Offered, taken, stopped, final}
 use Rattle.run.specs.Moves.{outlineIn, outlined, Outlines}
 use Rattle.run.specs.Resuming.{progressOf, reported}
-use Rattle.run.specs.Room.{rightOf}
-use Rattle.run.specs.Running.{counted, Barred, bad-table, too-long, strange, no-stack, Admits, expected, answered, ran, RunOutcome, wordsOf, BesideOutcome}
+use Rattle.run.specs.Running.{Barred, bad-table, too-long, strange, no-stack, Admits, expected, answered, ran, RunOutcome, wordsOf, BesideOutcome}
 use Rattle.run.specs.declared.Account.{Account}
 use Rattle.run.specs.declared.Outline.{Outline}
 use Rattle.run.specs.declared.Progress.{Progress}
 use Rattle.run.specs.declared.Reply.{Reply}
-use Rattle.run.proofs.Count.{Counted}
 use Rattle.run.proofs.Records.{reading-grammar}
-use Rattle.run.proofs.RunTheorems.{run-steps, run-inside}
 
 progress-reported : (o : Offered) → progressIn (reported o) ≡ progressOf (final o)
 unfolding reported final

@@ -11,16 +11,19 @@ use borrow.Author.Tests.{le-ltb}
 use Rattle.grammar.specs.Grammar.{Form, Grammar, Column, nothing, each}
 use Rattle.grammar.specs.Machine.{front}
 use Rattle.grammar.specs.declared.Symbol.the-variants.{Nonterminal}
+use Rattle.answers.specs.Buffers.{over, counted, cleared}
 use Rattle.book.specs.Fields.{symbolOfByte}
-use Rattle.table.specs.Calls.{over}
 use Rattle.table.specs.Table.{cellOf}
+use Rattle.machine.specs.Machine.{State, Reason, Offered, taken, stopped, begun, offer, runFrom}
+use Rattle.machine.specs.Room.{rightOf}
+use Rattle.machine.proofs.Count.{Grown, gained, offer-grown}
+use Rattle.machine.proofs.Offer.{run-taken, run-stopped}
+use Rattle.machine.proofs.Walk.{final}
 use Rattle.run.specs.Accounting.{Stepped}
-use Rattle.run.specs.Machine.{State, Reason, Offered, taken, stopped, begun, offer, runFrom}
 use Rattle.run.specs.Moves.{columnIn, outlined}
 use Rattle.run.specs.Offering.{Spelled, Holds, Ready, Offering}
 use Rattle.run.specs.Resuming.{progressOf, reported}
-use Rattle.run.specs.Room.{rightOf}
-use Rattle.run.specs.Running.{counted, ran, cleared}
+use Rattle.run.specs.Running.{ran}
 use Rattle.run.specs.Stack.{byteOf, bytesOf, stacked}
 use Rattle.run.specs.declared.Ahead.the-variants.{Next, End}
 use Rattle.run.specs.declared.Cause.{Cause}
@@ -28,10 +31,7 @@ use Rattle.run.specs.declared.Outline.{Outline}
 use Rattle.run.specs.declared.Progress.{Progress}
 use Rattle.run.specs.declared.Reply.the-variants.{Taken, Stopped}
 use Rattle.run.specs.declared.Reply.{Reply}
-use Rattle.run.proofs.Count.{Grown, gained, offer-grown}
-use Rattle.run.proofs.Offer.{run-taken, run-stopped}
 use Rattle.run.proofs.Stacked.{length-stacked, stacked-again}
-use Rattle.run.proofs.Walk.{final}
 
 pub length-over : (ps list : List ℕ) → length ps ≤ length list → length (over ps list) ≡ length list
 length-over ps list h = simp (length-append, length-drop) (omega arith)

@@ -8,13 +8,13 @@ use lib.ListN.{length, getD, set, length-set}
 use lib.Seq.{sets, length-sets}
 use Rattle.grammar.specs.Grammar.{Form, Column}
 use Rattle.grammar.specs.declared.Symbol.{Symbol}
+use Rattle.answers.specs.Buffers.{counted}
 use Rattle.table.specs.Table.{cellOf}
 use Rattle.table.specs.Forms.{formIn}
-use Rattle.run.specs.Machine.{State}
+use Rattle.machine.specs.Machine.{State}
+use Rattle.machine.specs.Room.{rightOf}
 use Rattle.run.specs.Moves.{outlined, RightSide, Chosen}
 use Rattle.run.specs.Offering.{Holds, Ready, Offering, finished, finishedStack}
-use Rattle.run.specs.Room.{rightOf}
-use Rattle.run.specs.Running.{counted}
 use Rattle.run.specs.Stack.{bytesOf, spelledBy}
 use Rattle.run.specs.declared.Ending.the-variants.{Accept, Match, Stop}
 use Rattle.run.specs.declared.Ending.{Ending}

@@ -8,14 +8,13 @@ use lib.ListN.{length, getD, drop, set, length-append, length-set}
 use lib.Seq.{sets, drop-nil}
 use Rattle.grammar.specs.Grammar.{Form, Grammar, Every, nothing, each}
 use Rattle.grammar.specs.declared.Symbol.the-variants.{Token, Nonterminal}
-use Rattle.table.specs.Calls.{over}
+use Rattle.answers.specs.Buffers.{over, counted}
 use Rattle.table.specs.Forms.{formIn}
-use Rattle.run.specs.Expanding.{opened, expansion}
-use Rattle.run.specs.Expansion.{Course, Upshot, complete, unfit, full-stack, full-output, Expansion, ended, wrote, applied, expandFrom}
+use Rattle.machine.specs.Expansion.{opened, expansion, Course, Upshot, complete, unfit, full-stack, full-output, Expansion, ended, wrote, applied, expandFrom}
+use Rattle.machine.specs.Room.{rightOf, isOf}
+use Rattle.machine.proofs.ExpandMoves.{finished-is, left-over-is, too-short-is, misfit-is, no-stack-is, apply-is, no-output-is, write-is}
 use Rattle.run.specs.Moves.{outlined, RightSide}
 use Rattle.run.specs.Offering.{Spelled}
-use Rattle.run.specs.Room.{rightOf, isOf}
-use Rattle.run.specs.Running.{counted}
 use Rattle.run.specs.Stack.{bytesOf, spelledBy, stacked}
 use Rattle.run.specs.Turns.{Turns, finaleOf, unfolded, Unfolds}
 use Rattle.run.specs.declared.Finale.{Finale}
@@ -23,7 +22,6 @@ use Rattle.run.specs.declared.Outline.{Outline}
 use Rattle.run.specs.declared.Turn.the-variants.{Write, Apply, Close}
 use Rattle.run.specs.declared.Turn.{Turn}
 use Rattle.run.specs.declared.Unfolding.{Unfolding}
-use Rattle.run.proofs.ExpandMoves.{finished-is, left-over-is, too-short-is, misfit-is, no-stack-is, apply-is, no-output-is, write-is}
 use Rattle.run.proofs.Holding.{over-more}
 use Rattle.run.proofs.Stacked.{symbols-spelled, every-append, every-rest, length-symbols, spelled-stacked, stacked-pop, stacked-replace, length-stacked}
 use Rattle.run.proofs.Steps.{begun-cells, nonterminal-spelled, length-over}

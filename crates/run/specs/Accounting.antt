@@ -5,12 +5,12 @@ use mathlib.Core.List.{List}
 use Prim.Native.Nat.{ℕ}
 use lib.ListN.{length}
 use Rattle.grammar.specs.Grammar.{Grammar}
+use Rattle.answers.specs.declared.Answer.{Answer}
+use Rattle.answers.specs.Buffers.{over, cleared}
 use Rattle.book.specs.Judging.{Refuses, Serves}
-use Rattle.book.specs.declared.Answer.{Answer}
-use Rattle.table.specs.Calls.{over}
+use Rattle.machine.specs.Machine.{final}
 use Rattle.run.specs.Resuming.{reported}
-use Rattle.run.specs.Machine.{final}
-use Rattle.run.specs.Running.{Barred, Admits, expected, answered, ran, cleared}
+use Rattle.run.specs.Running.{Barred, Admits, expected, answered, ran}
 use Rattle.run.specs.declared.Account.{Account}
 use Rattle.run.specs.declared.Reply.{Reply}
 

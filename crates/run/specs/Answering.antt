@@ -7,9 +7,9 @@ use lib.ListN.{length}
 use Rattle.grammar.specs.Grammar.{Grammar}
 use Rattle.sets.specs.Calls.{number}
 use Rattle.sets.specs.declared.Set.{Set}
-use Rattle.book.specs.Refusals.{room, syntax, stackRoom, listRoom}
-use Rattle.book.specs.declared.Answer.{Answer}
-use Rattle.run.specs.Machine.{Reason, Offered, final}
+use Rattle.answers.specs.Refusals.{room, syntax, stackRoom, listRoom}
+use Rattle.answers.specs.declared.Answer.{Answer}
+use Rattle.machine.specs.Machine.{Reason, Offered, final}
 use Rattle.run.specs.Moves.{Outlines}
 use Rattle.run.specs.Resuming.{causeOf, reported}
 use Rattle.run.specs.Running.{filledBelow, expected, answered}

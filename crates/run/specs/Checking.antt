@@ -4,8 +4,8 @@ use mathlib.Core.List.{List}
 use Prim.Native.Nat.{ℕ, _≤_, _<_}
 use lib.ListN.{length, getD}
 use Rattle.grammar.specs.Grammar.{Grammar}
-use Rattle.book.specs.Answers.{done}
-use Rattle.book.specs.declared.Answer.{Answer}
+use Rattle.answers.specs.Answers.{done}
+use Rattle.answers.specs.declared.Answer.{Answer}
 use Rattle.run.specs.Running.{Fits, Barred, Admits}
 
 -- the first cell that does not fit, or the length

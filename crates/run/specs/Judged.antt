@@ -5,12 +5,12 @@ use mathlib.Core.List.{List}
 use Prim.Native.Nat.{ℕ, _≤_}
 use lib.ListN.{length}
 use Rattle.grammar.specs.Grammar.{Grammar}
-use Rattle.book.specs.Answers.{refusal}
-use Rattle.book.specs.Refusals.{room, stackRoom}
-use Rattle.book.specs.declared.Answer.{Answer}
-use Rattle.table.specs.Calls.{over}
-use Rattle.run.specs.Machine.{final}
-use Rattle.run.specs.Running.{expected, answered, ran, cleared}
+use Rattle.answers.specs.Answers.{refusal}
+use Rattle.answers.specs.Refusals.{room, stackRoom}
+use Rattle.answers.specs.declared.Answer.{Answer}
+use Rattle.answers.specs.Buffers.{over, cleared}
+use Rattle.machine.specs.Machine.{final}
+use Rattle.run.specs.Running.{expected, answered, ran}
 
 -- without a stack cell steps do not begin
 pub data JudgedRun (g : Grammar) (table tokens stack list : List ℕ) : Answer → List ℕ → List ℕ → Type 0 where

@@ -11,8 +11,8 @@ use Rattle.grammar.specs.declared.Symbol.the-variants.{Token, Nonterminal}
 use Rattle.grammar.specs.declared.Symbol.{Symbol}
 use Rattle.book.specs.declared.Reading.{Reading}
 use Rattle.table.specs.Forms.{formIn}
+use Rattle.machine.specs.Room.{rightOf}
 use Rattle.run.specs.Index.{productionsFrom}
-use Rattle.run.specs.Room.{rightOf}
 use Rattle.run.specs.declared.Ahead.the-variants.{Next, End}
 use Rattle.run.specs.declared.Ahead.{Ahead}
 use Rattle.run.specs.declared.Cause.the-variants.{FullList, FullStack, WantsEnd, WantsToken, WantsRow}

@@ -6,11 +6,10 @@ use Prim.Native.Nat.{ℕ, _+_, _-_, _^_, _≤_, _<_}
 use lib.ListN.{length, set}
 use Rattle.grammar.specs.Grammar.{Every}
 use Rattle.grammar.specs.declared.Symbol.{Symbol}
+use Rattle.answers.specs.Buffers.{over, counted}
 use Rattle.book.specs.Fields.{symbolOfByte}
-use Rattle.table.specs.Calls.{over}
-use Rattle.run.specs.Machine.{State, Offered, final}
+use Rattle.machine.specs.Machine.{State, Offered, final}
 use Rattle.run.specs.Resuming.{progressOf, reported}
-use Rattle.run.specs.Running.{counted}
 use Rattle.run.specs.Stack.{byteOf, stacked}
 use Rattle.run.specs.declared.Ending.the-variants.{Accept, Match, Stop}
 use Rattle.run.specs.declared.Ending.{Ending}

@@ -5,14 +5,14 @@ use mathlib.Core.List.{List}
 use Prim.Native.Nat.{ℕ, _+_, _-_, min}
 use lib.ListN.{length, take}
 use Rattle.grammar.specs.Grammar.{Grammar}
-use Rattle.book.specs.declared.Answer.{Answer}
-use Rattle.book.specs.Answers.{done, stop, noSet}
-use Rattle.book.specs.Refusals.{room, syntax, stackRoom, listRoom}
-use Rattle.table.specs.Calls.{over}
+use Rattle.answers.specs.declared.Answer.{Answer}
+use Rattle.answers.specs.Answers.{done, stop, noSet}
+use Rattle.answers.specs.Refusals.{room, syntax, stackRoom, listRoom}
+use Rattle.answers.specs.Buffers.{over, counted}
 use Rattle.table.specs.Table.{columnOf, cellOf}
-use Rattle.run.specs.Machine.{State, Reason, full-list, full-stack, wants-end, wants-token, wants-row, Offered, taken, stopped, final, offer}
-use Rattle.run.specs.Room.{rightOf}
-use Rattle.run.specs.Running.{counted, expected, answered}
+use Rattle.machine.specs.Machine.{State, Reason, full-list, full-stack, wants-end, wants-token, wants-row, Offered, taken, stopped, final, offer}
+use Rattle.machine.specs.Room.{rightOf}
+use Rattle.run.specs.Running.{expected, answered}
 use Rattle.run.specs.Stack.{spelledBy, stacked}
 use Rattle.run.specs.declared.Cause.the-variants.{FullList, FullStack, WantsEnd, WantsToken, WantsRow}
 use Rattle.run.specs.declared.Cause.{Cause}

@@ -5,26 +5,22 @@ use mathlib.Core.Logic.{_≢_}
 use mathlib.Core.List.{List, [], _∷_}
 use mathlib.Core.Bool.{cond}
 use mathlib.Core.Option.{some, none}
-use Prim.Native.Nat.{ℕ, zero, suc, _+_, _*_, _<_, _≤_, min}
+use Prim.Native.Nat.{ℕ, zero, suc, _+_, _*_, _<_, _≤_}
 use lib.Dec.{ltb}
-use lib.ListN.{length, getD, drop, replicate}
+use lib.ListN.{length, getD, drop}
 use Rattle.grammar.specs.Grammar.{Form, Grammar, Rule}
 use Rattle.sets.specs.Sets.{width, endMark, added, columnPlace}
 use Rattle.sets.specs.Calls.{number}
 use Rattle.sets.specs.declared.Set.{Set}
-use Rattle.book.specs.declared.Answer.{Answer}
-use Rattle.book.specs.Answers.{done, refusal, stop, noSet}
+use Rattle.answers.specs.declared.Answer.{Answer}
+use Rattle.answers.specs.Answers.{done, refusal, stop, noSet}
+use Rattle.answers.specs.Refusals.{room, limit, token, syntax, stackRoom, listRoom}
+use Rattle.answers.specs.Refusals as refusals
+use Rattle.answers.specs.Buffers.{counted, cleared, over}
 use Rattle.book.specs.Judging.{Refuses, Serves}
-use Rattle.book.specs.Refusals.{room, limit, token, syntax, stackRoom, listRoom}
-use Rattle.book.specs.Refusals as refusals
-use Rattle.table.specs.Calls.{over}
 use Rattle.table.specs.Table.{size, rowAt, held, cellOf}
-use Rattle.run.specs.Machine.{Reason, full-list, full-stack, wants-end, wants-token, wants-row, Offered, taken, stopped, begun, runFrom, final}
-use Rattle.run.specs.Room.{rightOf}
-
--- of a lent buffer at most 65,535 cells count
-abbrev pub counted : List ℕ → ℕ
-counted buffer = min (length buffer) 65535
+use Rattle.machine.specs.Machine.{Reason, full-list, full-stack, wants-end, wants-token, wants-row, Offered, taken, stopped, begun, runFrom, final}
+use Rattle.machine.specs.Room.{rightOf}
 
 -- a cell is 255 or a production of its row
 pub data Fits (g : Grammar) (table : List ℕ) (i : ℕ) : Type 0 where
@@ -89,10 +85,6 @@ answered e (stopped (wants-row A) s) = stop syntax (s .matched) 0 (s .moves) (e 
 -- the machine on a book's grammar, a table, and the room of the lent buffers
 unfoldable pub ran : Grammar → (table tokens stack list : List ℕ) → Offered
 ran g table tokens stack list = runFrom (rightOf g) (cellOf g table) (counted stack) (counted list) tokens (begun (g .start))
-
--- every stack cell
-abbrev pub cleared : List ℕ → List ℕ
-cleared stack = replicate (length stack) 0
 
 -- a run: refused before steps, with nothing changed, or ended in them
 pub data RunOutcome (book table tokens stack list : List ℕ) : Answer → List ℕ → List ℕ → Type 0 where

@@ -7,13 +7,12 @@ use Prim.Native.Nat.{ℕ, _≤_, _<_}
 use lib.ListN.{length}
 use Rattle.grammar.specs.Grammar.{Form, Grammar}
 use Rattle.grammar.specs.declared.Symbol.the-variants.{Token, Nonterminal}
-use Rattle.book.specs.Answers.{done, stop, noSet}
-use Rattle.book.specs.Refusals.{room, production, stackRoom, outputRoom}
-use Rattle.book.specs.declared.Answer.{Answer}
-use Rattle.table.specs.Calls.{over}
-use Rattle.run.specs.Expanding.{expansion, answeredBy}
-use Rattle.run.specs.Expansion.{Upshot, complete, unfit, full-stack, full-output, Expansion}
-use Rattle.run.specs.Running.{counted, cleared}
+use Rattle.answers.specs.Answers.{done, stop, noSet}
+use Rattle.answers.specs.Refusals.{room, production, stackRoom, outputRoom}
+use Rattle.answers.specs.declared.Answer.{Answer}
+use Rattle.answers.specs.Buffers.{over, counted, cleared}
+use Rattle.machine.specs.Expansion.{expansion, Upshot, complete, unfit, full-stack, full-output, Expansion}
+use Rattle.run.specs.Expanding.{answeredBy}
 use Rattle.run.specs.declared.Ahead.the-variants.{Next, End}
 use Rattle.run.specs.declared.Ahead.{Ahead}
 use Rattle.run.specs.declared.Finale.the-variants.{Complete, Unfit, NoStack, NoOutput}

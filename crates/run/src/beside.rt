@@ -2,7 +2,7 @@ ghost use mathlib.Core.Path.{_≡_};
 ghost use Rattle.run.specs.Beside.{Shown};
 ghost use Rattle.run.specs.Running.{wordsOf};
 use crate::running::account;
-use book::Answer;
+use answers::Answer;
 
 // Number, place, detail, steps and expected set.
 fn write_words(words: &mut [u64; 5], a: Answer)

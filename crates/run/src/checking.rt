@@ -10,15 +10,15 @@ use crate::Outline;
 use crate::moves::cell_at;
 use crate::moves::gather;
 use crate::turns::is_of;
-use book::Answer;
-use book::answers::done;
-use book::answers::refusal;
+use answers::Answer;
+use answers::done;
+use answers::refusal;
 use book::fields::LEFT;
-use book::refusals::LIMIT;
-use book::refusals::ROOM;
-use book::refusals::STACK_ROOM;
-use book::refusals::TABLE;
-use book::refusals::TOKEN;
+use answers::refusals::LIMIT;
+use answers::refusals::ROOM;
+use answers::refusals::STACK_ROOM;
+use answers::refusals::TABLE;
+use answers::refusals::TOKEN;
 use table::VACANT;
 
 // The most tokens that a run takes.

@@ -1,4 +1,4 @@
-use book::Answer;
+use answers::Answer;
 use grammar::Symbol;
 
 mod answering;

@@ -6,7 +6,8 @@ ghost use Rattle.run.specs.Index.{grammarIn};
 ghost use Rattle.run.specs.Judged.{JudgedRun};
 ghost use Rattle.run.specs.Accounting.{Stepped, RanThrough, AccountedOn, Accounted};
 ghost use Rattle.run.specs.Moves.{columnIn, outlined, Lengths};
-ghost use Rattle.run.specs.Running.{cleared, RunOutcome};
+ghost use Rattle.answers.specs.Buffers.{cleared};
+ghost use Rattle.run.specs.Running.{RunOutcome};
 use crate::Account;
 use crate::Ahead;
 use crate::Outline;
@@ -18,14 +19,14 @@ use crate::checking::check;
 use crate::moves::gather;
 use crate::moves::outline_of;
 use crate::offering::offer_at;
-use book::Answer;
+use answers::Answer;
 use book::Reading;
-use book::answers::refusal;
+use answers::refusal;
 use book::fields::LENGTH;
 use book::judging::judge;
-use book::refusals::DONE;
-use book::refusals::ROOM;
-use book::refusals::STACK_ROOM;
+use answers::refusals::DONE;
+use answers::refusals::ROOM;
+use answers::refusals::STACK_ROOM;
 
 // What comes after the first i tokens.
 pub(crate) fn ahead_of(tokens: &[u8], i: usize) -> Ahead

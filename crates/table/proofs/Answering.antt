@@ -8,13 +8,14 @@ use native.Mathlib.Omega.{arith}
 use lib.ListN.{length, take, getD}
 use lib.Seq.{length-take-le, getD-take}
 use Rattle.grammar.specs.Grammar.{Grammar}
-use Rattle.book.specs.declared.Answer.{Answer}
+use Rattle.answers.specs.declared.Answer.{Answer}
+use Rattle.answers.specs.Answers.{done, refusal}
+use Rattle.answers.specs.Refusals as refusals
+use Rattle.answers.specs.Buffers.{over}
 use Rattle.book.specs.declared.Reading.{Reading}
-use Rattle.book.specs.Answers.{done, refusal}
 use Rattle.book.specs.Book.{Limits}
 use Rattle.book.specs.Judging.{indexOf, Refuses, Serves, Judged}
-use Rattle.book.specs.Refusals as refusals
-use Rattle.book.proofs.Promise.{judged-done, judged-refused, Served, served, serves-limits}
+use Rattle.book.proofs.Promise.{judged-done, judged-refused, Served, served, serves-limits, refuses-number, serves-unique}
 use Rattle.table.specs.Numbers.{FirstSets, FollowSets}
 use Rattle.table.specs.Trail.{FirstAt, FollowAt}
 use Rattle.table.specs.Table.{size}
@@ -23,9 +24,8 @@ use Rattle.table.specs.Steps.{FirstFound, FollowFound, leftOf}
 use Rattle.table.specs.Claims.{bookClaims, Laid, Vacancy, Claimable, Tabulated, disputed, written}
 use Rattle.table.specs.Checks.{passes, stops, goes, because, Roomed, SetsRoomed}
 use Rattle.table.specs.Filling.{Given, Fillable, Enterable, Entered, clash, entered}
-use Rattle.table.specs.Calls.{over, SetsRoom, no-first, no-follow, SetsFit, SetsOutcome, BuildOutcome}
+use Rattle.table.specs.Calls.{SetsRoom, no-first, no-follow, SetsFit, SetsOutcome, BuildOutcome}
 use Rattle.table.specs.Calls as calls
-use Rattle.book.proofs.Promise.{refuses-number, serves-unique}
 use Rattle.table.proofs.Closed.{at-taken}
 use Rattle.table.proofs.Spelled.{indexes-readable, left-is, rule-at}
 use Rattle.table.proofs.Claimed.{contest-conflict, ledger-table}

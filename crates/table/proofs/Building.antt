@@ -9,14 +9,15 @@ use lib.ListN.{length, take, drop}
 use lib.Seq.{take-at}
 use Rattle.grammar.specs.Grammar.{Grammar, Conflict}
 use Rattle.grammar.proofs.Machine.{exact-no-conflict}
-use Rattle.book.specs.declared.Answer.{Answer}
-use Rattle.book.specs.Answers.{done, refusal}
+use Rattle.answers.specs.declared.Answer.{Answer}
+use Rattle.answers.specs.Answers.{done, refusal}
+use Rattle.answers.specs.Buffers.{over}
 use Rattle.book.specs.Book.{Limits}
 use Rattle.book.specs.Judging.{Serves}
-use Rattle.table.specs.Table.{size, rowAt, columnAt, TableOf, FirstConflict, BuiltWithoutConflict}
-use Rattle.table.specs.Calls.{over, no-first, no-follow, SetsFit, BuildOutcome, refused, no-room, no-table, conflict, served, BuildResult, ReportsConflict}
-use Rattle.table.proofs.Cells.{table-exact}
 use Rattle.book.proofs.Promise.{serves-unique, serves-limits, refuses-number}
+use Rattle.table.specs.Table.{size, rowAt, columnAt, TableOf, FirstConflict, BuiltWithoutConflict}
+use Rattle.table.specs.Calls.{no-first, no-follow, SetsFit, BuildOutcome, refused, no-room, no-table, conflict, served, BuildResult, ReportsConflict}
+use Rattle.table.proofs.Cells.{table-exact}
 use Rattle.table.proofs.Unique.{table-unique, conflict-no-table}
 use Rattle.table.proofs.Outcomes.{Built, WithTable, build-with-room}
 

@@ -13,14 +13,15 @@ use Rattle.grammar.proofs.Worked.{firstTest, followTest}
 use Rattle.grammar.proofs.WorkedForm.{formTest}
 use Rattle.grammar.proofs.WorkedUseful.{productives, has}
 use Rattle.grammar.proofs.House.{houseFirst, houseFollow, house-first-exact, house-follow-exact, houseCell, house-exact, house-no-conflict}
-use Rattle.book.specs.Answers.{done, refusal}
+use Rattle.answers.specs.Answers.{done, refusal}
+use Rattle.answers.specs.Buffers.{over}
 use Rattle.book.specs.Book.{wanted, marked, symbolOf, symbols, records, ending, spells}
 use Rattle.book.specs.Judging.{Serves}
-use Rattle.table.specs.Numbers.{FirstSets, FollowSets}
-use Rattle.table.specs.Table.{TableOf, FirstConflict, BuiltWithoutConflict}
-use Rattle.table.specs.Calls.{over, BuildOutcome, conflict, served}
 use Rattle.book.specs.Examples.{houseBook}
 use Rattle.book.proofs.Promise.{house-serves}
+use Rattle.table.specs.Numbers.{FirstSets, FollowSets}
+use Rattle.table.specs.Table.{TableOf, FirstConflict, BuiltWithoutConflict}
+use Rattle.table.specs.Calls.{BuildOutcome, conflict, served}
 use Rattle.table.specs.Examples.{houseFirstSets, houseFollowSets, houseTable, conflictedHouseBook, conflictedHouse, nestedBook, nestedGrammar}
 use Rattle.table.proofs.Members.{at-merged, at-column}
 use Rattle.table.proofs.Worked.{placesTest, rowsTest, sets-tested, tableTest, table-tested, claimTest, othersTest, earlierTest, workedFirst, workedFollow, workedUseful, useful-tested, conflict-tested}

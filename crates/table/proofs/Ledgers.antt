@@ -9,9 +9,9 @@ use native.Mathlib.Decide.{ℕ-discrete}
 use native.Mathlib.Omega.{arith}
 use lib.ListN.{length, getD, set, replicate, length-set, length-replicate, getD-replicate}
 use lib.Seq.{getD-set-same, getD-set-other}
-use Rattle.book.specs.declared.Answer.{Answer}
-use Rattle.book.specs.Answers.{done, refusal}
-use Rattle.table.specs.Calls.{over}
+use Rattle.answers.specs.declared.Answer.{Answer}
+use Rattle.answers.specs.Answers.{done, refusal}
+use Rattle.answers.specs.Buffers.{over}
 use Rattle.table.specs.declared.claims.Contest.{Contest}
 use Rattle.table.specs.Claims.{Rivals, AtMostOne, Holds, lowest, vacant, Ledger, Vacancy, Claimed, enters, contests, follows, Settled, contested, uncontested, Tabulated, disputed, written}
 

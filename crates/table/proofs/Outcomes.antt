@@ -6,14 +6,15 @@ use Prim.Native.Nat.{ℕ, _+_, _*_, _≤_, _<_}
 use native.Mathlib.Omega.{arith}
 use lib.ListN.{length}
 use Rattle.grammar.specs.Grammar.{Grammar}
-use Rattle.book.specs.declared.Answer.{Answer}
-use Rattle.book.specs.Answers.{done, refusal}
+use Rattle.answers.specs.declared.Answer.{Answer}
+use Rattle.answers.specs.Answers.{done, refusal}
+use Rattle.answers.specs.Buffers.{over}
 use Rattle.book.specs.Judging.{Refuses, Serves}
+use Rattle.book.proofs.Promise.{refuses-unique, serves-unique, refuses-not-serves}
 use Rattle.table.specs.Numbers.{FirstSets, FollowSets}
 use Rattle.table.specs.Table.{size, TableOf, FirstConflict}
-use Rattle.table.specs.Calls.{over, SetsRoom, no-first, no-follow, SetsFit, SetsOutcome, SetsResult, BuildOutcome, BuildResult}
+use Rattle.table.specs.Calls.{SetsRoom, no-first, no-follow, SetsFit, SetsOutcome, SetsResult, BuildOutcome, BuildResult}
 use Rattle.table.specs.Calls as calls
-use Rattle.book.proofs.Promise.{refuses-unique, serves-unique, refuses-not-serves}
 use Rattle.table.proofs.Unique.{sets-unique, table-unique, conflict-no-table, first-conflict-unique}
 
 -- R allows one outcome at most

@@ -9,11 +9,11 @@ use Rattle.grammar.specs.Grammar.{Every}
 use Rattle.sets.specs.declared.Set.{Set}
 use Rattle.sets.specs.Sets.{emptyString, only}
 use Rattle.sets.specs.Calls.{number}
-use Rattle.book.specs.declared.Answer.{Answer}
+use Rattle.answers.specs.declared.Answer.{Answer}
+use Rattle.answers.specs.Answers.{done, refusal}
+use Rattle.answers.specs.Refusals as refusals
 use Rattle.book.specs.declared.Reading.{Reading}
-use Rattle.book.specs.Answers.{done, refusal}
 use Rattle.book.specs.Judging.{Judged}
-use Rattle.book.specs.Refusals as refusals
 use Rattle.book.proofs.Promise.{judged-refused}
 use Rattle.table.specs.declared.SetAnswer.{SetAnswer}
 use Rattle.table.specs.Trail.{trail, FirstAt}

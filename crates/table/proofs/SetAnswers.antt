@@ -11,8 +11,8 @@ use Rattle.grammar.specs.Grammar.{Form, Grammar, Member, Every, nothing, each, 
 use Rattle.grammar.proofs.Leftmost.{rule-same}
 use Rattle.sets.specs.Calls.{number}
 use Rattle.sets.proofs.Promise.{exactly-unique, number-unique}
-use Rattle.book.specs.declared.Answer.{Answer}
-use Rattle.book.specs.Answers.{refusal}
+use Rattle.answers.specs.declared.Answer.{Answer}
+use Rattle.answers.specs.Answers.{refusal}
 use Rattle.book.specs.Book.{symbolOf}
 use Rattle.book.proofs.Promise.{symbolOf-known, below-rule}
 use Rattle.table.specs.declared.SetAnswer.{SetAnswer}

@@ -10,15 +10,17 @@ use Rattle.grammar.specs.Machine.{Exact}
 use Rattle.grammar.proofs.Join.{Behind}
 use Rattle.sets.specs.Sets.{width, emptyString, member, only, united, columnPlace}
 use Rattle.sets.specs.Calls.{setAt, stored}
-use Rattle.book.specs.declared.Answer.{Answer}
-use Rattle.book.specs.Answers.{done}
+use Rattle.answers.specs.declared.Answer.{Answer}
+use Rattle.answers.specs.Answers.{done}
+use Rattle.answers.specs.Buffers.{over}
 use Rattle.book.specs.Book.{Limits}
 use Rattle.book.specs.Judging.{AllUseful, Refuses, Serves}
+use Rattle.book.proofs.Promise as judged
 use Rattle.table.specs.declared.SetAnswer.{SetAnswer}
 use Rattle.table.specs.Numbers.{IsSet, Sets, FirstSets, FollowSets}
 use Rattle.table.specs.Trail.{trail, Inside, FirstSound, FollowSound, FirstAt, FirstClosed, FollowClosed}
 use Rattle.table.specs.Table.{size, rowAt, ClaimsCell, TableOf, FirstConflict, BuiltWithoutConflict, cellOf, ContestedCell}
-use Rattle.table.specs.Calls.{over, SetsFit, SetsOutcome, SetsResult, BuildOutcome, BuildResult, ReportsConflict, LookaheadOutcome, FirstOutcome}
+use Rattle.table.specs.Calls.{SetsFit, SetsOutcome, SetsResult, BuildOutcome, BuildResult, ReportsConflict, LookaheadOutcome, FirstOutcome}
 use Rattle.table.proofs.Additions as additions
 use Rattle.table.proofs.Closed as closed
 use Rattle.table.proofs.Cells as cells
@@ -26,7 +28,6 @@ use Rattle.table.proofs.Unique as unique
 use Rattle.table.proofs.Outcomes as outcomes
 use Rattle.table.proofs.SetAnswers as answers
 use Rattle.table.proofs.Building as building
-use Rattle.book.proofs.Promise as judged
 
 module _ {g : Grammar} (limits : Limits g) where
   -- each single addition to FIRST is sound

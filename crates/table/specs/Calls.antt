@@ -2,26 +2,23 @@
 -- Document 01, "Refusals and their numbers" and "Sets and table".
 use mathlib.Core.Path.{_≡_}
 use mathlib.Core.Logic.{_≢_}
-use mathlib.Core.List.{List, _++_, map}
+use mathlib.Core.List.{List, map}
 use mathlib.Core.Option.{some}
 use Prim.Native.Nat.{ℕ, _+_, _*_, _<_, _≤_}
-use lib.ListN.{length, drop, getD}
+use lib.ListN.{length, getD}
 use Rattle.grammar.specs.declared.Symbol.{Symbol}
 use Rattle.grammar.specs.Grammar.{Form, Grammar, Member, Rule, First, Lookahead}
 use Rattle.sets.specs.Calls.{number}
-use Rattle.book.specs.declared.Answer.{Answer}
-use Rattle.book.specs.Answers.{done, refusal, noSet}
+use Rattle.answers.specs.Buffers.{over}
+use Rattle.answers.specs.declared.Answer.{Answer}
+use Rattle.answers.specs.Answers.{done, refusal, noSet}
+use Rattle.answers.specs.Refusals.{limit, symbol, room, firstRoom, followRoom, tableRoom}
+use Rattle.answers.specs.Refusals as refusals
 use Rattle.book.specs.Book.{symbolOf}
 use Rattle.book.specs.Judging.{Refuses, Serves}
-use Rattle.book.specs.Refusals.{limit, symbol, room, firstRoom, followRoom, tableRoom}
-use Rattle.book.specs.Refusals as refusals
 use Rattle.table.specs.declared.SetAnswer.{SetAnswer}
 use Rattle.table.specs.Numbers.{IsSet, FirstSets, FollowSets}
 use Rattle.table.specs.Table.{size, TableOf, FirstConflict}
-
--- written from the front, and what stood beyond stays
-abbrev pub over : List ℕ → List ℕ → List ℕ
-over cells buffer = cells ++ drop (length cells) buffer
 
 -- both set buffers have room for N sets, or the first that has not is named
 pub data SetsRoom (g : Grammar) (first follow : List ℕ) : Answer → Type 0 where

@@ -7,10 +7,10 @@ use mathlib.Core.Option.{some}
 use Prim.Native.Nat.{ℕ, _≤_, _<_}
 use lib.ListN.{length, getD}
 use Rattle.grammar.specs.declared.Symbol.{Symbol}
-use Rattle.book.specs.declared.Answer.{Answer}
-use Rattle.book.specs.Answers.{refusal}
+use Rattle.answers.specs.declared.Answer.{Answer}
+use Rattle.answers.specs.Answers.{refusal}
+use Rattle.answers.specs.Refusals as refusals
 use Rattle.book.specs.Book.{symbolOf}
-use Rattle.book.specs.Refusals as refusals
 
 -- an earlier refusal passes through; otherwise the check stops with its own, or goes on
 pub data Checked (before : Answer) (Bad : Answer → Type 0) (Good : Type 0) : Answer → Type 0 where

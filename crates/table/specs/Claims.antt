@@ -8,11 +8,11 @@ use mathlib.Core.List.{List}
 use Prim.Native.Nat.{ℕ, _+_, _*_, _/_, _%_, _≤_, _<_}
 use lib.ListN.{length, getD, set}
 use Rattle.sets.specs.Sets.{member, columnPlace}
-use Rattle.book.specs.declared.Answer.{Answer}
-use Rattle.book.specs.Answers.{done, refusal}
-use Rattle.book.specs.Refusals as refusals
+use Rattle.answers.specs.declared.Answer.{Answer}
+use Rattle.answers.specs.Answers.{done, refusal}
+use Rattle.answers.specs.Refusals as refusals
+use Rattle.answers.specs.Buffers.{over}
 use Rattle.table.specs.declared.claims.Contest.{Contest}
-use Rattle.table.specs.Calls.{over}
 use Rattle.table.specs.Forms.{Readable}
 use Rattle.table.specs.Steps.{leftOf, lookaheadOf}
 

@@ -5,14 +5,15 @@ use mathlib.Core.List.{List}
 use Prim.Native.Nat.{ℕ, _+_, _*_, _≤_}
 use lib.ListN.{length}
 use Rattle.grammar.specs.Grammar.{Grammar}
-use Rattle.book.specs.declared.Answer.{Answer}
+use Rattle.answers.specs.declared.Answer.{Answer}
+use Rattle.answers.specs.Answers.{done, refusal}
+use Rattle.answers.specs.Refusals as refusals
+use Rattle.answers.specs.Buffers.{over}
 use Rattle.book.specs.declared.Reading.{Reading}
-use Rattle.book.specs.Answers.{done, refusal}
 use Rattle.book.specs.Judging.{Serves, indexOf}
-use Rattle.book.specs.Refusals as refusals
 use Rattle.table.specs.Trail.{FirstAt, FollowAt}
 use Rattle.table.specs.Table.{size, TableOf, FirstConflict}
-use Rattle.table.specs.Calls.{over, SetsFit}
+use Rattle.table.specs.Calls.{SetsFit}
 
 -- the reading is the index of the grammar that the book serves
 pub record Given (book : List ℕ) (reading : Reading) : Type 0 where

@@ -1,14 +1,14 @@
 ghost use Rattle.sets.specs.Calls.{Decides};
 ghost use Rattle.table.specs.Checks.{Checked, Roomed, SetsRoomed, Numbered, IsSymbol, Stranger, Unspelled, SymbolString};
-use book::Answer;
-use book::answers::refusal;
-use book::refusals::DONE;
-use book::refusals::FIRST_ROOM;
-use book::refusals::FOLLOW_ROOM;
-use book::refusals::LIMIT;
-use book::refusals::PRODUCTION;
-use book::refusals::ROOM;
-use book::refusals::SYMBOL;
+use answers::Answer;
+use answers::refusal;
+use answers::refusals::DONE;
+use answers::refusals::FIRST_ROOM;
+use answers::refusals::FOLLOW_ROOM;
+use answers::refusals::LIMIT;
+use answers::refusals::PRODUCTION;
+use answers::refusals::ROOM;
+use answers::refusals::SYMBOL;
 
 // The longest symbol string.
 const LONGEST: usize = 16;

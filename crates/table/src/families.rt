@@ -3,7 +3,7 @@ ghost use Prim.Native.Nat.{_≤_, _<_};
 ghost use lib.ListN.{length, take};
 ghost use Rattle.sets.specs.Sets.{width, only};
 ghost use Rattle.sets.specs.Calls.{number};
-ghost use Rattle.table.specs.Calls.{over};
+ghost use Rattle.answers.specs.Buffers.{over};
 ghost use Rattle.table.specs.Steps.{Made, unitedAt};
 use sets::Set;
 use sets::load;

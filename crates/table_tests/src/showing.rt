@@ -1,4 +1,4 @@
-use book::Answer;
+use answers::Answer;
 use book::fields::byte_at;
 use book::fields::length_at;
 use book::fields::place_at;

@@ -4,7 +4,7 @@ use Prim.Native.Nat.{_+_, _-_}
 use native.Mathlib.Omega.{arith}
 use lib.ListN.{length}
 use borrow.Author.Needs.{needs}
-use Rattle.run.specs.Running.{counted}
+use Rattle.answers.specs.Buffers.{counted}
 use Rattle.run.proofs.Unrolling.{Unrolled, unrolled-start, unrolled-stack, unrolled-output, unrolled-height, write-fits, unrolled-write, apply-fits, unrolled-apply, unrolled-close, unfolds-from}
 use Rattle.run.proofs.expanding.unfold_all.Statement.{statement}
 use Rattle.run.proofs.expanding.unfold_all.Tie as tie

@@ -4,8 +4,8 @@ use Prim.Native.Nat.{_-_}
 use native.Mathlib.Omega.{arith}
 use lib.ListN.{length}
 use borrow.Author.Needs.{needs}
+use Rattle.answers.specs.Buffers.{counted}
 use Rattle.run.specs.Moves.{columnIn}
-use Rattle.run.specs.Running.{counted}
 use Rattle.run.proofs.Turning.{finished-length, Turning, UseFits, turning-start, use-fits, turning-use, turning-finish, match-some}
 use Rattle.run.proofs.offering.offer_at.Statement.{statement}
 use Rattle.run.proofs.offering.offer_at.Tie as tie

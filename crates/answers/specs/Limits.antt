@@ -1,0 +1,29 @@
+-- The limits of document 01, each named once: "The book", and "Refusals and their numbers".
+use Prim.Native.Nat.{ℕ}
+
+-- T, N and P of a book, the symbols of a right side or of a symbol string, and the bytes of the longest book
+abbrev pub mostTokens : ℕ
+mostTokens = 62
+
+abbrev pub mostNonterminals : ℕ
+mostNonterminals = 64
+
+abbrev pub mostProductions : ℕ
+mostProductions = 128
+
+abbrev pub mostSymbols : ℕ
+mostSymbols = 16
+
+abbrev pub longestBook : ℕ
+longestBook = 2566
+
+-- the tokens of a string to run, and the productions of a list to expand
+abbrev pub longestString : ℕ
+longestString = 4096
+
+abbrev pub longestList : ℕ
+longestList = 65535
+
+-- how many cells of a lent stack, list or output count
+abbrev pub mostCells : ℕ
+mostCells = 65535

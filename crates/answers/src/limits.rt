@@ -1,0 +1,20 @@
+// The limits of document 01, each named once.
+
+// T, N and P of a book, the symbols of a right side or of a symbol string, and the bytes of the longest book.
+pub const MOST_TOKENS: u8 = 62;
+
+pub const MOST_NONTERMINALS: u8 = 64;
+
+pub const MOST_PRODUCTIONS: u8 = 128;
+
+pub const MOST_SYMBOLS: u8 = 16;
+
+pub const LONGEST_BOOK: usize = 2566;
+
+// The tokens of a string to run, and the productions of a list to expand.
+pub const LONGEST_STRING: usize = 4096;
+
+pub const LONGEST_LIST: usize = 65535;
+
+// How many cells of a lent stack, list or output count.
+pub const MOST_CELLS: usize = 65535;

@@ -1,0 +1,127 @@
+-- What a call that keeps its promise answers and leaves, where the book serves: steps begin, or there is no stack cell.
+use mathlib.Core.Path.{_≡_, refl, ap}
+use mathlib.Core.List.{List}
+use mathlib.Core.Option.{Option}
+use Prim.Native.Nat.{ℕ, _≤_, _<_}
+use native.Mathlib.Decide.{decLt}
+use native.Mathlib.Omega.{arith}
+use lib.ListN.{length, getD}
+use Rattle.grammar.specs.Grammar.{Grammar, Cell, only, vacant}
+use Rattle.grammar.specs.Machine.{Exact}
+use Rattle.answers.specs.declared.Answer.{Answer}
+use Rattle.answers.specs.Answers.{refusal}
+use Rattle.answers.specs.Refusals.{room, stackRoom}
+use Rattle.answers.specs.Buffers.{over, counted, cleared}
+use Rattle.book.specs.Judging.{Refuses, misread, useless-one, Serves}
+use Rattle.table.specs.Table.{rowAt, columnAt, held, TableOf, cellOf}
+use Rattle.table.proofs.Promise.{built-exact}
+use Rattle.machine.specs.Expansion.{expansion}
+use Rattle.machine.specs.Machine.{final}
+use Rattle.run.specs.Expanding.{ExpandOutcome, answeredBy}
+use Rattle.run.specs.Expanding as expanding
+use Rattle.run.specs.Running.{Fits, FitTable, Barred, Admits, RunOutcome, ran, answered, expected}
+use Rattle.run.specs.Running as running
+use Rattle.run.proofs.Promise.{Result, run-outcome-unique, expand-outcome-unique}
+use Rattle.demands.specs.Demands.{Ran, Expanded, Premises}
+
+-- a table of the grammar passes refusal 9
+pub table-fits : {g : Grammar} {table : List ℕ} → TableOf g table → FitTable g table
+table-fits {g} {table} t = record { sized = t .sized; cells = λ i h. go i refl (t .cells i h) }
+  where
+    go : (i : ℕ) {o : Option ℕ} → held (getD table i 255) ≡ o → Cell g (rowAt g i) (columnAt g i) o → Fits g table i
+    go i e (only k one) = running.filled e (k .rule)
+    go i e (vacant n) = running.vacant e
+
+module _ {book table tokens : List ℕ} (h : Premises book table tokens) where
+  -- the premises of demand 3 let steps begin wherever there is a stack cell
+  pub premises-admit : (stack : List ℕ) → 1 ≤ length stack → Admits (h .built .grammar) table tokens stack
+  premises-admit stack k = record { fits = table-fits (h .built .built); short = h .short; known = h .known; stacked = k }
+
+  -- and the machine's cells are the textbook's
+  pub premises-exact : Exact (h .built .grammar) (cellOf (h .built .grammar) table)
+  premises-exact = built-exact (h .built)
+
+-- a run that ended in steps: the machine's answer, a cleared stack, and the productions listed over the list
+pub record EndsRun (g : Grammar) (table tokens stack list : List ℕ) (r : Ran) : Type 0 where
+  pub answer : r .answer ≡ answered (expected g table) (ran g table tokens stack list)
+  pub cleared : r .stack ≡ cleared stack
+  pub written : r .list ≡ over (final (ran g table tokens stack list) .listed) list
+
+-- an expansion that ended in steps
+pub record EndsExpansion (g : Grammar) (list stack output : List ℕ) (r : Expanded) : Type 0 where
+  pub answer : r .answer ≡ answeredBy (expansion g (counted stack) (counted output) list)
+  pub cleared : r .stack ≡ cleared stack
+  pub written : r .output ≡ over (expansion g (counted stack) (counted output) list .progress .written) output
+
+-- steps begin, or there is no stack cell
+pub data RunBegins (g : Grammar) (table tokens stack list : List ℕ) (r : Ran) : Type 0 where
+  stackless : length stack ≡ 0 → r .answer ≡ refusal room 0 stackRoom → r .stack ≡ stack → r .list ≡ list → RunBegins g table tokens stack list r
+  begins : 1 ≤ length stack → EndsRun g table tokens stack list r → RunBegins g table tokens stack list r
+
+pub data ExpansionBegins (g : Grammar) (list stack output : List ℕ) (r : Expanded) : Type 0 where
+  stackless : length stack ≡ 0 → r .answer ≡ refusal room 0 stackRoom → r .stack ≡ stack → r .output ≡ output → ExpansionBegins g list stack output r
+  begins : 1 ≤ length stack → EndsExpansion g list stack output r → ExpansionBegins g list stack output r
+
+module _ (book table tokens stack list : List ℕ) (r : Ran) (o : RunOutcome book table tokens stack list (r .answer) (r .stack) (r .list)) where
+  -- steps begin on every table that passes refusal 9
+  pub run-ends : {g : Grammar} → Serves book g → Admits g table tokens stack → EndsRun g table tokens stack list r
+  run-ends s a =
+      let same = run-outcome-unique book table tokens stack list o (running.ended s a) in
+      record { answer = ap (λ (x : Result). x .0) same; cleared = ap (λ (x : Result). x .1) same; written = ap (λ (x : Result). x .2) same }
+
+  pub run-begins : (h : Premises book table tokens) → RunBegins (h .built .grammar) table tokens stack list r
+  run-begins h = go (decLt 0 (length stack))
+    where
+      go : Dec (0 < length stack) → RunBegins (h .built .grammar) table tokens stack list r
+      go (yes k) = begins (omega arith) (run-ends (h .built .serves) (premises-admit h stack (omega arith)))
+      go (no n) =
+          let none : length stack ≡ 0 = omega arith in
+          let same = run-outcome-unique book table tokens stack list o (running.barred (h .built .serves) (running.no-stack (table-fits (h .built .built)) (h .short) (h .known) none)) in
+          stackless none (ap (λ (x : Result). x .0) same) (ap (λ (x : Result). x .1) same) (ap (λ (x : Result). x .2) same)
+
+refuses-no-steps : {book : List ℕ} {a : Answer} → Refuses book a → a .steps ≡ 0
+unfolding refusal
+refuses-no-steps (misread e) = refl
+refuses-no-steps (useless-one e l) = refl
+
+barred-no-steps : {g : Grammar} {table tokens stack : List ℕ} {a : Answer} → Barred g table tokens stack a → a .steps ≡ 0
+unfolding refusal
+barred-no-steps (running.bad-table m) = refl
+barred-no-steps (running.too-long f h) = refl
+barred-no-steps (running.strange f h s) = refl
+barred-no-steps (running.no-stack f h k e) = refl
+
+-- where steps do not begin, none is counted, and nothing is changed
+pub before-steps : {book table tokens stack list : List ℕ} → ((g : Grammar) → Serves book g → ¬ Admits g table tokens stack) → {a : Answer} {s l : List ℕ} → RunOutcome book table tokens stack list a s l → (a .steps ≡ 0) × (s ≡ stack) × (l ≡ list)
+before-steps n (running.refused r) = (refuses-no-steps r, refl, refl)
+before-steps n (running.barred s b) = (barred-no-steps b, refl, refl)
+before-steps n (running.ended {g = g} s a) = absurd (n g s a)
+
+module _ (book list stack output : List ℕ) (r : Expanded) (o : ExpandOutcome book list stack output (r .answer) (r .stack) (r .output)) {g : Grammar} (s : Serves book g) (short : length list ≤ 65535) where
+  pub expansion-begins : ExpansionBegins g list stack output r
+  expansion-begins = go (decLt 0 (length stack))
+    where
+      go : Dec (0 < length stack) → ExpansionBegins g list stack output r
+      go (yes k) =
+          let same = expand-outcome-unique book list stack output o (expanding.ended s short (omega arith)) in
+          begins (omega arith) (record { answer = ap (λ (x : Result). x .0) same; cleared = ap (λ (x : Result). x .1) same; written = ap (λ (x : Result). x .2) same })
+      go (no n) =
+          let none : length stack ≡ 0 = omega arith in
+          let same = expand-outcome-unique book list stack output o (expanding.no-stack s short none) in
+          stackless none (ap (λ (x : Result). x .0) same) (ap (λ (x : Result). x .1) same) (ap (λ (x : Result). x .2) same)
+
+  -- steps begin wherever there is a stack cell
+  pub expansion-ends : 1 ≤ length stack → EndsExpansion g list stack output r
+  expansion-ends k = go expansion-begins
+    where
+      go : ExpansionBegins g list stack output r → EndsExpansion g list stack output r
+      go (stackless e a b c) = absurd (omega arith)
+      go (begins l e) = e
+
+-- where an expansion's steps do not begin, none is counted, and nothing is changed
+pub expansion-before-steps : {book list stack output : List ℕ} → ((g : Grammar) → Serves book g → length list ≤ 65535 → 1 ≤ length stack → ⊥) → {a : Answer} {s w : List ℕ} → ExpandOutcome book list stack output a s w → (a .steps ≡ 0) × (s ≡ stack) × (w ≡ output)
+unfolding refusal
+expansion-before-steps n (expanding.refused r) = (refuses-no-steps r, refl, refl)
+expansion-before-steps n (expanding.too-long s h) = (refl, refl, refl)
+expansion-before-steps n (expanding.no-stack s h e) = (refl, refl, refl)
+expansion-before-steps n (expanding.ended {g = g} s h k) = absurd (n g s h k)

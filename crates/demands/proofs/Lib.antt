@@ -1,0 +1,12 @@
+pub mod Kept
+pub mod AnyTable
+pub mod Shown
+pub mod RunDemands
+pub mod RunRoom
+pub mod BuildDemands
+pub mod ExpandDemands
+pub mod Demands
+pub mod House
+pub mod Examples
+pub mod Idle
+pub mod Promise

@@ -1,0 +1,122 @@
+-- Demands 2 and 3: first of one call, by what it was lent and what it leaves, then of an outcome function, whoever wrote it.
+-- Document 01, "How much each promise says", and the demands themselves.
+use mathlib.Core.Path.{_≡_}
+use mathlib.Core.Logic.{_↔_, _⊎_}
+use mathlib.Core.List.{List}
+use Prim.Native.Nat.{ℕ, _+_, _<_, _≤_}
+use lib.ListN.{length, take, getD}
+use Rattle.grammar.specs.Grammar.{Grammar, Complete, Conflict}
+use Rattle.grammar.specs.Machine.{Longest}
+use Rattle.answers.specs.declared.Answer.{Answer}
+use Rattle.answers.specs.Refusals.{room, conflict, syntax}
+use Rattle.answers.specs.Buffers.{over, counted}
+use Rattle.book.specs.Judging.{Serves}
+use Rattle.table.specs.Numbers.{FirstSets, FollowSets}
+use Rattle.table.specs.Table.{size, TableOf, BuiltWithoutConflict}
+use Rattle.machine.specs.Room.{peak}
+use Rattle.machine.specs.Machine.{final}
+use Rattle.machine.specs.Expansion.{expansion}
+use Rattle.run.specs.Running.{Admits, ran}
+
+-- what building leaves: the answer, both set buffers, the table
+pub record Built : Type 0 where
+  pub answer : Answer
+  pub first : List ℕ
+  pub follow : List ℕ
+  pub table : List ℕ
+
+-- what a run leaves: the answer, the stack, the list
+pub record Ran : Type 0 where
+  pub answer : Answer
+  pub stack : List ℕ
+  pub list : List ℕ
+
+-- what an expansion leaves: the answer, the stack, the output
+pub record Expanded : Type 0 where
+  pub answer : Answer
+  pub stack : List ℕ
+  pub output : List ℕ
+
+abbrev pub Builder : Type 0
+Builder = (book first follow table : List ℕ) → Built
+
+abbrev pub Runner : Type 0
+Runner = (book table tokens stack list : List ℕ) → Ran
+
+abbrev pub Expander : Type 0
+Expander = (book list stack output : List ℕ) → Expanded
+
+-- a table built without conflict, and a string of at most 4,096 of its tokens
+pub record Premises (book table tokens : List ℕ) : Type 0 where
+  pub built : BuiltWithoutConflict book table
+  pub short : length tokens ≤ 4096
+  pub known : (i : ℕ) → i < length tokens → getD tokens i 0 < built .grammar .tokens
+
+-- the set buffers and the table buffer have room
+pub record BuildRoom (g : Grammar) (first follow table : List ℕ) : Type 0 where
+  pub first-room : g .nonterminals ≤ length first
+  pub follow-room : g .nonterminals ≤ length follow
+  pub table-room : size g ≤ length table
+
+-- demand 2, sets and table: no member missing, none added; a conflict exactly if two productions claim one cell
+pub record BuildMeets2 (book first follow table : List ℕ) (r : Built) : Type 0 where
+  pub conflict-iff : {g : Grammar} → Serves book g → BuildRoom g first follow table → (r .answer .number ≡ conflict) ↔ Conflict g
+  pub done-iff : {g : Grammar} → Serves book g → BuildRoom g first follow table → (r .answer .number ≡ 0) ↔ (¬ Conflict g)
+  pub first-sets : {g : Grammar} → Serves book g → r .answer .number ≡ 0 → FirstSets g (take (g .nonterminals) (r .first))
+  pub follow-sets : {g : Grammar} → Serves book g → r .answer .number ≡ 0 → FollowSets g (take (g .nonterminals) (r .follow))
+  pub cells : {g : Grammar} → Serves book g → r .answer .number ≡ 0 → TableOf g (take (size g) (r .table))
+
+-- demand 2, lists: given room and at most 65,535 productions, a complete list expands to the string it derives
+pub record ExpandMeets2 (book ps stack output : List ℕ) (r : Expanded) : Type 0 where
+  pub expands : {g : Grammar} {w : List ℕ} → Serves book g → (d : Complete g ps w) → length ps ≤ 65535 → peak d ≤ counted stack → length w ≤ counted output → (r .answer .number ≡ 0) × (r .output ≡ over w output)
+
+-- and under demand 3's premises and with room, that string runs back to the list
+pub record RunMeets2 (book table w stack list : List ℕ) (r : Ran) : Type 0 where
+  pub back : {ps : List ℕ} (h : Premises book table w) (d : Complete (h .built .grammar) ps w) → length ps ≤ counted list → peak d ≤ counted stack → (r .answer .number ≡ 0) × (r .list ≡ over ps list)
+
+-- demand 3
+pub record RunMeets3 (book table tokens stack list : List ℕ) (r : Ran) : Type 0 where
+  -- the run accepts only a string that the start symbol derives; the list it gives is the leftmost derivation
+  pub accepts : (h : Premises book table tokens) → r .answer .number ≡ 0 → (ps : List ℕ) × Complete (h .built .grammar) ps tokens × (r .list ≡ over ps list)
+  -- and there is no second one
+  pub only-one : (h : Premises book table tokens) {ps qs : List ℕ} → Complete (h .built .grammar) ps tokens → Complete (h .built .grammar) qs tokens → ps ≡ qs
+  -- a derivable string is refused only for room
+  pub served-or-room : (h : Premises book table tokens) {ps : List ℕ} → Complete (h .built .grammar) ps tokens → (r .answer .number ≡ 0) ⊎ (r .answer .number ≡ room)
+  -- exactly if its derivation has more productions than the list has cells, or the start or a step needs more stack than was lent
+  pub room-iff : (h : Premises book table tokens) {ps : List ℕ} (d : Complete (h .built .grammar) ps tokens) → (r .answer .number ≡ room) ↔ ((counted list < length ps) ⊎ (counted stack < peak d))
+  -- where syntax is the reason, the place is the length of the longest beginning that some derivable string shares
+  pub place : (h : Premises book table tokens) → r .answer .number ≡ syntax → Longest (h .built .grammar) tokens (r .answer .place)
+
+-- steps = productions listed + tokens matched, as the definition's machine counts them, and the list holds those productions; 0 in an answer
+-- before steps
+pub record RunStepsAdd (book table tokens stack list : List ℕ) (r : Ran) : Type 0 where
+  pub sum : {g : Grammar} → Serves book g → Admits g table tokens stack → r .answer .steps ≡ length (final (ran g table tokens stack list) .listed) + final (ran g table tokens stack list) .matched
+  pub listed : {g : Grammar} → Serves book g → Admits g table tokens stack → r .list ≡ over (final (ran g table tokens stack list) .listed) list
+  pub none : ((g : Grammar) → Serves book g → ¬ Admits g table tokens stack) → r .answer .steps ≡ 0
+
+-- steps = productions used + tokens written, as the definition counts them, and the output holds those tokens; 0 in an answer before steps
+pub record ExpandStepsAdd (book list stack output : List ℕ) (r : Expanded) : Type 0 where
+  pub sum : {g : Grammar} → Serves book g → length list ≤ 65535 → 1 ≤ length stack
+      → r .answer .steps ≡ expansion g (counted stack) (counted output) list .progress .used + length (expansion g (counted stack) (counted output) list .progress .written)
+  pub written : {g : Grammar} → Serves book g → length list ≤ 65535 → 1 ≤ length stack
+      → r .output ≡ over (expansion g (counted stack) (counted output) list .progress .written) output
+  pub none : ((g : Grammar) → Serves book g → length list ≤ 65535 → 1 ≤ length stack → ⊥) → r .answer .steps ≡ 0
+
+-- the demands of an outcome function: every call meets them
+pub record Demand2Build (build : Builder) : Type 0 where
+  pub call : (book first follow table : List ℕ) → BuildMeets2 book first follow table (build book first follow table)
+
+pub record Demand2Expand (expand : Expander) : Type 0 where
+  pub call : (book list stack output : List ℕ) → ExpandMeets2 book list stack output (expand book list stack output)
+
+pub record Demand2Back (run : Runner) : Type 0 where
+  pub call : (book table tokens stack list : List ℕ) → RunMeets2 book table tokens stack list (run book table tokens stack list)
+
+pub record Demand3 (run : Runner) : Type 0 where
+  pub call : (book table tokens stack list : List ℕ) → RunMeets3 book table tokens stack list (run book table tokens stack list)
+
+pub record RunStepsSum (run : Runner) : Type 0 where
+  pub call : (book table tokens stack list : List ℕ) → RunStepsAdd book table tokens stack list (run book table tokens stack list)
+
+pub record ExpandStepsSum (expand : Expander) : Type 0 where
+  pub call : (book list stack output : List ℕ) → ExpandStepsAdd book list stack output (expand book list stack output)

@@ -1,0 +1,1 @@
+// The demands, the idle programs and the starred examples: definitions and theorems, no functions.

@@ -1,0 +1,94 @@
+-- What a run promises, one page: each theorem under the sentence that it proves.
+use mathlib.Core.Path.{_≡_, refl, subst}
+use mathlib.Core.Logic.{_↔_, _⊎_}
+use mathlib.Core.List.{List}
+use mathlib.Core.Option.{Option}
+use Prim.Native.Nat.{ℕ, _≤_, _<_}
+use native.Mathlib.Omega.{arith}
+use lib.ListN.{length}
+use Rattle.grammar.specs.Grammar.{Form, Grammar, Column, Derivable, Leftmost, Complete, WellFormed, Useful}
+use Rattle.grammar.specs.Machine.{Exact, Longest}
+use Rattle.grammar.proofs.Theorems.{leftmost-unique, exact-no-conflict, halts}
+use Rattle.machine.specs.Machine.{State, Reason, Offered, taken, stopped, begun, runFrom}
+use Rattle.machine.specs.Room.{peak}
+use Rattle.machine.proofs.Walk.{Syntax, Short, final}
+use Rattle.machine.proofs.Count.{Counted, counted-stack, begun-counted, run-counted, run-grown}
+use Rattle.machine.proofs.Relation.{Rows, Reached, run-reached}
+use Rattle.machine.proofs.Verdict.{Derived, begun-ran, ran-derived, syntax-not-derivable, syntax-place}
+use Rattle.machine.proofs.Peak.{peak-from}
+use Rattle.machine.proofs.Outcome.{whole, Outcome, run-outcome, enough-taken, taken-enough, short-stopped, stopped-short}
+use Rattle.machine.proofs.Enough.{RoomEnough, halted-decides}
+-- the equations of an offer and of a run, case by case
+pub use Rattle.machine.specs.Stopping.{runOf}
+pub use Rattle.machine.proofs.Offer.{offer-match, offer-use, offer-halt, run-taken, run-stopped, run-match, run-use, run-halt}
+-- an offer, and a run from any state, keep the counts right and grow the list at its end
+pub use Rattle.machine.proofs.Count.{offer-counted, offer-grown, run-counted, run-grown}
+-- exact cells hold productions of their rows
+pub use Rattle.machine.proofs.Relation.{exact-rows}
+-- a complete derivation begins with one symbol on the stack
+pub use Rattle.machine.proofs.Peak.{peak-start}
+-- where a run stops for room, its list is a beginning of the derivation and not all of it
+pub use Rattle.machine.proofs.Outcome.{before-listed, before-fewer}
+-- more room does not change what is decided
+pub use Rattle.machine.proofs.Enough.{run-more}
+
+module _ (right : ℕ → Form) (cell : ℕ → Column → Option ℕ) (room cells start : ℕ) (w : List ℕ) where
+  -- whatever the table, the moves are the productions listed and the tokens matched, and the list and the greatest height stay within their room
+  pub run-steps : Counted room cells (final (runFrom right cell room cells w (begun start)))
+  run-steps = run-counted right cell room cells w (begun start) (begun-counted room cells start)
+
+  -- the stack too
+  pub run-stack-fits : 1 ≤ room → length (final (runFrom right cell room cells w (begun start)) .stack) ≤ room
+  run-stack-fits = counted-stack run-steps
+
+  -- no more tokens are matched than there are
+  pub run-inside : final (runFrom right cell room cells w (begun start)) .matched ≤ length w
+  unfolding begun
+  run-inside = let (k, h, g) = run-grown right cell room cells w (begun start) (omega arith) in omega arith
+
+-- two derivations of one list reach one height
+pub peak-same : {g : Grammar} {α : Form} {ps w : List ℕ} (d e : Leftmost g α ps w) → peak d ≡ peak e
+peak-same d e = peak-from d e refl refl
+
+module _ {g : Grammar} {cell : ℕ → Column → Option ℕ} (rows : Rows g cell) (room cells : ℕ) where
+  -- a table that passes refusal 9: the machine makes the moves of the textbook's
+  pub run-relation : (w : List ℕ) → Reached g cell w (final (runOf g cell room cells w))
+  run-relation w = run-reached rows room cells w
+
+  -- and it accepts only what the start derives, and the list is the leftmost derivation
+  pub run-sound : (w : List ℕ) {s : State} → runOf g cell room cells w ≡ taken s → Derived g w s
+  run-sound w e = ran-derived rows (begun-ran (g .start) w e)
+
+module _ {g : Grammar} {cell : ℕ → Column → Option ℕ} (exact : Exact g cell) (room cells : ℕ) where
+  -- a string that stops the run by syntax is not derivable
+  pub run-syntax : (w : List ℕ) {r : Reason} {s : State} → runOf g cell room cells w ≡ stopped r s → Syntax r → ¬ Derivable g w
+  run-syntax w e k = syntax-not-derivable exact (begun-ran (g .start) w e) k
+
+  -- where the run stops by syntax, what is matched is the longest beginning that some derivable string shares
+  pub run-place : WellFormed g → ((A : ℕ) → A < g .nonterminals → Useful g A) → (w : List ℕ) {r : Reason} {s : State} → runOf g cell room cells w ≡ stopped r s → Syntax r → Longest g w (s .matched)
+  run-place well useful w e k = syntax-place exact (begun-ran (g .start) w e) k well useful
+
+  module _ {ps w : List ℕ} (d : Complete g ps w) where
+    -- a derivable string is taken with its derivation, if list and stack have room for that
+    pub run-complete : length ps ≤ cells → peak d ≤ room → runOf g cell room cells w ≡ taken (whole d)
+    run-complete l k = enough-taken (run-outcome exact (omega (arith, peak-start d)) d) l k
+
+    -- with a stack cell it is taken, or stops right before the first production for which list or stack has no room
+    pub run-room : 1 ≤ room → Outcome room cells d (runOf g cell room cells w)
+    run-room h = run-outcome exact h d
+
+    -- taken exactly if there is room for the whole derivation
+    pub run-taken-iff : 1 ≤ room → ((s : State) × (runOf g cell room cells w ≡ taken s)) ↔ ((length ps ≤ cells) × (peak d ≤ room))
+    run-taken-iff h = (λ t. taken-enough (subst (λ (o : Offered). Outcome room cells d o) (t .1) (run-room h)), λ k. (whole d, run-complete (k .0) (k .1)))
+
+    -- and stopped for room exactly if there is not
+    pub run-short-iff : 1 ≤ room → ((r : Reason) × (s : State) × Short r × (runOf g cell room cells w ≡ stopped r s)) ↔ ((cells < length ps) ⊎ (room < peak d))
+    run-short-iff h = (λ t. stopped-short (subst (λ (o : Offered). Outcome room cells d o) (t .3) (run-room h)), λ k. short-stopped (run-room h) k)
+
+  -- the list of a string that is taken is its only leftmost derivation
+  pub run-unique-list : (w : List ℕ) {s : State} → runOf g cell room cells w ≡ taken s → {qs : List ℕ} → Complete g qs w → qs ≡ s .listed
+  run-unique-list w e d = leftmost-unique (exact-no-conflict exact) d (run-sound (exact-rows exact) room cells w e .complete)
+
+-- for every string there is room enough that it is taken or stops by syntax
+pub run-halts : {g : Grammar} {cell : ℕ → Column → Option ℕ} → Exact g cell → (w : List ℕ) → RoomEnough g cell w
+run-halts exact w = halted-decides (halts exact w)

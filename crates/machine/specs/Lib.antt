@@ -1,0 +1,4 @@
+pub mod Machine
+pub mod Room
+pub mod Expansion
+pub mod Stopping
