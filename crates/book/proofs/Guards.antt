@@ -10,7 +10,7 @@ use borrow.Author.Tests.{lt-ltb, le-ltb, ltb-true, ltb-false, not-true, not-fals
 use Rattle.answers.specs.Refusals.{symbol}
 use Rattle.book.specs.declared.Verdict.{Verdict}
 use Rattle.book.specs.declared.Verdict.the-variants.{Next, Bad}
-use Rattle.book.specs.Positional.{andThen, within, withinAt, isSymbol, checkedAt, wantedFrom, symbolFrom, symbolsFrom, cutOff, recordFrom, eachRecordFrom}
+use Rattle.book.specs.Positional.{andThen, within, withinAt, checkedAt, wantedFrom, symbolFrom, symbolsFrom, cutOff, recordFrom, eachRecordFrom, isSymbol}
 use Rattle.book.proofs.Turns.{symbols-turn, records-turn}
 use Rattle.book.proofs.Checked.{Passes, by-cases, checked-right, checked-wrong, checked-short, symbols-pass, records-pass}
 

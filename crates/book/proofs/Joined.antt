@@ -1,40 +1,47 @@
 -- The consuming reader and its positional mirror come to the same verdict; `read-is` is what the code cites.
 -- `next` is what the consuming reader does after a part, and `K` what the mirror does after it.
-use mathlib.Core.Path.{_≡_, refl, ap, _∙_}
+use mathlib.Core.Path.{_≡_, refl, sym, ap, _∙_}
 use mathlib.Core.Bool.{Bool, true, false}
 use mathlib.Core.List.{List, [], _∷_}
-use mathlib.Core.Option.{some, none}
+use mathlib.Core.Option.{none, Option·none-ne-some}
 use Prim.Native.Nat.{ℕ, zero, suc, _-_, _≤_, _<_, zero-le}
 use native.Mathlib.Omega.{arith}
 use lib.Dec.{ltb}
 use lib.ListN.{length, getD, drop, drop-of-length-le}
 use lib.Seq.{drop-cons}
 use borrow.Author.Tests.{ltb-true, ltb-false}
-use Rattle.grammar.specs.declared.Symbol.{Symbol}
 use Rattle.grammar.specs.declared.Symbol.the-variants.{Token, Nonterminal}
 use Rattle.grammar.specs.Grammar.{Form, Production, Grammar}
+use Rattle.sets.specs.Calls.{Decides}
+use Rattle.sets.proofs.Promise.{decided, decides-unique}
 use Rattle.answers.specs.Refusals.{short, mark, limit, symbol}
 use Rattle.book.specs.declared.Verdict.{Verdict}
 use Rattle.book.specs.declared.Verdict.the-variants.{Next, Bad}
-use Rattle.book.specs.Book.{refused, Rest, wanted, marked, symbolOf, symbols, records, ending, spells}
+use Rattle.book.specs.Book.{refused, Rest, wanted, marked, symbolOf, IsSymbol, symbols, records, ending, spells}
 use Rattle.book.specs.Verdicts.{told, verdictOf, placeOf}
-use Rattle.book.specs.Positional.{andThen, nextByte, within, isSymbol, checkedAt, wantedFrom, symbolFrom, symbolsFrom, markedFrom, rightFrom, recordFrom, eachRecordFrom, resumedAt, headerFrom, recordsFrom, endFrom}
+use Rattle.book.specs.Positional.{andThen, nextByte, within, checkedAt, wantedFrom, symbolFrom, symbolsFrom, markedFrom, rightFrom, recordFrom, eachRecordFrom, resumedAt, headerFrom, recordsFrom, endFrom, isSymbol}
 use Rattle.book.proofs.Checked.{Passes, by-cases, checked-right, checked-wrong, checked-short, symbols-pass, records-pass}
 
 module _ (T N : ℕ) where
-  symbol-known : (byte : ℕ) → isSymbol T N byte ≡ true → (s : Symbol) × (symbolOf T N byte ≡ some s)
+  pub symbol-known : (byte : ℕ) → isSymbol T N byte ≡ true → IsSymbol T N byte
   unfolding isSymbol symbolOf
   symbol-known byte e =
       by-cases (ltb byte T)
       (λ t. (Token byte, rw (symbolOf, t)))
       (λ t. (Nonterminal (byte - 128), rw (symbolOf, t, rw (isSymbol, t) at e)))
 
-  symbol-unknown : (byte : ℕ) → isSymbol T N byte ≡ false → symbolOf T N byte ≡ none
+  pub symbol-unknown : (byte : ℕ) → isSymbol T N byte ≡ false → symbolOf T N byte ≡ none
   unfolding isSymbol symbolOf
   symbol-unknown byte e =
       by-cases (ltb byte T)
       (λ t. let differ : true ≡ false = rw (isSymbol, t) at e in cc)
       (λ t. rw (symbolOf, t, rw (isSymbol, t) at e))
+
+  -- what tells whether a byte is a symbol is the code's test
+  pub told-symbol : (byte : ℕ) {r : Bool} → Decides r (IsSymbol T N byte) → r ≡ isSymbol T N byte
+  told-symbol byte {r} told =
+      decides-unique (IsSymbol T N byte) r (isSymbol T N byte) told
+      (decided (isSymbol T N byte) (symbol-known byte) (λ known. by-cases (isSymbol T N byte) (λ t. t) (λ f. absurd (Option·none-ne-some (known .0) (sym (symbol-unknown byte f) ∙ known .1)))))
 
 module _ (b : List ℕ) where
   -- the consuming reader, put at a place of the book, comes to a verdict

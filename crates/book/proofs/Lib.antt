@@ -19,6 +19,7 @@ pub mod Index
 pub mod Sides
 pub mod Outcome
 pub mod Unique
+pub mod Forms
 pub mod Promise
 pub mod Tools
 pub mod Examples

@@ -19,6 +19,8 @@ use Rattle.book.specs.Judging.{refusing, indexOf, Refuses, misread, usel
 use Rattle.book.proofs.Index.{record-indexed, symbol-indexed, place-fits, place-within, placesIn-length}
 use Rattle.book.proofs.Order.{Fault, bad-mark, extra-byte, over-limit, not-a-symbol}
 pub use Rattle.book.proofs.Bytes.{symbolOf-known}
+pub use Rattle.book.proofs.Forms.{form-next, form-turn, form-past, form-none, form-dropped, every-in, form-spelled}
+pub use Rattle.book.proofs.Forms.{symbol-token, symbol-nonterminal, byte-of-symbol, symbol-low, symbol-high, symbol-none}
 pub use Rattle.book.proofs.Written.{read-limits}
 pub use Rattle.book.proofs.Longest.{judged-by-first, refused-within}
 pub use Rattle.book.proofs.Examples.{house-reads, house-serves, useless-refused}

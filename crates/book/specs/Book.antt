@@ -33,6 +33,10 @@ marked one other next = wanted one (suc one) mark (λ _. wanted other (suc other
 unfoldable pub symbolOf : (T N : ℕ) → ℕ → Option Symbol
 symbolOf T N b = elim (ltb b T) [ true ↦ some (Token b) | false ↦ elim (leb 128 b && ltb (b - 128) N) [ true ↦ some (Nonterminal (b - 128)) | false ↦ none ] ]
 
+-- a byte is a symbol of a grammar with T tokens and N nonterminals
+abbrev pub IsSymbol : (T N : ℕ) → ℕ → Type 0
+IsSymbol T N byte = (s : Symbol) × (symbolOf T N byte ≡ some s)
+
 unfoldable pub symbols : (T N : ℕ) → ℕ → (Form → Rest) → Rest
 symbols T N zero next bs at = next [] bs at
 symbols T N (suc l) next [] at = refused short at

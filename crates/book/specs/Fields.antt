@@ -6,6 +6,7 @@ use Prim.Native.Nat.{ℕ, zero, suc, _+_, _-_, min}
 use lib.Dec.{ltb}
 use lib.ListN.{getD, replicate}
 use lib.Seq.{sets}
+use Rattle.grammar.specs.Grammar.{Form}
 use Rattle.grammar.specs.declared.Symbol.{Symbol}
 use Rattle.grammar.specs.declared.Symbol.the-variants.{Token, Nonterminal}
 
@@ -42,3 +43,16 @@ placesFrom b (suc count) p = placeOfRecord b p ∷ placesFrom b count (suc p)
 -- the places of the first records, at most 128, and 0 in each cell beyond them
 unfoldable pub placesOf : List ℕ → ℕ → List ℕ
 placesOf b count = sets (replicate 128 0) 0 (placesFrom b (min count 128) 0)
+
+-- so many bytes from a place on, as symbols
+unfoldable pub formIn : List ℕ → (from count : ℕ) → Form
+formIn bytes from zero = []
+formIn bytes from (suc count) = symbolOfByte (getD bytes from 0) ∷ formIn bytes (suc from) count
+
+-- the right side of the record at a place
+abbrev pub rightAt : List ℕ → ℕ → Form
+rightAt book place = formIn book (place + 4) (lengthAt book place)
+
+-- the right side from a position on
+abbrev pub tailAt : List ℕ → (place from : ℕ) → Form
+tailAt book place from = formIn book (place + 4 + from) (lengthAt book place - from)

@@ -1,6 +1,8 @@
 ghost use mathlib.Core.Path.{_≡_};
 ghost use Prim.Native.Nat.{_+_, min};
 ghost use lib.ListN.{getD};
+ghost use Rattle.sets.specs.Calls.{Decides};
+ghost use Rattle.book.specs.Book.{byteOf, IsSymbol};
 ghost use Rattle.book.specs.Fields.{leftAt, lengthAt, symbolAt, symbolOfByte};
 use grammar::Symbol;
 
@@ -81,6 +83,27 @@ pub fn symbol_at(book: &[u8], at: usize, i: usize) -> Symbol
         symbol_of(byte_at(book, at, SYMBOLS + i))
     } else {
         Symbol::Token(0)
+    }
+}
+
+// The byte of symbol `i` of the right side of the record at `at`; 0 past the end.
+pub fn symbol_byte(book: &[u8], at: u16, i: u8) -> u8
+    ensures { λ r. ⌜ r ≡ byteOf (symbolAt (now (book .entry)) at i) ⌝ }
+{
+    let place = at as usize + SYMBOLS + i as usize;
+    if place < book.len() { book[place] } else { 0 }
+}
+
+// A token below `t`, or 128 and a nonterminal below `n`.
+pub fn is_symbol(byte: u8, t: u8, n: u8) -> bool
+    ensures { λ r. ⌜ Decides r (IsSymbol t n byte) ⌝ }
+{
+    if byte < t {
+        true
+    } else if byte < 128 {
+        false
+    } else {
+        byte - 128 < n
     }
 }
 

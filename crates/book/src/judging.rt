@@ -3,21 +3,21 @@ ghost use Rattle.grammar.specs.Grammar.{Grammar};
 ghost use Rattle.book.specs.Book.{spells, reads};
 ghost use Rattle.book.specs.Judging.{Judged};
 ghost use Rattle.book.specs.Judging as judging;
-use answers::Answer;
 use crate::Reading;
 use crate::Verdict;
-use answers::done;
-use answers::refusal;
 use crate::fields::NONTERMINALS;
 use crate::fields::PRODUCTIONS;
 use crate::fields::START;
 use crate::fields::TOKENS;
 use crate::fields::byte_at;
 use crate::fields::cells_for;
-use answers::refusals::USELESS;
 use crate::useful::first_useless;
 use crate::useful::survey;
 use crate::walk::read;
+use answers::Answer;
+use answers::done;
+use answers::refusal;
+use answers::refusals::USELESS;
 
 // On a refusal every other field is 0.
 fn refusing(answer: Answer) -> Reading

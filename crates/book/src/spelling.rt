@@ -4,7 +4,7 @@ ghost use Prim.Native.Nat.{ℕ, _+_, _-_, _≤_};
 ghost use lib.Dec.{ltb};
 ghost use Rattle.book.specs.declared.Verdict.the-variants.{Next};
 ghost use Rattle.book.specs.Verdicts.{placeOf};
-ghost use Rattle.book.specs.Positional.{within, withinAt, isSymbol, checkedAt, symbolsFrom, cutOff, headAt, recordFrom, eachRecordFrom};
+ghost use Rattle.book.specs.Positional.{within, withinAt, checkedAt, symbolsFrom, cutOff, headAt, recordFrom, eachRecordFrom};
 ghost use Rattle.book.specs.Positional.{headerFrom, recordsFrom, endFrom};
 use crate::Verdict;
 use crate::fields::LEFT;
@@ -15,6 +15,7 @@ use crate::fields::START;
 use crate::fields::SYMBOLS;
 use crate::fields::TOKENS;
 use crate::fields::byte_at;
+use crate::fields::is_symbol;
 use answers::refusals::EXTRA;
 use answers::refusals::LIMIT;
 use answers::refusals::MARK;
@@ -57,17 +58,6 @@ fn is_within(book: &[u8], at: usize, more: usize, low: u8, high: u8) -> bool
         lies_in(book[at + more], low, high)
     } else {
         false
-    }
-}
-
-// A token below `t`, or 128 and a nonterminal below `n`.
-fn is_symbol(byte: u8, t: u8, n: u8) -> bool
-    ensures { λ r. ⌜ r ≡ isSymbol t n byte ⌝ }
-{
-    if byte < t {
-        true
-    } else {
-        if 128 <= byte { byte - 128 < n } else { false }
     }
 }
 

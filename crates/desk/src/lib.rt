@@ -3,8 +3,8 @@
 ghost use Rattle.desk.specs.Desk.{JudgeCall, SetsCall, BuildCall, RunCall, ExpandCall, LookaheadCall, FirstCall};
 use crate::words::ANSWER_SIZE;
 use crate::words::write_answer;
-use book::judging::judge;
 use answers::refusals::ROOM;
+use book::judging::judge;
 use run::expanding::expand;
 use run::running::run;
 

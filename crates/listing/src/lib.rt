@@ -10,9 +10,9 @@ use crate::lines::grammar_line;
 use crate::lines::refused_line;
 use crate::lines::row_lines;
 use crate::lines::set_lines;
+use answers::refusals::DONE;
 use book::Reading;
 use book::judging::judge;
-use answers::refusals::DONE;
 use table::build;
 
 mod lines;

@@ -10,14 +10,14 @@ use Rattle.grammar.specs.Grammar.{Form, Column, token, Every}
 use Rattle.grammar.specs.declared.Symbol.the-variants.{Token}
 use Rattle.grammar.specs.declared.Symbol.{Symbol}
 use Rattle.answers.specs.Buffers.{over, counted}
-use Rattle.table.specs.Forms.{formIn}
+use Rattle.book.specs.Fields.{formIn}
 use Rattle.machine.specs.Machine.{State, Reason, full-list, full-stack, wants-end, wants-token, wants-row, Offered, taken, stopped, popped, replaced, offer, final}
 use Rattle.machine.proofs.Offer.{offer-match, offer-use, offer-halt}
 use Rattle.machine.proofs.Walk.{Halt}
 use Rattle.run.specs.Moves.{Chosen}
 use Rattle.run.specs.Offering.{Spelled, Holds, Offering, finished, finishedStack}
 use Rattle.run.specs.Resuming.{causeOf, progressOf, reported}
-use Rattle.run.specs.Stack.{bytesOf, spelledBy}
+use Rattle.run.specs.Stack.{stackBytes, spelledBy}
 use Rattle.run.specs.declared.Ending.{Ending}
 use Rattle.run.specs.declared.Move.the-variants.{Use, Finish}
 use Rattle.run.specs.declared.Move.{Move}
@@ -68,7 +68,7 @@ module _ {s : State} {at : Progress} {stack₀ list₀ stack list : List ℕ} (h
 
   -- the symbol on top gives way to the right side of production p, which is listed
   holds-use : (book : List ℕ) (from count p : ℕ) {x : Symbol} {α β : Form} → s .stack ≡ x ∷ α → β ≡ formIn book from count → length (s .listed) < counted list₀ → length (β ++ α) ≤ counted stack₀
-      → Holds (replaced p (β ++ α) s) (record { height = at .height - 1 + count; listed = at .listed + 1; matched = at .matched }) stack₀ list₀ (sets (set stack (at .height - 1) 0) (at .height - 1) (bytesOf (formIn book from count))) (set list (at .listed) p)
+      → Holds (replaced p (β ++ α) s) (record { height = at .height - 1 + count; listed = at .listed + 1; matched = at .matched }) stack₀ list₀ (sets (set stack (at .height - 1) 0) (at .height - 1) (stackBytes (formIn book from count))) (set list (at .listed) p)
   unfolding replaced
   holds-use book from count p {x} {α} {β} e side room fits =
       let n : at .height ≡ suc (length α) = h .height ∙ ap length e in
@@ -111,10 +111,10 @@ module _ (right : ℕ → Form) (cell : ℕ → Column → Option ℕ) (c : Colu
     counts-left = omega (arith, w .holds .listed, w .holds .list-room)
 
     pub walking-use : (book : List ℕ) (from count : ℕ) {p : ℕ} → right p ≡ formIn book from count → Chosen right cell (counted stack₀) (counted list₀) c (spelledBy stack (at .height)) (at .listed) (Use p)
-        → Walking (record { height = at .height - 1 + count; listed = at .listed + 1; matched = at .matched }) (sets (set stack (at .height - 1) 0) (at .height - 1) (bytesOf (formIn book from count))) (set list (at .listed) p)
+        → Walking (record { height = at .height - 1 + count; listed = at .listed + 1; matched = at .matched }) (sets (set stack (at .height - 1) 0) (at .height - 1) (stackBytes (formIn book from count))) (set list (at .listed) p)
     walking-use book from count {p} side k = go (chosen-by k)
       where
-        go : Chosen right cell (counted stack₀) (counted list₀) c (w .state .stack) (length (w .state .listed)) (Use p) → Walking (record { height = at .height - 1 + count; listed = at .listed + 1; matched = at .matched }) (sets (set stack (at .height - 1) 0) (at .height - 1) (bytesOf (formIn book from count))) (set list (at .listed) p)
+        go : Chosen right cell (counted stack₀) (counted list₀) c (w .state .stack) (length (w .state .listed)) (Use p) → Walking (record { height = at .height - 1 + count; listed = at .listed + 1; matched = at .matched }) (sets (set stack (at .height - 1) 0) (at .height - 1) (stackBytes (formIn book from count))) (set list (at .listed) p)
         go (Chosen.uses {β = β} e f l m) =
             let one : counted list₀ - at .listed ≡ suc (counted list₀ - (at .listed + 1)) = omega (arith, w .holds .listed) in
             record {

@@ -13,6 +13,7 @@ use Rattle.grammar.specs.Machine.{front}
 use Rattle.grammar.specs.declared.Symbol.the-variants.{Nonterminal}
 use Rattle.answers.specs.Buffers.{over, counted, cleared}
 use Rattle.book.specs.Fields.{symbolOfByte}
+use Rattle.book.specs.Book.{byteOf}
 use Rattle.table.specs.Table.{cellOf}
 use Rattle.machine.specs.Machine.{State, Reason, Offered, taken, stopped, begun, offer, runFrom}
 use Rattle.machine.specs.Room.{rightOf}
@@ -24,7 +25,7 @@ use Rattle.run.specs.Moves.{columnIn, outlined}
 use Rattle.run.specs.Offering.{Spelled, Holds, Ready, Offering}
 use Rattle.run.specs.Resuming.{progressOf, reported}
 use Rattle.run.specs.Running.{ran}
-use Rattle.run.specs.Stack.{byteOf, bytesOf, stacked}
+use Rattle.run.specs.Stack.{stackBytes, stacked}
 use Rattle.run.specs.declared.Ahead.the-variants.{Next, End}
 use Rattle.run.specs.declared.Cause.{Cause}
 use Rattle.run.specs.declared.Outline.{Outline}
@@ -70,7 +71,7 @@ unfolding byteOf symbolOfByte
 nonterminal-spelled A = let h : 128 ≤ 128 + A = omega arith in let same : 128 + A - 128 ≡ A = omega arith in record { same = rw (le-ltb (128 + A) 128 h, symbolOfByte, same) }
 
 pub begun-cells : (A : ℕ) (stack : List ℕ) → 1 ≤ length stack → set stack 0 (128 + A) ≡ stacked (Nonterminal A ∷ []) 1 (set stack 0 (128 + A))
-unfolding stacked bytesOf byteOf
+unfolding stacked stackBytes byteOf
 begun-cells A [] h = absurd (omega arith)
 begun-cells A (x ∷ stack) h = refl
 

@@ -9,13 +9,13 @@ use lib.Seq.{sets, length-sets}
 use Rattle.grammar.specs.Grammar.{Form, Column}
 use Rattle.grammar.specs.declared.Symbol.{Symbol}
 use Rattle.answers.specs.Buffers.{counted}
+use Rattle.book.specs.Fields.{formIn}
 use Rattle.table.specs.Table.{cellOf}
-use Rattle.table.specs.Forms.{formIn}
 use Rattle.machine.specs.Machine.{State}
 use Rattle.machine.specs.Room.{rightOf}
 use Rattle.run.specs.Moves.{outlined, RightSide, Chosen}
 use Rattle.run.specs.Offering.{Holds, Ready, Offering, finished, finishedStack}
-use Rattle.run.specs.Stack.{bytesOf, spelledBy}
+use Rattle.run.specs.Stack.{stackBytes, spelledBy}
 use Rattle.run.specs.declared.Ending.the-variants.{Accept, Match, Stop}
 use Rattle.run.specs.declared.Ending.{Ending}
 use Rattle.run.specs.declared.Move.the-variants.{Use, Finish}
@@ -85,7 +85,7 @@ module _ (book places : List ℕ) (o : Outline) (table : List ℕ) (c : Column) 
             record { some-symbol = some-symbol; list-left = l; stack-left = omega arith }
 
     pub turning-use : {m : Move} {p count place : ℕ} {after : List ℕ} → RightSide book places o p count → Chosen right cell (counted stack) cells c (spelledBy stack height) listed m → m ≡ Use p
-        → place ≡ getD places p 0 → after ≡ sets (set stack (height - 1) 0) (height - 1) (bytesOf (formIn book (place + 4) count)) → Turning after (set list listed p) (height - 1 + count) (listed + 1)
+        → place ≡ getD places p 0 → after ≡ sets (set stack (height - 1) 0) (height - 1) (stackBytes (formIn book (place + 4) count)) → Turning after (set list listed p) (height - 1 + count) (listed + 1)
     turning-use {p = p} {count = count} side k same at e =
         let fits = use-fits side k same in
         record {

@@ -9,13 +9,13 @@ use lib.Seq.{sets, drop-nil}
 use Rattle.grammar.specs.Grammar.{Form, Grammar, Every, nothing, each}
 use Rattle.grammar.specs.declared.Symbol.the-variants.{Token, Nonterminal}
 use Rattle.answers.specs.Buffers.{over, counted}
-use Rattle.table.specs.Forms.{formIn}
+use Rattle.book.specs.Fields.{formIn}
 use Rattle.machine.specs.Expansion.{opened, expansion, Course, Upshot, complete, unfit, full-stack, full-output, Expansion, ended, wrote, applied, expandFrom}
 use Rattle.machine.specs.Room.{rightOf, isOf}
 use Rattle.machine.proofs.ExpandMoves.{finished-is, left-over-is, too-short-is, misfit-is, no-stack-is, apply-is, no-output-is, write-is}
 use Rattle.run.specs.Moves.{outlined, RightSide}
 use Rattle.run.specs.Offering.{Spelled}
-use Rattle.run.specs.Stack.{bytesOf, spelledBy, stacked}
+use Rattle.run.specs.Stack.{stackBytes, spelledBy, stacked}
 use Rattle.run.specs.Turns.{Turns, finaleOf, unfolded, Unfolds}
 use Rattle.run.specs.declared.Finale.{Finale}
 use Rattle.run.specs.declared.Outline.{Outline}
@@ -147,7 +147,7 @@ module _ (book places : List ℕ) (o : Outline) (list stack₀ output₀ : List 
               record { some-symbol = omega (arith, u .height-is, ap length e); list-left = drop-next list used f .1; stack-left = omega (arith, u .height-is, ap length e, length-append (right p) β) }
 
       pub unrolled-apply : {m : Turn} {p count place : ℕ} {after : List ℕ} → RightSide book places o p count → Turns fits right (counted stack) cells (drop used list) (spelledBy stack height) written m → m ≡ Apply p
-          → place ≡ getD places p 0 → after ≡ sets (set stack (height - 1) 0) (height - 1) (bytesOf (formIn book (place + 4) count)) → Unrolled after output (height - 1 + count) (used + 1) written
+          → place ≡ getD places p 0 → after ≡ sets (set stack (height - 1) 0) (height - 1) (stackBytes (formIn book (place + 4) count)) → Unrolled after output (height - 1 + count) (used + 1) written
       unfolding applied
       unrolled-apply {p = p} {count = count} {after = after} side k same at cells-are = go (by-form k same)
         where

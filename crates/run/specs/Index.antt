@@ -5,8 +5,7 @@ use Prim.Native.Nat.{ℕ, zero, suc, _%_}
 use lib.ListN.{getD}
 use Rattle.grammar.specs.Grammar.{Production, Grammar}
 use Rattle.book.specs.declared.Reading.{Reading}
-use Rattle.book.specs.Fields.{leftAt}
-use Rattle.table.specs.Forms.{rightAt}
+use Rattle.book.specs.Fields.{leftAt, rightAt}
 
 -- the production whose record stands at a place
 unfoldable pub productionAt : List ℕ → ℕ → Production

@@ -8,9 +8,10 @@ use Rattle.grammar.specs.Grammar.{Every}
 use Rattle.grammar.specs.declared.Symbol.{Symbol}
 use Rattle.answers.specs.Buffers.{over, counted}
 use Rattle.book.specs.Fields.{symbolOfByte}
+use Rattle.book.specs.Book.{byteOf}
 use Rattle.machine.specs.Machine.{State, Offered, final}
 use Rattle.run.specs.Resuming.{progressOf, reported}
-use Rattle.run.specs.Stack.{byteOf, stacked}
+use Rattle.run.specs.Stack.{stacked}
 use Rattle.run.specs.declared.Ending.the-variants.{Accept, Match, Stop}
 use Rattle.run.specs.declared.Ending.{Ending}
 use Rattle.run.specs.declared.Progress.{Progress}

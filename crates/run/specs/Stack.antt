@@ -4,18 +4,13 @@ use mathlib.Core.List.{List, [], _∷_, _++_}
 use Prim.Native.Nat.{ℕ, zero, suc, _+_, _-_}
 use lib.ListN.{length, getD, drop, replicate}
 use Rattle.grammar.specs.Grammar.{Form}
-use Rattle.grammar.specs.declared.Symbol.the-variants.{Token, Nonterminal}
-use Rattle.grammar.specs.declared.Symbol.{Symbol}
+use Rattle.book.specs.Book.{byteOf}
 use Rattle.book.specs.Fields.{symbolOfByte}
 
-unfoldable pub byteOf : Symbol → ℕ
-byteOf (Token t) = t
-byteOf (Nonterminal A) = 128 + A
-
 -- the bytes of a stack, from the bottom up
-unfoldable pub bytesOf : Form → List ℕ
-bytesOf [] = []
-bytesOf (x ∷ α) = bytesOf α ++ (byteOf x ∷ [])
+unfoldable pub stackBytes : Form → List ℕ
+stackBytes [] = []
+stackBytes (x ∷ α) = stackBytes α ++ (byteOf x ∷ [])
 
 -- the stack that the first cells spell, top first
 unfoldable pub spelledBy : List ℕ → ℕ → Form
@@ -24,4 +19,4 @@ spelledBy cells (suc height) = symbolOfByte (getD cells height 0) ∷ spelledBy 
 
 -- a stack in a buffer of which so many cells have been in use: those that are no more are 0, and what stood beyond stays
 unfoldable pub stacked : Form → ℕ → List ℕ → List ℕ
-stacked α height buffer = bytesOf α ++ (replicate (height - length α) 0 ++ drop height buffer)
+stacked α height buffer = stackBytes α ++ (replicate (height - length α) 0 ++ drop height buffer)

@@ -13,12 +13,12 @@ use crate::turns::is_of;
 use answers::Answer;
 use answers::done;
 use answers::refusal;
-use book::fields::LEFT;
 use answers::refusals::LIMIT;
 use answers::refusals::ROOM;
 use answers::refusals::STACK_ROOM;
 use answers::refusals::TABLE;
 use answers::refusals::TOKEN;
+use book::fields::LEFT;
 use table::VACANT;
 
 // The most tokens that a run takes.

@@ -18,17 +18,17 @@ use crate::turns::turn_at;
 use answers::Answer;
 use answers::done;
 use answers::refusal;
-use answers::stop;
-use book::fields::LEFT;
-use book::fields::LENGTH;
-use book::fields::place_at;
-use book::judging::judge;
 use answers::refusals::DONE;
 use answers::refusals::LIMIT;
 use answers::refusals::OUTPUT_ROOM;
 use answers::refusals::PRODUCTION;
 use answers::refusals::ROOM;
 use answers::refusals::STACK_ROOM;
+use answers::stop;
+use book::fields::LEFT;
+use book::fields::LENGTH;
+use book::fields::place_at;
+use book::judging::judge;
 use sets::none;
 
 // The most productions that an expansion takes.

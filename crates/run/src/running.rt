@@ -20,13 +20,13 @@ use crate::moves::gather;
 use crate::moves::outline_of;
 use crate::offering::offer_at;
 use answers::Answer;
-use book::Reading;
 use answers::refusal;
-use book::fields::LENGTH;
-use book::judging::judge;
 use answers::refusals::DONE;
 use answers::refusals::ROOM;
 use answers::refusals::STACK_ROOM;
+use book::Reading;
+use book::fields::LENGTH;
+use book::judging::judge;
 
 // What comes after the first i tokens.
 pub(crate) fn ahead_of(tokens: &[u8], i: usize) -> Ahead

@@ -3,8 +3,9 @@ ghost use Prim.Native.Nat.{_+_, _^_, _≤_, _<_};
 ghost use lib.ListN.{length, set};
 ghost use lib.Seq.{sets};
 ghost use Rattle.book.specs.Fields.{symbolAt};
-ghost use Rattle.table.specs.Forms.{formIn};
-ghost use Rattle.run.specs.Stack.{byteOf, bytesOf};
+ghost use Rattle.book.specs.Fields.{formIn};
+ghost use Rattle.book.specs.Book.{byteOf};
+ghost use Rattle.run.specs.Stack.{stackBytes};
 use book::fields::SYMBOLS;
 
 // The byte of symbol `i` of the record at `at`.
@@ -19,7 +20,7 @@ fn symbol_byte(book: &[u8], at: u16, i: usize) -> u8
 // The right side of the record at `at` is put on the stack, its leftmost symbol on top.
 fn push(book: &[u8], at: u16, count: usize, stack: &mut [u8], height: usize)
     requires { ⌜ height + count ≤ length (now stack) ⌝ }
-    ensures { λ r. ⌜ now (stack .exit) ≡ sets (now (stack .entry)) height (bytesOf (formIn (now (book .entry)) (at + 4) count)) ⌝ }
+    ensures { λ r. ⌜ now (stack .exit) ≡ sets (now (stack .entry)) height (stackBytes (formIn (now (book .entry)) (at + 4) count)) ⌝ }
 {
     let mut top = height + count;
     let mut i: usize = 0;
@@ -33,7 +34,7 @@ fn push(book: &[u8], at: u16, count: usize, stack: &mut [u8], height: usize)
 // The symbol on top gives way to the right side of the record at `at`; a cell that is in use no more is 0.
 pub(crate) fn replace(book: &[u8], at: u16, count: usize, stack: &mut [u8], below: usize)
     requires { ⌜ (below + 1 ≤ length (now stack)) × (below + count ≤ length (now stack)) ⌝ }
-    ensures { λ r. ⌜ now (stack .exit) ≡ sets (set (now (stack .entry)) below 0) below (bytesOf (formIn (now (book .entry)) (at + 4) count)) ⌝ }
+    ensures { λ r. ⌜ now (stack .exit) ≡ sets (set (now (stack .entry)) below 0) below (stackBytes (formIn (now (book .entry)) (at + 4) count)) ⌝ }
 {
     stack[below] = 0;
     push(book, at, count, stack, below);

@@ -9,10 +9,10 @@ use borrow.Author.Tests.{lt-ltb}
 use lib.ListN.{length, length-set}
 use lib.Seq.{getD-set-same, getD-set-other}
 use Rattle.sets.specs.declared.Set.{Set}
-use Rattle.sets.specs.Calls.{number, Decides, None, With, Without, Union, Join, setAt, stored}
-use Rattle.sets.specs.Sets.{width, emptyString, united, added, removed, joined}
+use Rattle.sets.specs.Calls.{number, Decides, None, Single, With, Without, Union, Join, setAt, stored}
+use Rattle.sets.specs.Sets.{width, emptyString, united, only, added, removed, joined}
 use Rattle.sets.proofs.Members.{member-none}
-use Rattle.sets.proofs.Operations.{member-united, member-added, member-removed, member-joined}
+use Rattle.sets.proofs.Operations.{member-united, member-only, member-added, member-removed, member-joined}
 use Rattle.sets.proofs.Equality.{same-members}
 
 pub none-is : {r : Set} → None r → number r ≡ 0
@@ -22,6 +22,11 @@ pub with-is : {s : Set} {bit : ℕ} {r : Set} → bit < width → With s bit r �
 with-is {s} {bit} {r} below h =
     same-members (number r) (added bit (number s))
     (λ k. h .members k ∙ rw (lt-ltb bit width below, and-true) (sym (member-added k bit (number s))))
+
+pub single-is : {bit : ℕ} {r : Set} → bit < width → Single bit r → number r ≡ only bit
+single-is {bit} {r} below h =
+    same-members (number r) (only bit)
+    (λ k. h .members k ∙ rw (lt-ltb bit width below, and-true) (sym (member-only k bit)))
 
 pub without-is : {s : Set} {bit : ℕ} {r : Set} → Without s bit r → number r ≡ removed bit (number s)
 without-is {s} {bit} {r} h =

@@ -5,7 +5,7 @@ use mathlib.Core.List.{List}
 use Prim.Native.Nat.{ℕ}
 use Rattle.sets.specs.declared.Set.{Set}
 use Rattle.sets.specs.Sets.{member, Subset, columnPlace}
-use Rattle.sets.specs.Calls.{number, Decides, None, With, Without, Union, Join, Within, Same, Load, stored}
+use Rattle.sets.specs.Calls.{number, Decides, None, Single, With, Without, Union, Join, Within, Same, Load, stored}
 use Rattle.sets.proofs.Equality.{same-members}
 
 -- what equals one value, what decides one statement, and sets with the same members
@@ -31,6 +31,12 @@ none-unique h h′ = members-unique _ (h .members) (h′ .members)
 
 pub has-unique : (s : Set) (bit : ℕ) {r r′ : Bool} → r ≡ member bit (number s) → r′ ≡ member bit (number s) → r ≡ r′
 has-unique s bit = value-unique
+
+pub single-unique : {bit : ℕ} {r r′ : Set} → Single bit r → Single bit r′ → r ≡ r′
+single-unique h h′ = members-unique _ (h .members) (h′ .members)
+
+pub word-unique : (s : Set) {r r′ : ℕ} → r ≡ number s → r′ ≡ number s → r ≡ r′
+word-unique s = value-unique
 
 pub with-unique : {s : Set} {bit : ℕ} {r r′ : Set} → With s bit r → With s bit r′ → r ≡ r′
 with-unique h h′ = members-unique _ (h .members) (h′ .members)

@@ -21,6 +21,10 @@ pub record None (r : Set) : Type 0 where
   pub fits : number r < 2 ^ width
   pub members : (k : ℕ) → member k (number r) ≡ false
 
+pub record Single (bit : ℕ) (r : Set) : Type 0 where
+  pub fits : number r < 2 ^ width
+  pub members : (k : ℕ) → member k (number r) ≡ eqb k bit && ltb bit width
+
 -- a place past the width adds nothing
 pub record With (s : Set) (bit : ℕ) (r : Set) : Type 0 where
   pub fits : number r < 2 ^ width

@@ -1,7 +1,7 @@
 // Sets as numbers: bit k of a set's word says whether k is a member. A set goes by value, a family of sets is kept flat.
 ghost use mathlib.Core.Path.{_≡_};
 ghost use Rattle.sets.specs.Sets.{member, columnPlace};
-ghost use Rattle.sets.specs.Calls.{number, None, With, Without, Union, Join, Within, Same, Load, stored};
+ghost use Rattle.sets.specs.Calls.{number, None, Single, With, Without, Union, Join, Within, Same, Load, stored};
 
 pub struct Set {
     pub word: u64,
@@ -19,6 +19,20 @@ pub fn none() -> Set
     ensures { λ r. ⌜ None r ⌝ }
 {
     Set { word: 0 }
+}
+
+// The set with one member; none where that is not below the width.
+pub fn single(bit: u8) -> Set
+    ensures { λ r. ⌜ Single bit r ⌝ }
+{
+    with(none(), bit)
+}
+
+// The word of a set, as a buffer has it.
+pub fn word(s: Set) -> u64
+    ensures { λ r. ⌜ r ≡ number s ⌝ }
+{
+    s.word
 }
 
 pub fn has(s: Set, bit: u8) -> bool

@@ -19,9 +19,9 @@ use Rattle.sets.specs.Calls.{setAt, stored}
 use Rattle.sets.proofs.Promise.{member-none, only-fits}
 use Rattle.book.specs.Book.{Limits}
 use Rattle.book.specs.Judging.{AllUseful}
-use Rattle.book.proofs.Promise.{below-rule}
-use Rattle.book.specs.Fields.{leftAt}
-use Rattle.table.specs.Forms.{tailAt, Narrow, Readable, Indexes}
+use Rattle.book.specs.Fields.{leftAt, tailAt}
+use Rattle.book.proofs.Promise.{below-rule, form-dropped}
+use Rattle.table.specs.Forms.{Narrow, Readable, Indexes}
 use Rattle.table.specs.Trail.{trail, Halts, Inside, FirstSound, FollowSound, FirstAt, Grown, FollowClosed}
 use Rattle.table.specs.Steps.{Made, spread, walked, followStep, passed, followSteps, Walkable, TailAt, Tails, FollowFound}
 use Rattle.table.proofs.Trail.{halts-same, trail-monotone}
@@ -30,7 +30,7 @@ use Rattle.table.proofs.Additions.{behind-below, behind-dropped, behind
 use Rattle.table.proofs.Closed.{follow-words-exact, sets-sound}
 use Rattle.table.proofs.Growth.{grown-same, Expands, expands-united, expands-then, united-there, made-then, passed-keeps, passed-expands, passed-fires, passed-nothing}
 use Rattle.table.proofs.Rounds.{Fits, fits-none, stored-fits, united-at-fits, trail-narrow, Refines, Round}
-use Rattle.table.proofs.Spelled.{indexes-limits, left-is, tail-is, form-dropped, rule-at}
+use Rattle.table.proofs.Spelled.{indexes-limits, left-is, tail-is, rule-at}
 
 spread-expands : (s : Symbol) (x : ℕ) → Expands (spread s x)
 unfolding spread

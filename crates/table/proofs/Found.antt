@@ -7,9 +7,9 @@ use lib.ListN.{length, getD, replicate}
 use Rattle.grammar.specs.Grammar.{Form, Grammar, each, Rule}
 use Rattle.sets.specs.Sets.{width, emptyString, Subset, only}
 use Rattle.sets.proofs.Promise.{only-fits}
+use Rattle.book.specs.Fields.{leftAt, rightAt}
 use Rattle.book.proofs.Promise.{below-rule}
-use Rattle.book.specs.Fields.{leftAt}
-use Rattle.table.specs.Forms.{rightAt, Readable, Indexes}
+use Rattle.table.specs.Forms.{Readable, Indexes}
 use Rattle.table.specs.Trail.{trail, FirstSound, FirstClosed}
 use Rattle.table.specs.Steps.{firstStep, passed, firstSteps, FirstFound}
 use Rattle.table.proofs.Additions.{sound-none, first-addition-sound}

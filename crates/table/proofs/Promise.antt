@@ -2,7 +2,6 @@
 pub use Rattle.table.proofs.Known.{Proper, below, end-mark, first-known, follow-known, lookahead-proper, claims-row, claims-proper}
 pub use Rattle.table.proofs.Cells.{columnNumber, cellNumber, row-numbered, column-at-numbered, cell-inside, row-inside, cell-there, table-exact, built-exact, conflict-cell}
 pub use Rattle.table.proofs.Claimed.{getD-inside}
-pub use Rattle.table.proofs.Spelled.{form-spelled}
 pub use Rattle.table.proofs.Unique.{sets-unique, table-unique, held-unique, first-conflict-unique}
 pub use Rattle.table.proofs.Outcomes.{sets-outcome-unique, build-outcome-unique, WithTable, build-with-room, Unique, OfBook, of-refusal, of-grammar, of-book-unique}
 pub use Rattle.table.proofs.SetAnswers.{lookahead-outcome-unique, first-outcome-unique}

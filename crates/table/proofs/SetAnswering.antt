@@ -14,10 +14,11 @@ use Rattle.answers.specs.Answers.{done, refusal}
 use Rattle.answers.specs.Refusals as refusals
 use Rattle.book.specs.declared.Reading.{Reading}
 use Rattle.book.specs.Judging.{Judged}
+use Rattle.book.specs.Fields.{formIn}
 use Rattle.book.proofs.Promise.{judged-refused}
 use Rattle.table.specs.declared.SetAnswer.{SetAnswer}
 use Rattle.table.specs.Trail.{trail, FirstAt}
-use Rattle.table.specs.Forms.{formIn, Narrow}
+use Rattle.table.specs.Forms.{Narrow}
 use Rattle.table.specs.Steps.{lookaheadOf, FirstFound, FollowFound}
 use Rattle.table.specs.Checks.{Checked, passes, stops, goes, Because, because, Numbered, Stranger, Unspelled, too-long, strange, SymbolString}
 use Rattle.table.specs.Filling.{Given}

@@ -3,14 +3,12 @@
 use mathlib.Core.Path.{_≡_}
 use mathlib.Core.Logic.{_≢_}
 use mathlib.Core.List.{List}
-use mathlib.Core.Option.{some}
 use Prim.Native.Nat.{ℕ, _≤_, _<_}
 use lib.ListN.{length, getD}
-use Rattle.grammar.specs.declared.Symbol.{Symbol}
 use Rattle.answers.specs.declared.Answer.{Answer}
 use Rattle.answers.specs.Answers.{refusal}
 use Rattle.answers.specs.Refusals as refusals
-use Rattle.book.specs.Book.{symbolOf}
+use Rattle.book.specs.Book.{IsSymbol}
 
 -- an earlier refusal passes through; otherwise the check stops with its own, or goes on
 pub data Checked (before : Answer) (Bad : Answer → Type 0) (Good : Type 0) : Answer → Type 0 where
@@ -35,10 +33,6 @@ pub record SetsRoomed (before : Answer) (first follow N : ℕ) (after : Answer) 
 -- a production's number is below P
 abbrev pub Numbered : Answer → (production productions : ℕ) → Answer → Type 0
 Numbered before production productions = Checked before (Because (productions ≤ production) (refusal refusals.production production 0)) (production < productions)
-
--- a byte is a symbol of a grammar with T tokens and N nonterminals
-abbrev pub IsSymbol : (T N : ℕ) → ℕ → Type 0
-IsSymbol T N byte = (s : Symbol) × (symbolOf T N byte ≡ some s)
 
 -- r is the lowest number from `from` on of which C holds; from `count` on nothing is sought
 pub record Sought (C : ℕ → Type 0) (from count r : ℕ) : Type 0 where

@@ -10,10 +10,10 @@ use Rattle.grammar.specs.declared.Symbol.the-variants.{Token, Nonterminal}
 use Rattle.grammar.specs.Grammar.{Form, Grammar}
 use Rattle.sets.specs.Sets.{emptyString, only, united, joined}
 use Rattle.sets.specs.Calls.{number, Decides, setAt, stored}
-use Rattle.book.specs.Fields.{leftAt}
+use Rattle.book.specs.Fields.{leftAt, rightAt, tailAt}
 use Rattle.table.specs.declared.follow.Passed.{Passed}
 use Rattle.table.specs.Trail.{symbolSet, trail, Halts, FirstAt, FollowAt}
-use Rattle.table.specs.Forms.{rightAt, tailAt, Readable, Indexes}
+use Rattle.table.specs.Forms.{Readable, Indexes}
 
 -- a step is made on a family of sets, and settled says whether it changed nothing
 pub record Made (step : List ℕ → List ℕ) (before after : List ℕ) (settled : Bool) : Type 0 where

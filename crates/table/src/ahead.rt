@@ -1,7 +1,8 @@
 ghost use mathlib.Core.Path.{_≡_};
 ghost use Rattle.sets.specs.Calls.{number, setAt};
 ghost use Rattle.book.specs.Fields.{leftAt};
-ghost use Rattle.table.specs.Forms.{rightAt, Legible};
+ghost use Rattle.book.specs.Fields.{rightAt};
+ghost use Rattle.table.specs.Forms.{Legible};
 ghost use Rattle.table.specs.Trail.{trail};
 use crate::forms::trail_of;
 use book::fields::LEFT;

@@ -1,5 +1,4 @@
-ghost use Rattle.sets.specs.Calls.{Decides};
-ghost use Rattle.table.specs.Checks.{Checked, Roomed, SetsRoomed, Numbered, IsSymbol, Stranger, Unspelled, SymbolString};
+ghost use Rattle.table.specs.Checks.{Checked, Roomed, SetsRoomed, Numbered, Stranger, Unspelled, SymbolString};
 use answers::Answer;
 use answers::refusal;
 use answers::refusals::DONE;
@@ -9,6 +8,7 @@ use answers::refusals::LIMIT;
 use answers::refusals::PRODUCTION;
 use answers::refusals::ROOM;
 use answers::refusals::SYMBOL;
+use book::fields::is_symbol;
 
 // The longest symbol string.
 const LONGEST: usize = 16;
@@ -46,17 +46,6 @@ pub(crate) fn numbered(before: Answer, production: u64, productions: u8) -> Answ
         before
     } else {
         refusal(PRODUCTION, production, 0)
-    }
-}
-
-// A token below `t`, or 128 and a nonterminal below `n`.
-fn is_symbol(byte: u8, t: u8, n: u8) -> bool
-    ensures { λ r. ⌜ Decides r (IsSymbol t n byte) ⌝ }
-{
-    if byte < t {
-        true
-    } else {
-        if 128 <= byte { byte - 128 < n } else { false }
     }
 }
 

@@ -5,6 +5,7 @@ use borrow.Author.Tests.{not-true, not-false}
 use borrow.Author.Needs.{needs}
 use Rattle.book.specs.declared.Verdict.the-variants.{Next}
 use Rattle.book.specs.Positional.{symbolsFrom}
+use Rattle.book.proofs.Joined.{told-symbol}
 use Rattle.book.proofs.Turns.{symbols-over}
 use Rattle.book.proofs.Guards.{symbols-go, symbols-stop}
 use Rattle.book.proofs.spelling.symbols.Statement.{statement}
@@ -31,7 +32,7 @@ returns c =
     let pre = c .before .before .before .before .before .before .pre in
     let loop = c .before .before .before .before .loop in
     let loop-test = c .before .before .before .loop-test in
-    sym (symbols-stop _ _ _ _ _ (loop-test .taken) (pre .1) (sym (c .before .is-symbol .ensures) ∙ not-true _ (c .if1 .taken)))
+    sym (symbols-stop _ _ _ _ _ (loop-test .taken) (pre .1) (sym (told-symbol _ _ _ {r = c .before .is-symbol .result} (c .before .is-symbol .ensures)) ∙ not-true _ (c .if1 .taken)))
     ∙ loop .inv .1
 
 add-at : tie.Need-add-at Inv-loop μ-loop
@@ -46,7 +47,7 @@ loop-again c =
     let loop = c .before .before .before .before .loop in
     let loop-test = c .before .before .before .loop-test in (
       search needs,
-      sym (symbols-go _ _ _ _ _ (loop-test .taken) (pre .1) (sym (c .before .is-symbol .ensures) ∙ not-false _ (c .if1 .left)))
+      sym (symbols-go _ _ _ _ _ (loop-test .taken) (pre .1) (sym (told-symbol _ _ _ {r = c .before .is-symbol .result} (c .before .is-symbol .ensures)) ∙ not-false _ (c .if1 .left)))
           ∙ loop .inv .1,
     )
 

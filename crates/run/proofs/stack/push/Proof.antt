@@ -4,15 +4,15 @@ use Prim.Native.Nat.{_+_, _-_, _≤_}
 use lib.ListN.{length}
 use lib.Seq.{sets}
 use borrow.Author.Needs.{needs}
-use Rattle.table.specs.Forms.{formIn}
-use Rattle.run.specs.Stack.{bytesOf}
+use Rattle.book.specs.Fields.{formIn}
+use Rattle.run.specs.Stack.{stackBytes}
 use Rattle.run.proofs.Stacked.{push-start, push-turn, push-over}
 use Rattle.run.proofs.stack.push.Statement.{statement}
 use Rattle.run.proofs.stack.push.Tie as tie
 
 abbrev Inv-loop : tie.InvT-loop
 Inv-loop book at count stack₀ height top₀ i₀ stack top i =
-    (height ≤ top) × (top + i ≡ height + count) × (length stack ≡ length stack₀) × (sets stack height (bytesOf (formIn book (at + 4 + i) (top - height))) ≡ sets stack₀ height (bytesOf (formIn book (at + 4) count)))
+    (height ≤ top) × (top + i ≡ height + count) × (length stack ≡ length stack₀) × (sets stack height (stackBytes (formIn book (at + 4 + i) (top - height))) ≡ sets stack₀ height (stackBytes (formIn book (at + 4) count)))
 
 abbrev μ-loop : tie.MeasureT-loop
 μ-loop book at count stack₀ height top₀ i₀ stack top i = top

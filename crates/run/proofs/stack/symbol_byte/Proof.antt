@@ -4,7 +4,7 @@ use native.Mathlib.Omega.{arith}
 use lib.ListN.{List·getD-eq-default}
 use borrow.Author.Needs.{needs}
 use Rattle.book.specs.Fields.{symbolAt}
-use Rattle.run.proofs.Stacked.{byte-of-symbol}
+use Rattle.book.proofs.Promise.{byte-of-symbol}
 use Rattle.run.proofs.stack.symbol_byte.Statement.{statement}
 use Rattle.run.proofs.stack.symbol_byte.Tie as tie
 

@@ -5,11 +5,11 @@ use native.Mathlib.Omega.{arith}
 use lib.ListN.{length, getD}
 use borrow.Author.Needs.{needs}
 use Rattle.sets.specs.Calls.{number}
-use Rattle.table.specs.Forms.{tailAt}
+use Rattle.book.specs.Fields.{tailAt}
+use Rattle.book.proofs.Promise.{form-turn, form-none, every-in}
 use Rattle.table.specs.Trail.{trail}
 use Rattle.table.specs.Steps.{Made, walked, followStep}
 use Rattle.table.proofs.Following.{made-walked}
-use Rattle.table.proofs.Spelled.{form-turn, form-none, every-in}
 use Rattle.table.proofs.follow.follow_step.Statement.{statement}
 use Rattle.table.proofs.follow.follow_step.Tie as tie
 

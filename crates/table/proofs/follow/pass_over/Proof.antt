@@ -4,10 +4,11 @@ use Prim.Native.Nat.{_<_}
 use native.Mathlib.Omega.{arith}
 use borrow.Author.Needs.{needs}
 use Rattle.sets.proofs.Promise.{join-is}
+use Rattle.book.proofs.Promise.{symbol-token, symbol-nonterminal}
 use Rattle.table.specs.Trail.{symbolSet}
 use Rattle.table.specs.Steps.{spread}
 use Rattle.table.proofs.Trail.{join-token}
-use Rattle.table.proofs.Spelled.{symbol-token, symbol-nonterminal, narrow-high}
+use Rattle.table.proofs.Spelled.{narrow-high}
 use Rattle.table.proofs.follow.pass_over.Statement.{statement}
 use Rattle.table.proofs.follow.pass_over.Tie as tie
 
