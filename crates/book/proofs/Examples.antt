@@ -10,7 +10,7 @@ use Rattle.grammar.proofs.House.{house-useful}
 use Rattle.grammar.proofs.WorkedUseful.{productives, usefuls, productiveTest, usefulTest, has, has-every, productives-sound, usefuls-sound, usefuls-exact}
 use Rattle.answers.specs.Answers.{refusal}
 use Rattle.answers.specs.Refusals.{short, mark, extra, limit, symbol}
-use Rattle.book.specs.Book.{refused, reads, spells, marked, wanted, records, symbols, symbolOf, ending}
+use Rattle.reader.specs.Book.{refused, reads, spells, marked, wanted, records, symbols, symbolOf, ending}
 use Rattle.book.specs.Examples.{GR, PR, houseBook, uselessBook, uselessGrammar}
 use Rattle.book.specs.Judging.{LowestUseless, Refuses, useless-one, Serves}
 

@@ -15,8 +15,8 @@ use Rattle.sets.specs.declared.Set.{Set}
 use Rattle.sets.specs.Sets.{width, member, Subset, Exactly}
 use Rattle.sets.specs.Calls.{number, None, With, setAt, stored}
 use Rattle.sets.proofs.Promise.{with-is, added-new, added-keep, added-cases, stored-length, stored-there, stored-elsewhere}
+use Rattle.reader.specs.Fields.{symbolAt}
 use Rattle.book.specs.Closure.{Adds, Follows}
-use Rattle.book.specs.Fields.{symbolAt}
 use Rattle.book.specs.Useful.{Single, IsNonterminal, NamedAt, Filled}
 use Rattle.book.proofs.Passes.{adds-nothing}
 

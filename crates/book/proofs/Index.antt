@@ -12,15 +12,11 @@ use Rattle.grammar.specs.declared.Symbol.{Symbol}
 use Rattle.grammar.specs.declared.Symbol.the-variants.{Nonterminal}
 use Rattle.grammar.specs.Grammar.{Form, Production, Grammar, Rule, Known, known-token, known-nonterminal}
 use Rattle.grammar.proofs.Every.{every-at}
-use Rattle.book.specs.Book.{reads, spells, byteOf, bytesOf, Limits}
-use Rattle.book.specs.Fields.{lengthAt, symbolOfByte, symbolAt, placeAfter, placeOfRecord, placesOf}
+use Rattle.grammar.proofs.Rules.{rule-below, below-rule}
+use Rattle.reader.specs.Book.{reads, spells, byteOf, bytesOf, Limits}
+use Rattle.reader.specs.Fields.{lengthAt, symbolOfByte, symbolAt, placeAfter, placeOfRecord, placesOf}
+use Rattle.reader.proofs.Promise.{recordsSize, recordPlace, RecordAt, zero-cell, zeros-behind, places-length, places-cell, places-rest, longest-book, record-at, record-within, recordPlace-suc, written-read, read-limits}
 use Rattle.book.specs.Judging.{recordPlaces, placesIn}
-use Rattle.book.proofs.Records.{recordsSize, recordPlace, RecordAt}
-use Rattle.book.proofs.Cells.{zero-cell, zeros-behind, places-length, places-cell, places-rest}
-use Rattle.book.proofs.Longest.{longest-book}
-use Rattle.book.proofs.Positions.{record-at, record-within, recordPlace-suc}
-use Rattle.book.proofs.Rules.{rule-below, below-rule}
-use Rattle.book.proofs.Written.{written-read, read-limits}
 
 recordPlaces-length : (at : ℕ) (ps : List Production) → length (recordPlaces at ps) ≡ length ps
 unfolding recordPlaces

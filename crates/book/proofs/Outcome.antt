@@ -8,16 +8,16 @@ use Rattle.grammar.specs.Grammar.{Grammar}
 use Rattle.answers.specs.declared.Answer.{Answer}
 use Rattle.answers.specs.Answers.{done, refusal}
 use Rattle.answers.specs.Refusals.{useless}
-use Rattle.book.specs.declared.Verdict.{Verdict}
-use Rattle.book.specs.declared.Verdict.the-variants.{Next, Bad}
-use Rattle.book.specs.Book.{Spelling, refused, reads, spells}
-use Rattle.book.specs.Fields.{placesOf}
+use Rattle.reader.specs.declared.Verdict.{Verdict}
+use Rattle.reader.specs.declared.Verdict.the-variants.{Next, Bad}
+use Rattle.reader.specs.Book.{Spelling, refused, reads, spells}
+use Rattle.reader.specs.Fields.{placesOf}
+use Rattle.reader.specs.Verdicts.{told, verdictOf}
+use Rattle.reader.proofs.Promise.{read-limits}
 use Rattle.book.specs.Judging.{AllUseful, refusing, indexOf, Judged, refuses, serves, useless-one}
 use Rattle.book.specs.Useful.{Surveyed, Sides, FirstUseless, Indexed}
-use Rattle.book.specs.Verdicts.{told, verdictOf}
 use Rattle.book.proofs.Index.{header-tokens, header-nonterminals, header-start, header-productions, places-indexed}
 use Rattle.book.proofs.Sides.{sides-surveyed}
-use Rattle.book.proofs.Written.{read-limits}
 
 told-reads : (size : ℕ) (x : Spelling) {at : ℕ} → told size x ≡ Next at → (g : Grammar) × (x ≡ reads g)
 unfolding told

@@ -12,20 +12,13 @@ use Rattle.grammar.specs.Grammar.{Form, Grammar, Rule, Productive, Reachable, W
 use Rattle.grammar.proofs.Useful.{useful-all}
 use Rattle.answers.specs.declared.Answer.{Answer}
 use Rattle.answers.specs.Answers.{done, refusal}
+use Rattle.reader.specs.Book.{spells, Limits}
+use Rattle.reader.specs.Fields.{leftAt, lengthAt, symbolAt}
+use Rattle.reader.proofs.Promise.{Fault, bad-mark, extra-byte, over-limit, not-a-symbol, refused-kinds, read-limits, judged-by-first}
 use Rattle.book.specs.declared.Reading.{Reading}
-use Rattle.book.specs.Book.{spells, Limits}
-use Rattle.book.specs.Fields.{leftAt, lengthAt, symbolAt}
 use Rattle.book.specs.Judging.{refusing, indexOf, Refuses, misread, useless-one, Serves, Judged, refuses, serves}
 use Rattle.book.proofs.Index.{record-indexed, symbol-indexed, place-fits, place-within, placesIn-length}
-use Rattle.book.proofs.Order.{Fault, bad-mark, extra-byte, over-limit, not-a-symbol}
-pub use Rattle.book.proofs.Bytes.{symbolOf-known}
-pub use Rattle.book.proofs.Forms.{form-next, form-turn, form-past, form-none, form-dropped, every-in, form-spelled}
-pub use Rattle.book.proofs.Forms.{symbol-token, symbol-nonterminal, byte-of-symbol, symbol-low, symbol-high, symbol-none}
-pub use Rattle.book.proofs.Written.{read-limits}
-pub use Rattle.book.proofs.Longest.{judged-by-first, refused-within}
 pub use Rattle.book.proofs.Examples.{house-reads, house-serves, useless-refused}
-pub use Rattle.book.proofs.Place.{Refusal, refused-kinds}
-pub use Rattle.book.proofs.Rules.{rule-below, below-rule}
 pub use Rattle.book.proofs.Unique.{refuses-unique, refuses-not-serves, serves-unique, judged-unique}
 
 fault-number : {n : ℕ} → Fault n → (1 ≤ n) × (n ≤ 6)

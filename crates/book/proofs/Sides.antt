@@ -7,13 +7,13 @@ use lib.ListN.{length, getD}
 use Rattle.grammar.specs.declared.Symbol.the-variants.{Nonterminal}
 use Rattle.grammar.specs.Grammar.{Form, Grammar, Rule, Known, known-nonterminal}
 use Rattle.grammar.proofs.Every.{every-at}
-use Rattle.book.specs.Book.{reads, spells, Limits}
-use Rattle.book.specs.Fields.{placeOfRecord}
+use Rattle.grammar.proofs.Rules.{element, inside, below-rule}
+use Rattle.reader.specs.Book.{reads, spells, Limits}
+use Rattle.reader.specs.Fields.{placeOfRecord}
+use Rattle.reader.proofs.Promise.{read-limits}
 use Rattle.book.specs.Useful.{Single, NamedAt, RightNames, LeftName, Filled, Occurs, Sides}
 use Rattle.book.proofs.Filling.{exactly-alike}
 use Rattle.book.proofs.Index.{record-counted, symbol-counted}
-use Rattle.book.proofs.Rules.{element, inside, below-rule}
-use Rattle.book.proofs.Written.{read-limits}
 
 nonterminal-known : {g : Grammar} {A : ℕ} → Known g (Nonterminal A) → A < g .nonterminals
 nonterminal-known (known-nonterminal h) = h

@@ -8,10 +8,10 @@ use Rattle.grammar.specs.Grammar.{Grammar}
 use Rattle.answers.specs.declared.Answer.{Answer}
 use Rattle.answers.specs.Answers.{refusal}
 use Rattle.answers.specs.Refusals.{useless}
+use Rattle.reader.specs.Book.{reads, spells}
+use Rattle.reader.proofs.Promise.{refused-not-reads}
 use Rattle.book.specs.declared.Reading.{Reading}
-use Rattle.book.specs.Book.{reads, spells}
 use Rattle.book.specs.Judging.{LowestUseless, refusing, indexOf, Refuses, misread, useless-one, Serves, Judged, refuses, serves}
-use Rattle.book.proofs.Bytes.{refused-not-reads}
 
 pub reads-unique : (b : List ℕ) {g h : Grammar} → spells b ≡ reads g → spells b ≡ reads h → g ≡ h
 reads-unique b e f = cc

@@ -12,13 +12,13 @@ use Rattle.grammar.specs.Grammar.{Form, Grammar, Rule, Productive, Useful}
 use Rattle.grammar.proofs.Join.{Behind, first, later}
 use Rattle.grammar.proofs.Useful.{Named, a-token, named, Names, ProductiveClosed, UsefulClosed, productive-addition, productive-complete, useful-addition, useful-complete, useful-start, start-useful}
 use Rattle.grammar.proofs.Every.{every-at, at-every}
+use Rattle.grammar.proofs.Rules.{rule-below, below-rule}
 use Rattle.sets.specs.Sets.{width, member, Exactly}
 use Rattle.sets.specs.Calls.{setAt}
 use Rattle.sets.proofs.Promise.{member-none}
 use Rattle.book.specs.Closure.{Follows, Reached, given, fired}
 use Rattle.book.specs.Useful.{Single, Filled, Occurs, Sides, LowestMissing, FirstUseless}
 use Rattle.book.proofs.Filling.{exactly-alike}
-use Rattle.book.proofs.Rules.{rule-below, below-rule}
 
 behind-occurs : {B : ℕ} {v β : Form} → Behind B v β → Occurs β B
 behind-occurs first = record { index = 0; at = refl }

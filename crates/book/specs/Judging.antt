@@ -8,8 +8,8 @@ use Rattle.grammar.specs.Grammar.{Production, Grammar, Useful}
 use Rattle.answers.specs.declared.Answer.{Answer}
 use Rattle.answers.specs.Answers.{done, refusal}
 use Rattle.answers.specs.Refusals.{useless}
+use Rattle.reader.specs.Book.{refused, reads, spells}
 use Rattle.book.specs.declared.Reading.{Reading}
-use Rattle.book.specs.Book.{refused, reads, spells}
 
 pub record AllUseful (g : Grammar) : Type 0 where
   pub useful : (A : ℕ) → A < g .nonterminals → Useful g A

@@ -1,9 +1,4 @@
-pub mod Book
 pub mod Closure
 pub mod Examples
-pub mod Fields
 pub mod Judging
-pub mod Positional
-pub mod Reader
 pub mod Useful
-pub mod Verdicts

@@ -12,8 +12,8 @@ use Rattle.grammar.specs.declared.Symbol.the-variants.{Nonterminal}
 use Rattle.grammar.specs.Grammar.{Form, Grammar, Rule, Useful}
 use Rattle.sets.specs.Sets.{width, member, Exactly}
 use Rattle.sets.specs.Calls.{setAt}
-use Rattle.book.specs.Book.{reads, spells}
-use Rattle.book.specs.Fields.{leftAt, lengthAt, symbolAt, placeOfRecord, placesFrom}
+use Rattle.reader.specs.Book.{reads, spells}
+use Rattle.reader.specs.Fields.{leftAt, lengthAt, symbolAt, placeOfRecord, placesFrom}
 use Rattle.book.specs.Judging.{placesIn}
 
 -- k is the number a, and has a place in a set

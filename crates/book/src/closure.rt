@@ -1,3 +1,4 @@
+// What rules reach from a seed: a set that grows until no rule adds to it.
 ghost use Prim.Native.Nat.{_<_};
 ghost use Rattle.sets.specs.Sets.{width, Exactly};
 ghost use Rattle.sets.specs.Calls.{number, setAt};

@@ -1,23 +1,31 @@
+// Judging a book: the refusal 1 to 6, or the index of its grammar.
 ghost use mathlib.Core.Path.{_≡_};
+ghost use Prim.Native.Nat.{min};
 ghost use Rattle.grammar.specs.Grammar.{Grammar};
-ghost use Rattle.book.specs.Book.{spells, reads};
+ghost use Rattle.reader.specs.Book.{spells, reads};
 ghost use Rattle.book.specs.Judging.{Judged};
 ghost use Rattle.book.specs.Judging as judging;
 use crate::Reading;
-use crate::Verdict;
-use crate::fields::NONTERMINALS;
-use crate::fields::PRODUCTIONS;
-use crate::fields::START;
-use crate::fields::TOKENS;
-use crate::fields::byte_at;
-use crate::fields::cells_for;
+use reader::Verdict;
+use reader::fields::NONTERMINALS;
+use reader::fields::PRODUCTIONS;
+use reader::fields::START;
+use reader::fields::TOKENS;
+use reader::fields::byte_at;
 use crate::useful::first_useless;
 use crate::useful::survey;
-use crate::walk::read;
+use reader::walk::read;
 use answers::Answer;
 use answers::done;
 use answers::refusal;
 use answers::refusals::USELESS;
+
+// At most as many records as there are cells.
+fn cells_for(count: u8) -> usize
+    ensures { λ r. ⌜ r ≡ min count 128 ⌝ }
+{
+    if count < 128 { count as usize } else { 128 }
+}
 
 // On a refusal every other field is 0.
 fn refusing(answer: Answer) -> Reading

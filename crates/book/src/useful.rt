@@ -1,3 +1,4 @@
+// Refusal 6: the nonterminals that occur in no derivation of a token string from the start.
 ghost use mathlib.Core.Path.{_≡_};
 ghost use Prim.Native.Nat.{_+_, _≤_, _<_};
 ghost use lib.ListN.{length};
@@ -7,10 +8,10 @@ ghost use Rattle.sets.specs.Calls.{number, setAt};
 ghost use Rattle.book.specs.Closure.{Adds, Follows};
 ghost use Rattle.book.specs.Useful.{Single, IsNonterminal, NamedAt, Filled, Lists, Surveyed, Sides, LowestMissing, FirstUseless};
 use crate::closure::closure;
-use crate::fields::LEFT;
-use crate::fields::LENGTH;
-use crate::fields::SYMBOLS;
-use crate::fields::symbol_of;
+use reader::fields::LEFT;
+use reader::fields::LENGTH;
+use reader::fields::SYMBOLS;
+use reader::fields::symbol_of;
 use grammar::Symbol;
 use sets::Set;
 use sets::has;

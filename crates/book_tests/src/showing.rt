@@ -1,7 +1,7 @@
-use book::fields::left_at;
-use book::fields::length_at;
-use book::fields::place_at;
-use book::fields::symbol_at;
+use reader::fields::left_at;
+use reader::fields::length_at;
+use reader::fields::place_at;
+use reader::fields::symbol_at;
 use book::judging::judge;
 use grammar::Symbol;
 use libc::STDOUT_FILENO;

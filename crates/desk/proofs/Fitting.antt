@@ -8,6 +8,7 @@ use native.Mathlib.Omega.{arith}
 use borrow.Author.Tests.{lt-ltb, le-ltb}
 use lib.ListN.{length, getD}
 use Rattle.grammar.specs.Grammar.{Grammar}
+use Rattle.grammar.proofs.Rules.{below-rule}
 use Rattle.sets.specs.Calls as sets
 use Rattle.sets.specs.Sets.{width, endMark, columnPlace}
 use Rattle.sets.specs.declared.Set.{Set}
@@ -15,10 +16,11 @@ use Rattle.sets.proofs.Promise.{added-fits}
 use Rattle.answers.specs.declared.Answer.{Answer}
 use Rattle.answers.specs.Answers.{done, refusal, stop}
 use Rattle.answers.specs.Buffers.{counted}
+use Rattle.reader.specs.Book.{Limits}
+use Rattle.reader.proofs.Promise.{refused-kinds, read-limits}
 use Rattle.book.specs.declared.Reading.{Reading}
-use Rattle.book.specs.Book.{Limits}
 use Rattle.book.specs.Judging.{Refuses, misread, useless-one, refusing, indexOf, Judged, refuses, serves}
-use Rattle.book.proofs.Promise.{refused-kinds, read-limits, serves-limits, below-rule}
+use Rattle.book.proofs.Promise.{serves-limits}
 use Rattle.table.specs.declared.SetAnswer.{SetAnswer}
 use Rattle.table.specs.Calls.{SetsRoom, no-first, no-follow, SetsOutcome, BuildOutcome, LookaheadOutcome, FirstOutcome}
 use Rattle.table.specs.Calls as calls
@@ -26,13 +28,13 @@ use Rattle.table.specs.Table.{size, held, cellOf}
 use Rattle.machine.specs.Machine.{Reason, full-list, full-stack, wants-end, wants-token, wants-row, Offered, final}
 use Rattle.machine.specs.Expansion.{expansion, Course, Upshot}
 use Rattle.machine.specs.Room.{rightOf}
+use Rattle.machine.proofs.Count.{Counted}
+use Rattle.machine.proofs.RunTheorems.{run-steps, run-inside}
+use Rattle.machine.proofs.ExpandTheorems.{expand-steps}
 use Rattle.run.specs.Expanding.{ExpandOutcome}
 use Rattle.run.specs.Expanding as expanding
 use Rattle.run.specs.Running.{Misfit, length-given, cell, Barred, bad-table, too-long, strange, no-stack, RunOutcome, marking, filledBelow, expected, ran, answered}
 use Rattle.run.specs.Running as running
-use Rattle.machine.proofs.Count.{Counted}
-use Rattle.machine.proofs.RunTheorems.{run-steps, run-inside}
-use Rattle.machine.proofs.ExpandTheorems.{expand-steps}
 use Rattle.run.proofs.Promise.{Told, told, served, short-of-list, short-of-stack, blocked, told-steps, ToldBy, told-by, finished, misfitting, out-of-stack, out-of-output}
 use Rattle.desk.proofs.ReadBack.{FitsWords}
 

@@ -1,5 +1,5 @@
 use answers::Answer;
-use book::fields::byte_at;
+use reader::fields::byte_at;
 use libc::STDOUT_FILENO;
 
 // A word at the beginning of a line or behind a space.

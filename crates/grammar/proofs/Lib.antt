@@ -15,3 +15,4 @@ pub mod WorkedCells
 pub mod WorkedUseful
 pub mod WorkedForm
 pub mod House
+pub mod Rules

@@ -5,7 +5,7 @@ use mathlib.Core.List.{List}
 use Prim.Native.Nat.{ℕ, _<_}
 use native.Mathlib.Omega.{arith}
 use lib.ListN.{take}
-use Rattle.book.specs.Book.{spells}
+use Rattle.reader.specs.Book.{spells}
 use Rattle.book.proofs.Promise.{judged-by-first, refuses-alike, serves-alike}
 use Rattle.listing.specs.Listing.{Listing, refused, conflicted, served}
 

@@ -12,8 +12,8 @@ use Rattle.grammar.specs.Grammar.{Grammar}
 use Rattle.answers.specs.declared.Answer.{Answer}
 use Rattle.answers.specs.Answers.{done, refusal}
 use Rattle.answers.specs.Buffers.{over}
+use Rattle.reader.specs.Book.{Limits}
 use Rattle.book.specs.declared.Reading.{Reading}
-use Rattle.book.specs.Book.{Limits}
 use Rattle.book.specs.Judging.{indexOf, Serves, Judged, serves}
 use Rattle.book.proofs.Promise.{refuses-some, serves-limits, judged-unique}
 use Rattle.table.specs.Table.{size}

@@ -6,7 +6,7 @@ use native.Mathlib.Omega.{arith}
 use Rattle.grammar.specs.House.{house}
 use Rattle.text.specs.Text.{digit, lastDigits, decimal, hexDigits, hexadecimal}
 use Rattle.answers.specs.Answers.{refusal}
-use Rattle.book.specs.Book.{wanted, marked, spells}
+use Rattle.reader.specs.Book.{wanted, marked, spells}
 use Rattle.book.specs.Examples.{houseBook, uselessBook}
 use Rattle.book.specs.Judging.{misread}
 use Rattle.book.proofs.Promise.{house-serves, useless-refused}

@@ -12,13 +12,15 @@ use lib.Dec.{eqb}
 use lib.ListN.{length, take, drop, getD, length-append, List·getD-eq-default}
 use lib.Seq.{getD-drop}
 use Rattle.grammar.specs.Grammar.{Grammar, Column, Cell, only, vacant}
+use Rattle.grammar.proofs.Rules.{below-rule}
 use Rattle.text.specs.Text.{decimal, hexadecimal}
 use Rattle.text.proofs.Promise.{decimal-length, decimal-length-word, hexadecimal-length}
 use Rattle.answers.specs.declared.Answer.{Answer}
 use Rattle.answers.specs.Answers.{refusal}
-use Rattle.book.specs.Book.{Limits}
+use Rattle.reader.specs.Book.{Limits}
+use Rattle.reader.proofs.Promise.{read-limits}
 use Rattle.book.specs.Judging.{Refuses, misread, useless-one}
-use Rattle.book.proofs.Promise.{refuses-number, refused-within, serves-limits, read-limits, below-rule}
+use Rattle.book.proofs.Promise.{refuses-number, refused-within, serves-limits}
 use Rattle.table.specs.Numbers.{FirstSets, FollowSets}
 use Rattle.table.specs.Table.{size, held, TableOf, FirstConflict}
 use Rattle.listing.specs.Listing.{space, newline, dash, refusedWord, grammarWord, firstWord, followWord, rowWord, numbered, numbersLine, refusedLine, grammarLine, setLine, setLines, cellText, cellsText, rowLine, rowLines, servedText, Listing, refused, conflicted, served}

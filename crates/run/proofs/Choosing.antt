@@ -9,7 +9,7 @@ use lib.ListN.{length, getD, length-append}
 use Rattle.grammar.specs.Grammar.{Form, Column}
 use Rattle.grammar.specs.declared.Symbol.the-variants.{Nonterminal}
 use Rattle.grammar.specs.declared.Symbol.{Symbol}
-use Rattle.book.specs.Fields.{symbolOfByte}
+use Rattle.reader.specs.Fields.{symbolOfByte}
 use Rattle.machine.specs.Room.{rightOf}
 use Rattle.run.specs.Moves.{outlined, RightSide, Bottom, Faces, Chosen}
 use Rattle.run.specs.Stack.{spelledBy}

@@ -7,7 +7,7 @@ use native.Mathlib.Omega.{arith}
 use lib.Dec.{eqb}
 use lib.ListN.{length, getD, set, replicate}
 use lib.Seq.{getD-set-same, getD-set-other}
-use Rattle.book.specs.Fields.{formIn}
+use Rattle.reader.specs.Fields.{formIn}
 use Rattle.machine.specs.Room.{rightOf, isOf}
 use Rattle.run.specs.Moves.{outlined, RightSide, Gathered, Lefts, Lengths}
 use Rattle.run.specs.declared.Outline.{Outline}

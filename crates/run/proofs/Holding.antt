@@ -10,7 +10,7 @@ use Rattle.grammar.specs.Grammar.{Form, Column, token, Every}
 use Rattle.grammar.specs.declared.Symbol.the-variants.{Token}
 use Rattle.grammar.specs.declared.Symbol.{Symbol}
 use Rattle.answers.specs.Buffers.{over, counted}
-use Rattle.book.specs.Fields.{formIn}
+use Rattle.reader.specs.Fields.{formIn}
 use Rattle.machine.specs.Machine.{State, Reason, full-list, full-stack, wants-end, wants-token, wants-row, Offered, taken, stopped, popped, replaced, offer, final}
 use Rattle.machine.proofs.Offer.{offer-match, offer-use, offer-halt}
 use Rattle.machine.proofs.Walk.{Halt}

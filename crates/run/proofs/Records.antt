@@ -9,10 +9,11 @@ use native.Mathlib.Omega.{arith}
 use lib.Dec.{eqb}
 use lib.ListN.{length, getD, getElem?}
 use Rattle.grammar.specs.Grammar.{Production, Grammar}
-use Rattle.book.specs.Fields.{symbolAt, formIn}
+use Rattle.reader.specs.Fields.{symbolAt, formIn}
+use Rattle.reader.proofs.Promise.{form-spelled}
 use Rattle.book.specs.Judging.{indexOf, Serves}
 use Rattle.book.specs.declared.Reading.{Reading}
-use Rattle.book.proofs.Promise.{Entry, Served, served, serves-limits, serves-well-formed, form-spelled}
+use Rattle.book.proofs.Promise.{Entry, Served, served, serves-limits, serves-well-formed}
 use Rattle.machine.specs.Room.{rightOf, isOf}
 use Rattle.run.specs.Index.{productionAt, productionsFrom, grammarIn}
 use Rattle.run.specs.Moves.{outlineIn, outlined, Outlines}

@@ -9,9 +9,9 @@ use lib.ListN.{length, getD, take, drop, set, replicate, take-append-drop, lengt
 use lib.Seq.{sets, set-comm, set-at, getD-at, drop-cons, take-suc, drop-at}
 use Rattle.grammar.specs.Grammar.{Form, Every, nothing, each}
 use Rattle.grammar.specs.declared.Symbol.{Symbol}
-use Rattle.book.specs.Fields.{symbolOfByte, symbolAt, formIn}
-use Rattle.book.specs.Book.{byteOf}
-use Rattle.book.proofs.Promise.{byte-of-symbol}
+use Rattle.reader.specs.Fields.{symbolOfByte, symbolAt, formIn}
+use Rattle.reader.specs.Book.{byteOf}
+use Rattle.reader.proofs.Promise.{byte-of-symbol}
 use Rattle.run.specs.Offering.{Spelled}
 use Rattle.run.specs.Stack.{stackBytes, spelledBy, stacked}
 

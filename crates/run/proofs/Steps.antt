@@ -12,8 +12,8 @@ use Rattle.grammar.specs.Grammar.{Form, Grammar, Column, nothing, each}
 use Rattle.grammar.specs.Machine.{front}
 use Rattle.grammar.specs.declared.Symbol.the-variants.{Nonterminal}
 use Rattle.answers.specs.Buffers.{over, counted, cleared}
-use Rattle.book.specs.Fields.{symbolOfByte}
-use Rattle.book.specs.Book.{byteOf}
+use Rattle.reader.specs.Fields.{symbolOfByte}
+use Rattle.reader.specs.Book.{byteOf}
 use Rattle.table.specs.Table.{cellOf}
 use Rattle.machine.specs.Machine.{State, Reason, Offered, taken, stopped, begun, offer, runFrom}
 use Rattle.machine.specs.Room.{rightOf}

@@ -9,7 +9,7 @@ use lib.Seq.{sets, length-sets}
 use Rattle.grammar.specs.Grammar.{Form, Column}
 use Rattle.grammar.specs.declared.Symbol.{Symbol}
 use Rattle.answers.specs.Buffers.{counted}
-use Rattle.book.specs.Fields.{formIn}
+use Rattle.reader.specs.Fields.{formIn}
 use Rattle.table.specs.Table.{cellOf}
 use Rattle.machine.specs.Machine.{State}
 use Rattle.machine.specs.Room.{rightOf}

@@ -9,7 +9,7 @@ use lib.Seq.{sets, drop-nil}
 use Rattle.grammar.specs.Grammar.{Form, Grammar, Every, nothing, each}
 use Rattle.grammar.specs.declared.Symbol.the-variants.{Token, Nonterminal}
 use Rattle.answers.specs.Buffers.{over, counted}
-use Rattle.book.specs.Fields.{formIn}
+use Rattle.reader.specs.Fields.{formIn}
 use Rattle.machine.specs.Expansion.{opened, expansion, Course, Upshot, complete, unfit, full-stack, full-output, Expansion, ended, wrote, applied, expandFrom}
 use Rattle.machine.specs.Room.{rightOf, isOf}
 use Rattle.machine.proofs.ExpandMoves.{finished-is, left-over-is, too-short-is, misfit-is, no-stack-is, apply-is, no-output-is, write-is}

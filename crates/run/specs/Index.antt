@@ -4,8 +4,8 @@ use mathlib.Core.List.{List, [], _∷_}
 use Prim.Native.Nat.{ℕ, zero, suc, _%_}
 use lib.ListN.{getD}
 use Rattle.grammar.specs.Grammar.{Production, Grammar}
+use Rattle.reader.specs.Fields.{leftAt, rightAt}
 use Rattle.book.specs.declared.Reading.{Reading}
-use Rattle.book.specs.Fields.{leftAt, rightAt}
 
 -- the production whose record stands at a place
 unfoldable pub productionAt : List ℕ → ℕ → Production

@@ -9,8 +9,8 @@ use lib.ListN.{length, getD}
 use Rattle.grammar.specs.Grammar.{Form, Grammar, Column, token, endmark}
 use Rattle.grammar.specs.declared.Symbol.the-variants.{Token, Nonterminal}
 use Rattle.grammar.specs.declared.Symbol.{Symbol}
+use Rattle.reader.specs.Fields.{formIn}
 use Rattle.book.specs.declared.Reading.{Reading}
-use Rattle.book.specs.Fields.{formIn}
 use Rattle.machine.specs.Room.{rightOf}
 use Rattle.run.specs.Index.{productionsFrom}
 use Rattle.run.specs.declared.Ahead.the-variants.{Next, End}

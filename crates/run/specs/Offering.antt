@@ -7,8 +7,8 @@ use lib.ListN.{length, set}
 use Rattle.grammar.specs.Grammar.{Every}
 use Rattle.grammar.specs.declared.Symbol.{Symbol}
 use Rattle.answers.specs.Buffers.{over, counted}
-use Rattle.book.specs.Fields.{symbolOfByte}
-use Rattle.book.specs.Book.{byteOf}
+use Rattle.reader.specs.Fields.{symbolOfByte}
+use Rattle.reader.specs.Book.{byteOf}
 use Rattle.machine.specs.Machine.{State, Offered, final}
 use Rattle.run.specs.Resuming.{progressOf, reported}
 use Rattle.run.specs.Stack.{stacked}

@@ -4,8 +4,8 @@ use mathlib.Core.List.{List, [], _∷_, _++_}
 use Prim.Native.Nat.{ℕ, zero, suc, _+_, _-_}
 use lib.ListN.{length, getD, drop, replicate}
 use Rattle.grammar.specs.Grammar.{Form}
-use Rattle.book.specs.Book.{byteOf}
-use Rattle.book.specs.Fields.{symbolOfByte}
+use Rattle.reader.specs.Book.{byteOf}
+use Rattle.reader.specs.Fields.{symbolOfByte}
 
 -- the bytes of a stack, from the bottom up
 unfoldable pub stackBytes : Form → List ℕ

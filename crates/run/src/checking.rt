@@ -18,7 +18,7 @@ use answers::refusals::ROOM;
 use answers::refusals::STACK_ROOM;
 use answers::refusals::TABLE;
 use answers::refusals::TOKEN;
-use book::fields::LEFT;
+use reader::fields::LEFT;
 use table::VACANT;
 
 // The most tokens that a run takes.

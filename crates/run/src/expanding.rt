@@ -25,9 +25,9 @@ use answers::refusals::PRODUCTION;
 use answers::refusals::ROOM;
 use answers::refusals::STACK_ROOM;
 use answers::stop;
-use book::fields::LEFT;
-use book::fields::LENGTH;
-use book::fields::place_at;
+use reader::fields::LEFT;
+use reader::fields::LENGTH;
+use reader::fields::place_at;
 use book::judging::judge;
 use sets::none;
 

@@ -17,9 +17,9 @@ use crate::Move;
 use crate::Outline;
 use crate::Step;
 use book::Reading;
-use book::fields::byte_at;
-use book::fields::place_at;
-use book::fields::symbol_of;
+use reader::fields::byte_at;
+use reader::fields::place_at;
+use reader::fields::symbol_of;
 use grammar::Symbol;
 use table::VACANT;
 

@@ -27,8 +27,8 @@ use crate::moves::outline_of;
 use crate::moves::right_length;
 use crate::stack::replace;
 use book::Reading;
-use book::fields::LENGTH;
-use book::fields::place_at;
+use reader::fields::LENGTH;
+use reader::fields::place_at;
 
 // The offer ends: a token that is matched is popped.
 fn finish(ending: Ending, stack: &mut [u8], at: Progress) -> Reply

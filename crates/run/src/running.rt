@@ -25,7 +25,7 @@ use answers::refusals::DONE;
 use answers::refusals::ROOM;
 use answers::refusals::STACK_ROOM;
 use book::Reading;
-use book::fields::LENGTH;
+use reader::fields::LENGTH;
 use book::judging::judge;
 
 // What comes after the first i tokens.

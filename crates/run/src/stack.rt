@@ -2,11 +2,11 @@ ghost use mathlib.Core.Path.{_≡_};
 ghost use Prim.Native.Nat.{_+_, _^_, _≤_, _<_};
 ghost use lib.ListN.{length, set};
 ghost use lib.Seq.{sets};
-ghost use Rattle.book.specs.Fields.{symbolAt};
-ghost use Rattle.book.specs.Fields.{formIn};
-ghost use Rattle.book.specs.Book.{byteOf};
+ghost use Rattle.reader.specs.Fields.{symbolAt};
+ghost use Rattle.reader.specs.Fields.{formIn};
+ghost use Rattle.reader.specs.Book.{byteOf};
 ghost use Rattle.run.specs.Stack.{stackBytes};
-use book::fields::SYMBOLS;
+use reader::fields::SYMBOLS;
 
 // The byte of symbol `i` of the record at `at`.
 fn symbol_byte(book: &[u8], at: u16, i: usize) -> u8

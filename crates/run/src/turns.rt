@@ -15,7 +15,7 @@ use crate::moves::counts;
 use crate::moves::gathered;
 use crate::moves::right_length;
 use crate::running::ahead_of;
-use book::fields::symbol_of;
+use reader::fields::symbol_of;
 use grammar::Symbol;
 
 // Whether p is a production of nonterminal n.

@@ -1,4 +1,4 @@
-use book::fields::byte_at;
+use reader::fields::byte_at;
 use libc::STDOUT_FILENO;
 use run::beside::run_beside;
 use run::expanding::expand;

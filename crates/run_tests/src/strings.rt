@@ -1,7 +1,7 @@
 ghost use Prim.Native.Nat.{_<_, _≤_};
 ghost use lib.ListN.{length};
 use crate::showing::show;
-use book::fields::byte_at;
+use reader::fields::byte_at;
 
 // Shows the string at a place and answers the place behind it; what is cut off ends the input.
 fn next(input: &[u8], at: usize) -> usize

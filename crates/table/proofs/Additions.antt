@@ -17,7 +17,7 @@ use Rattle.grammar.proofs.Useful.{useful-reachable}
 use Rattle.sets.specs.Sets.{endMark, emptyString, only, united}
 use Rattle.sets.specs.Calls.{setAt, stored}
 use Rattle.sets.proofs.Promise.{member-none, or-cases}
-use Rattle.book.specs.Book.{Limits}
+use Rattle.reader.specs.Book.{Limits}
 use Rattle.book.specs.Judging.{AllUseful}
 use Rattle.table.specs.Trail.{trail, Halts, Inside, Sound, FirstSound, FollowSound}
 use Rattle.table.proofs.Trail.{halts-dropped}

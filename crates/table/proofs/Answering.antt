@@ -12,8 +12,8 @@ use Rattle.answers.specs.declared.Answer.{Answer}
 use Rattle.answers.specs.Answers.{done, refusal}
 use Rattle.answers.specs.Refusals as refusals
 use Rattle.answers.specs.Buffers.{over}
+use Rattle.reader.specs.Book.{Limits}
 use Rattle.book.specs.declared.Reading.{Reading}
-use Rattle.book.specs.Book.{Limits}
 use Rattle.book.specs.Judging.{indexOf, Refuses, Serves, Judged}
 use Rattle.book.proofs.Promise.{judged-done, judged-refused, Served, served, serves-limits, refuses-number, serves-unique}
 use Rattle.table.specs.Numbers.{FirstSets, FollowSets}

@@ -12,7 +12,7 @@ use Rattle.grammar.proofs.Machine.{exact-no-conflict}
 use Rattle.answers.specs.declared.Answer.{Answer}
 use Rattle.answers.specs.Answers.{done, refusal}
 use Rattle.answers.specs.Buffers.{over}
-use Rattle.book.specs.Book.{Limits}
+use Rattle.reader.specs.Book.{Limits}
 use Rattle.book.specs.Judging.{Serves}
 use Rattle.book.proofs.Promise.{serves-unique, serves-limits, refuses-number}
 use Rattle.table.specs.Table.{size, rowAt, columnAt, TableOf, FirstConflict, BuiltWithoutConflict}

@@ -17,8 +17,8 @@ use Rattle.grammar.specs.Machine.{Exact}
 use Rattle.grammar.proofs.Leftmost.{rule-same}
 use Rattle.grammar.proofs.Sets.{lookahead-not-empty}
 use Rattle.sets.specs.Sets.{endMark, member, columnPlace}
-use Rattle.book.specs.Book.{Limits}
-use Rattle.book.proofs.Promise.{read-limits}
+use Rattle.reader.specs.Book.{Limits}
+use Rattle.reader.proofs.Promise.{read-limits}
 use Rattle.table.specs.Numbers.{placeOf, IsSet}
 use Rattle.table.specs.Table.{size, columnOf, rowAt, columnAt, ClaimsCell, held, TableOf, BuiltWithoutConflict, cellOf, ContestedCell}
 use Rattle.table.proofs.Known.{Proper, below, end-mark, proper-token, lookahead-proper, claims-row, claims-proper}

@@ -8,9 +8,8 @@ use Prim.Native.Nat.{ℕ, zero, suc, _≤_, _<_}
 use native.Mathlib.Omega.{arith}
 use lib.ListN.{length, getD}
 use borrow.Author.Tests.{ne-eqb}
-use Rattle.grammar.specs.Grammar.{Form, Grammar, Rule, Lookahead, Cell, only}
-use Rattle.grammar.specs.Grammar.{vacant as empty}
-use Rattle.book.proofs.Promise.{below-rule}
+use Rattle.grammar.specs.Grammar.{Form, Grammar, Rule, Lookahead, Cell, only, vacant as empty}
+use Rattle.grammar.proofs.Rules.{below-rule}
 use Rattle.table.specs.declared.claims.Contest.{Contest}
 use Rattle.table.specs.Numbers.{IsSet}
 use Rattle.table.specs.Table.{size, rowAt, columnAt, ClaimsCell, held, TableOf, FirstConflict}

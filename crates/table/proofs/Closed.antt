@@ -14,7 +14,7 @@ use Rattle.grammar.proofs.Sets.{merged, FirstOf, FollowOf, first-of-closed, fir
 use Rattle.grammar.proofs.Sets as textbook
 use Rattle.sets.specs.Sets.{width, emptyString, member, only}
 use Rattle.sets.proofs.Promise.{only-fits}
-use Rattle.book.specs.Book.{Limits}
+use Rattle.reader.specs.Book.{Limits}
 use Rattle.table.specs.Numbers.{placeOf, IsSet, Sets}
 use Rattle.table.specs.Trail.{trail, Sound, FirstSound, FollowSound, SetsAt, FirstAt, FollowAt, FirstClosed, FollowClosed}
 use Rattle.table.proofs.Known.{Proper, below, end-mark, proper-token}

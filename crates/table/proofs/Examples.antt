@@ -15,7 +15,7 @@ use Rattle.grammar.proofs.WorkedUseful.{productives, has}
 use Rattle.grammar.proofs.House.{houseFirst, houseFollow, house-first-exact, house-follow-exact, houseCell, house-exact, house-no-conflict}
 use Rattle.answers.specs.Answers.{done, refusal}
 use Rattle.answers.specs.Buffers.{over}
-use Rattle.book.specs.Book.{wanted, marked, symbolOf, symbols, records, ending, spells}
+use Rattle.reader.specs.Book.{wanted, marked, symbolOf, symbols, records, ending, spells}
 use Rattle.book.specs.Judging.{Serves}
 use Rattle.book.specs.Examples.{houseBook}
 use Rattle.book.proofs.Promise.{house-serves}

@@ -14,13 +14,14 @@ use Rattle.grammar.specs.declared.Symbol.{Symbol}
 use Rattle.grammar.specs.declared.Symbol.the-variants.{Token, Nonterminal}
 use Rattle.grammar.specs.Grammar.{Form, Grammar, Every, nothing, each, Rule, Follow}
 use Rattle.grammar.proofs.Join.{Behind, first, later}
+use Rattle.grammar.proofs.Rules.{below-rule}
 use Rattle.sets.specs.Sets.{width, endMark, member, Subset, only}
 use Rattle.sets.specs.Calls.{setAt, stored}
 use Rattle.sets.proofs.Promise.{member-none, only-fits}
-use Rattle.book.specs.Book.{Limits}
+use Rattle.reader.specs.Book.{Limits}
+use Rattle.reader.specs.Fields.{leftAt, tailAt}
+use Rattle.reader.proofs.Promise.{form-dropped}
 use Rattle.book.specs.Judging.{AllUseful}
-use Rattle.book.specs.Fields.{leftAt, tailAt}
-use Rattle.book.proofs.Promise.{below-rule, form-dropped}
 use Rattle.table.specs.Forms.{Narrow, Readable, Indexes}
 use Rattle.table.specs.Trail.{trail, Halts, Inside, FirstSound, FollowSound, FirstAt, Grown, FollowClosed}
 use Rattle.table.specs.Steps.{Made, spread, walked, followStep, passed, followSteps, Walkable, TailAt, Tails, FollowFound}

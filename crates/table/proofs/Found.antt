@@ -5,10 +5,10 @@ use Prim.Native.Nat.{ℕ, _<_}
 use native.Mathlib.Omega.{arith}
 use lib.ListN.{length, getD, replicate}
 use Rattle.grammar.specs.Grammar.{Form, Grammar, each, Rule}
+use Rattle.grammar.proofs.Rules.{below-rule}
 use Rattle.sets.specs.Sets.{width, emptyString, Subset, only}
 use Rattle.sets.proofs.Promise.{only-fits}
-use Rattle.book.specs.Fields.{leftAt, rightAt}
-use Rattle.book.proofs.Promise.{below-rule}
+use Rattle.reader.specs.Fields.{leftAt, rightAt}
 use Rattle.table.specs.Forms.{Readable, Indexes}
 use Rattle.table.specs.Trail.{trail, FirstSound, FirstClosed}
 use Rattle.table.specs.Steps.{firstStep, passed, firstSteps, FirstFound}

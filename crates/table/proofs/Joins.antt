@@ -12,9 +12,9 @@ use Rattle.grammar.specs.declared.Symbol.the-variants.{Token, Nonterminal}
 use Rattle.grammar.specs.Grammar.{Form, Grammar, Column, token, endmark, Member, column, Every, nothing, each, Known, known-token, known-nonterminal}
 use Rattle.grammar.proofs.Join.{Family, Join, over, here, begins, past}
 use Rattle.grammar.proofs.Sets.{merged}
-use Rattle.book.specs.Book.{Limits}
 use Rattle.sets.specs.Sets.{emptyString, member, only}
 use Rattle.sets.proofs.Promise.{member-only, join-keep, join-skip, join-cases}
+use Rattle.reader.specs.Book.{Limits}
 use Rattle.table.specs.Numbers.{placeOf}
 use Rattle.table.specs.Trail.{trail, symbolSet}
 

@@ -12,9 +12,9 @@ use Rattle.sets.specs.Calls.{number}
 use Rattle.answers.specs.declared.Answer.{Answer}
 use Rattle.answers.specs.Answers.{done, refusal}
 use Rattle.answers.specs.Refusals as refusals
+use Rattle.reader.specs.Fields.{formIn}
 use Rattle.book.specs.declared.Reading.{Reading}
 use Rattle.book.specs.Judging.{Judged}
-use Rattle.book.specs.Fields.{formIn}
 use Rattle.book.proofs.Promise.{judged-refused}
 use Rattle.table.specs.declared.SetAnswer.{SetAnswer}
 use Rattle.table.specs.Trail.{trail, FirstAt}

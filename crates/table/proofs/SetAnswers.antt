@@ -9,12 +9,13 @@ use native.Mathlib.Omega.{arith}
 use lib.ListN.{length, getD}
 use Rattle.grammar.specs.Grammar.{Form, Grammar, Member, Every, nothing, each, Known, Rule, First, Lookahead}
 use Rattle.grammar.proofs.Leftmost.{rule-same}
+use Rattle.grammar.proofs.Rules.{below-rule}
 use Rattle.sets.specs.Calls.{number}
 use Rattle.sets.proofs.Promise.{exactly-unique, number-unique}
 use Rattle.answers.specs.declared.Answer.{Answer}
 use Rattle.answers.specs.Answers.{refusal}
-use Rattle.book.specs.Book.{symbolOf}
-use Rattle.book.proofs.Promise.{symbolOf-known, below-rule}
+use Rattle.reader.specs.Book.{symbolOf}
+use Rattle.reader.proofs.Promise.{symbolOf-known}
 use Rattle.table.specs.declared.SetAnswer.{SetAnswer}
 use Rattle.table.specs.Calls.{SetIs, NoSet, LookaheadOutcome, FirstStranger, FirstOutcome}
 use Rattle.table.specs.Calls as calls

@@ -7,11 +7,13 @@ use native.Mathlib.Omega.{arith}
 use lib.ListN.{length, drop, getD}
 use Rattle.grammar.specs.declared.Symbol.the-variants.{Token}
 use Rattle.grammar.specs.Grammar.{Form, Grammar, Every, nothing, each, Rule, Known, known-token, known-nonterminal}
+use Rattle.grammar.proofs.Rules.{rule-below}
 use Rattle.sets.specs.Sets.{endMark}
-use Rattle.book.specs.Fields.{symbolOfByte, symbolAt, leftAt, rightAt, tailAt}
-use Rattle.book.specs.Book.{Limits}
+use Rattle.reader.specs.Fields.{symbolOfByte, symbolAt, leftAt, rightAt, tailAt}
+use Rattle.reader.specs.Book.{Limits}
+use Rattle.reader.proofs.Promise.{form-spelled, form-dropped, symbol-token}
 use Rattle.book.specs.Judging.{indexOf}
-use Rattle.book.proofs.Promise.{Entry, serves-limits, served, rule-below, form-spelled, form-dropped, symbol-token}
+use Rattle.book.proofs.Promise.{Entry, serves-limits, served}
 use Rattle.table.specs.Forms.{Narrow, narrow-token, narrow-nonterminal, Legible, Readable, Indexes}
 
 pub narrow-below : {t : ℕ} → Narrow (Token t) → t < endMark

@@ -10,9 +10,9 @@ use borrow.Author.Tests.{lt-ltb, le-ltb, le-leb, lt-leb}
 use Rattle.grammar.specs.declared.Symbol.{Symbol}
 use Rattle.grammar.specs.declared.Symbol.the-variants.{Token, Nonterminal}
 use Rattle.grammar.specs.Grammar.{Form, Grammar, Every, nothing, each, Known, known-token, known-nonterminal}
-use Rattle.book.specs.Fields.{symbolOfByte, formIn}
-use Rattle.book.specs.Book.{Limits, symbolOf, IsSymbol}
-use Rattle.book.proofs.Promise.{symbol-token, symbol-nonterminal}
+use Rattle.reader.specs.Fields.{symbolOfByte, formIn}
+use Rattle.reader.specs.Book.{Limits, symbolOf, IsSymbol}
+use Rattle.reader.proofs.Promise.{symbol-token, symbol-nonterminal}
 
 module _ {g : Grammar} (limits : Limits g) where
   -- a symbol of the grammar is the one that its byte stands for, and is known

@@ -13,7 +13,7 @@ use Rattle.sets.specs.Calls.{setAt, stored}
 use Rattle.answers.specs.declared.Answer.{Answer}
 use Rattle.answers.specs.Answers.{done}
 use Rattle.answers.specs.Buffers.{over}
-use Rattle.book.specs.Book.{Limits}
+use Rattle.reader.specs.Book.{Limits}
 use Rattle.book.specs.Judging.{AllUseful, Refuses, Serves}
 use Rattle.book.proofs.Promise as judged
 use Rattle.table.specs.declared.SetAnswer.{SetAnswer}

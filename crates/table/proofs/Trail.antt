@@ -9,9 +9,9 @@ use lib.ListN.{take, drop, getD}
 use lib.Seq.{getD-take}
 use Rattle.grammar.specs.declared.Symbol.the-variants.{Token, Nonterminal}
 use Rattle.grammar.specs.Grammar.{Form, Grammar, Every, nothing, each, Known, known-token, known-nonterminal}
-use Rattle.book.specs.Book.{Limits}
 use Rattle.sets.specs.Sets.{width, endMark, emptyString, member, only, joined, Subset}
 use Rattle.sets.proofs.Promise.{member-only, only-fits, joined-fits, join-monotone}
+use Rattle.reader.specs.Book.{Limits}
 use Rattle.table.specs.Trail.{trail, symbolSet, Halts, halts-here, halts-later, Grown}
 
 -- nothing is joined to a set without the empty string, such as a token's

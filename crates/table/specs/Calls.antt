@@ -14,7 +14,7 @@ use Rattle.answers.specs.declared.Answer.{Answer}
 use Rattle.answers.specs.Answers.{done, refusal, noSet}
 use Rattle.answers.specs.Refusals.{limit, symbol, room, firstRoom, followRoom, tableRoom}
 use Rattle.answers.specs.Refusals as refusals
-use Rattle.book.specs.Book.{symbolOf}
+use Rattle.reader.specs.Book.{symbolOf}
 use Rattle.book.specs.Judging.{Refuses, Serves}
 use Rattle.table.specs.declared.SetAnswer.{SetAnswer}
 use Rattle.table.specs.Numbers.{IsSet, FirstSets, FollowSets}

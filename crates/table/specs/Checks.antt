@@ -8,7 +8,7 @@ use lib.ListN.{length, getD}
 use Rattle.answers.specs.declared.Answer.{Answer}
 use Rattle.answers.specs.Answers.{refusal}
 use Rattle.answers.specs.Refusals as refusals
-use Rattle.book.specs.Book.{IsSymbol}
+use Rattle.reader.specs.Book.{IsSymbol}
 
 -- an earlier refusal passes through; otherwise the check stops with its own, or goes on
 pub data Checked (before : Answer) (Bad : Answer → Type 0) (Good : Type 0) : Answer → Type 0 where

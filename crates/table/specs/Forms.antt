@@ -8,7 +8,7 @@ use Rattle.grammar.specs.declared.Symbol.{Symbol}
 use Rattle.grammar.specs.declared.Symbol.the-variants.{Token, Nonterminal}
 use Rattle.grammar.specs.Grammar.{Grammar, Every}
 use Rattle.sets.specs.Sets.{endMark}
-use Rattle.book.specs.Fields.{rightAt}
+use Rattle.reader.specs.Fields.{rightAt}
 use Rattle.book.specs.Judging.{placesIn, Serves}
 
 -- a symbol whose number, if it is a token, is a token's place in a set

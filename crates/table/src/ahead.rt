@@ -1,13 +1,13 @@
 ghost use mathlib.Core.Path.{_≡_};
 ghost use Rattle.sets.specs.Calls.{number, setAt};
-ghost use Rattle.book.specs.Fields.{leftAt};
-ghost use Rattle.book.specs.Fields.{rightAt};
+ghost use Rattle.reader.specs.Fields.{leftAt};
+ghost use Rattle.reader.specs.Fields.{rightAt};
 ghost use Rattle.table.specs.Forms.{Legible};
 ghost use Rattle.table.specs.Trail.{trail};
 use crate::forms::trail_of;
-use book::fields::LEFT;
-use book::fields::LENGTH;
-use book::fields::SYMBOLS;
+use reader::fields::LEFT;
+use reader::fields::LENGTH;
+use reader::fields::SYMBOLS;
 use sets::Set;
 use sets::load;
 

@@ -8,7 +8,7 @@ use answers::refusals::LIMIT;
 use answers::refusals::PRODUCTION;
 use answers::refusals::ROOM;
 use answers::refusals::SYMBOL;
-use book::fields::is_symbol;
+use reader::fields::is_symbol;
 
 // The longest symbol string.
 const LONGEST: usize = 16;

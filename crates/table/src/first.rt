@@ -5,9 +5,9 @@ ghost use Rattle.table.specs.Steps.{Made, firstStep, firstSteps, passed,
 use crate::families::single;
 use crate::families::unite;
 use crate::forms::trail_of;
-use book::fields::LEFT;
-use book::fields::LENGTH;
-use book::fields::SYMBOLS;
+use reader::fields::LEFT;
+use reader::fields::LENGTH;
+use reader::fields::SYMBOLS;
 use sets::EMPTY_STRING;
 
 // The right side of the record at a place adds to FIRST of its left side, or changes nothing.

@@ -15,7 +15,7 @@ use answers::Answer;
 use answers::refusals::DONE;
 use answers::refusals::TABLE_ROOM;
 use book::Reading;
-use book::fields::place_at;
+use reader::fields::place_at;
 use book::judging::judge;
 use sets::EMPTY_STRING;
 use sets::Set;

@@ -3,8 +3,8 @@ ghost use lib.ListN.{length};
 ghost use Rattle.table.specs.Forms.{Legible, Readable};
 ghost use Rattle.table.specs.Steps.{TailAt, Tails};
 use crate::forms::symbol_set;
-use book::fields::LENGTH;
-use book::fields::SYMBOLS;
+use reader::fields::LENGTH;
+use reader::fields::SYMBOLS;
 use sets::EMPTY_STRING;
 use sets::has;
 

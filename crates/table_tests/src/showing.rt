@@ -1,7 +1,7 @@
 use answers::Answer;
-use book::fields::byte_at;
-use book::fields::length_at;
-use book::fields::place_at;
+use reader::fields::byte_at;
+use reader::fields::length_at;
+use reader::fields::place_at;
 use book::judging::judge;
 use libc::STDOUT_FILENO;
 use sets::load;

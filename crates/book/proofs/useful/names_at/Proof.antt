@@ -5,7 +5,7 @@ use native.Mathlib.Omega.{arith}
 use borrow.Author.Needs.{needs}
 use Rattle.sets.specs.Sets.{width, Exactly}
 use Rattle.sets.specs.Calls.{number}
-use Rattle.book.specs.Fields.{symbolAt}
+use Rattle.reader.specs.Fields.{symbolAt}
 use Rattle.book.specs.Useful.{NamedAt}
 use Rattle.book.proofs.Filling.{none-exactly, named-next}
 use Rattle.book.proofs.useful.names_at.Statement.{statement}

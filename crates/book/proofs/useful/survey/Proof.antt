@@ -8,12 +8,11 @@ use native.Mathlib.Omega.{arith}
 use lib.ListN.{length}
 use lib.Seq.{sets}
 use borrow.Author.Needs.{needs}
-use Rattle.book.specs.Fields.{lengthAt, placeAfter, placeOfRecord, placesFrom}
+use Rattle.reader.specs.Fields.{lengthAt, placeAfter, placeOfRecord, placesFrom}
+use Rattle.reader.proofs.Promise.{places-turn, places-over, read-limits}
 use Rattle.book.specs.Useful.{RightNames, LeftName, Filled, Lists}
 use Rattle.book.proofs.Filling.{filled-none, filled-next}
 use Rattle.book.proofs.Index.{record-fits}
-use Rattle.book.proofs.Turns.{places-turn, places-over}
-use Rattle.book.proofs.Written.{read-limits}
 use Rattle.book.proofs.useful.survey.Statement.{statement}
 use Rattle.book.proofs.useful.survey.Tie as tie
 

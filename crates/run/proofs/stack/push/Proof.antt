@@ -4,7 +4,7 @@ use Prim.Native.Nat.{_+_, _-_, _≤_}
 use lib.ListN.{length}
 use lib.Seq.{sets}
 use borrow.Author.Needs.{needs}
-use Rattle.book.specs.Fields.{formIn}
+use Rattle.reader.specs.Fields.{formIn}
 use Rattle.run.specs.Stack.{stackBytes}
 use Rattle.run.proofs.Stacked.{push-start, push-turn, push-over}
 use Rattle.run.proofs.stack.push.Statement.{statement}

@@ -3,8 +3,8 @@ use mathlib.Core.Path.{sym, _∙_}
 use native.Mathlib.Omega.{arith}
 use lib.ListN.{List·getD-eq-default}
 use borrow.Author.Needs.{needs}
-use Rattle.book.specs.Fields.{symbolAt}
-use Rattle.book.proofs.Promise.{byte-of-symbol}
+use Rattle.reader.specs.Fields.{symbolAt}
+use Rattle.reader.proofs.Promise.{byte-of-symbol}
 use Rattle.run.proofs.stack.symbol_byte.Statement.{statement}
 use Rattle.run.proofs.stack.symbol_byte.Tie as tie
 

@@ -4,7 +4,7 @@ use lib.ListN.{length, getD}
 use borrow.Author.Tests.{not-true, not-false}
 use borrow.Author.Needs.{needs}
 use Rattle.sets.proofs.Promise.{decides-true, decides-false}
-use Rattle.book.specs.Book.{IsSymbol}
+use Rattle.reader.specs.Book.{IsSymbol}
 use Rattle.table.proofs.Seeking.{Seeking, seeking-begun, seeking-next, seeking-found, seeking-over}
 use Rattle.table.proofs.checks.stranger.Statement.{statement}
 use Rattle.table.proofs.checks.stranger.Tie as tie

@@ -5,8 +5,8 @@ use native.Mathlib.Omega.{arith}
 use lib.ListN.{length, getD}
 use borrow.Author.Needs.{needs}
 use Rattle.sets.specs.Calls.{number}
-use Rattle.book.specs.Fields.{tailAt}
-use Rattle.book.proofs.Promise.{form-turn, form-none, every-in}
+use Rattle.reader.specs.Fields.{tailAt}
+use Rattle.reader.proofs.Promise.{form-turn, form-none, every-in}
 use Rattle.table.specs.Trail.{trail}
 use Rattle.table.specs.Steps.{Made, walked, followStep}
 use Rattle.table.proofs.Following.{made-walked}

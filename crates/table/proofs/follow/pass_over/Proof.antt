@@ -4,7 +4,7 @@ use Prim.Native.Nat.{_<_}
 use native.Mathlib.Omega.{arith}
 use borrow.Author.Needs.{needs}
 use Rattle.sets.proofs.Promise.{join-is}
-use Rattle.book.proofs.Promise.{symbol-token, symbol-nonterminal}
+use Rattle.reader.proofs.Promise.{symbol-token, symbol-nonterminal}
 use Rattle.table.specs.Trail.{symbolSet}
 use Rattle.table.specs.Steps.{spread}
 use Rattle.table.proofs.Trail.{join-token}

@@ -1,7 +1,7 @@
 -- A byte below 128 is a token, whose set is itself; any other a nonterminal, whose set stands in the family.
 use native.Mathlib.Omega.{arith}
 use borrow.Author.Needs.{needs}
-use Rattle.book.proofs.Promise.{symbol-token, symbol-nonterminal}
+use Rattle.reader.proofs.Promise.{symbol-token, symbol-nonterminal}
 use Rattle.table.specs.Trail.{symbolSet}
 use Rattle.table.proofs.Spelled.{narrow-below}
 use Rattle.table.proofs.forms.symbol_set.Statement.{statement}

@@ -8,8 +8,8 @@ use borrow.Author.Needs.{needs}
 use Rattle.sets.specs.Sets.{emptyString, joined}
 use Rattle.sets.specs.Calls.{number}
 use Rattle.sets.proofs.Promise.{join-is, join-assoc, join-neutral-left}
-use Rattle.book.specs.Fields.{formIn}
-use Rattle.book.proofs.Promise.{form-next, form-past, every-in}
+use Rattle.reader.specs.Fields.{formIn}
+use Rattle.reader.proofs.Promise.{form-next, form-past, every-in}
 use Rattle.table.specs.Trail.{trail}
 use Rattle.table.proofs.Trail.{join-stops}
 use Rattle.table.proofs.forms.trail_of.Statement.{statement}

@@ -7,7 +7,7 @@ use lib.ListN.{getD}
 use borrow.Author.Tests.{not-true}
 use borrow.Author.Needs.{needs}
 use Rattle.sets.specs.Sets.{emptyString, member}
-use Rattle.book.proofs.Promise.{form-turn, every-in}
+use Rattle.reader.proofs.Promise.{form-turn, every-in}
 use Rattle.table.specs.Trail.{symbolSet, halts-here}
 use Rattle.table.proofs.tails.tail_at.Statement.{statement}
 use Rattle.table.proofs.tails.tail_at.Tie as tie

@@ -1,0 +1,16 @@
+pub mod Records
+pub mod Turns
+pub mod Checked
+pub mod Guards
+pub mod Heads
+pub mod Joined
+pub mod Bytes
+pub mod Written
+pub mod Positions
+pub mod Order
+pub mod Place
+pub mod Longest
+pub mod Cells
+pub mod Forms
+pub mod Tools
+pub mod Promise

@@ -1,0 +1,23 @@
+-- Past the end the place is the default of `getD`.
+use mathlib.Core.Path.{sym}
+use native.Mathlib.Omega.{arith}
+use lib.ListN.{List·getD-eq-default}
+use borrow.Author.Needs.{needs}
+use Rattle.reader.proofs.fields.place_at.Statement.{statement}
+use Rattle.reader.proofs.fields.place_at.Tie as tie
+
+returns : tie.Need-returns
+returns c = sym (List·getD-eq-default (c .before .args .places .now) 0 (omega arith))
+
+mul-result : tie.Need-mul-result
+mul-result c = search needs
+
+shared-slice-read-result : tie.Need-shared-slice-read-result
+shared-slice-read-result c = search needs
+
+returns-2 : tie.Need-returns-2
+returns-2 c = search needs
+
+pub place-at-spec : {M : Type 1} → statement M
+place-at-spec =
+    tie.close (tie.spec returns mul-result shared-slice-read-result returns-2)

@@ -1,0 +1,36 @@
+-- The byte is there or not, and where it is, it decides.
+use mathlib.Core.Path.{sym, _∙_}
+use Prim.Native.Nat.{_+_}
+use native.Mathlib.Omega.{arith}
+use lib.ListN.{length}
+use borrow.Author.Needs.{needs}
+use Rattle.reader.specs.Positional.{withinAt}
+use Rattle.reader.proofs.Guards.{standing}
+use Rattle.reader.proofs.spelling.is_within.Statement.{statement}
+use Rattle.reader.proofs.spelling.is_within.Tie as tie
+
+stands-requires : tie.Need-stands-requires
+stands-requires c κs = search needs
+
+add-lies-in : tie.Need-add-lies-in
+add-lies-in c = omega (arith, standing (c .before .before .before .args .at + c .before .before .before .args .more) (length (c .before .before .before .args .book .now)) (c .before .stands .ensures) (c .if1 .taken))
+
+shared-slice-read-lies-in : tie.Need-shared-slice-read-lies-in
+shared-slice-read-lies-in c =
+    let args = c .before .before .before .before .args in
+    let stands = c .before .before .stands in
+    standing (args .at + args .more) (length (args .book .now)) (stands .ensures) (c .before .if1 .taken)
+
+lies-in-requires : tie.Need-lies-in-requires
+lies-in-requires c κs = search needs
+
+returns : tie.Need-returns
+unfolding withinAt
+returns c = simp (withinAt, sym (c .before .before .before .stands .ensures) ∙ c .before .before .if1 .taken, c .lies-in .ensures)
+
+returns-2 : tie.Need-returns-2
+unfolding withinAt
+returns-2 c = simp (withinAt, sym (c .before .stands .ensures) ∙ c .if1 .left)
+
+pub is-within-spec : {M : Type 1} → statement M
+is-within-spec = tie.close (tie.spec stands-requires add-lies-in shared-slice-read-lies-in lies-in-requires returns returns-2)
