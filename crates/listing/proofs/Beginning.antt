@@ -6,7 +6,8 @@ use Prim.Native.Nat.{ℕ, _<_}
 use native.Mathlib.Omega.{arith}
 use lib.ListN.{take}
 use Rattle.reader.specs.Book.{spells}
-use Rattle.book.proofs.Promise.{judged-by-first, refuses-alike, serves-alike}
+use Rattle.reader.proofs.Promise.{judged-by-first}
+use Rattle.book.proofs.Promise.{refuses-alike, serves-alike}
 use Rattle.listing.specs.Listing.{Listing, refused, conflicted, served}
 
 -- books that spell the same are listed alike

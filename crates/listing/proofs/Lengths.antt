@@ -20,7 +20,8 @@ use Rattle.answers.specs.Answers.{refusal}
 use Rattle.reader.specs.Book.{Limits}
 use Rattle.reader.proofs.Promise.{read-limits}
 use Rattle.book.specs.Judging.{Refuses, misread, useless-one}
-use Rattle.book.proofs.Promise.{refuses-number, refused-within, serves-limits}
+use Rattle.reader.proofs.Promise.{refused-within}
+use Rattle.book.proofs.Promise.{refuses-number, serves-limits}
 use Rattle.table.specs.Numbers.{FirstSets, FollowSets}
 use Rattle.table.specs.Table.{size, held, TableOf, FirstConflict}
 use Rattle.listing.specs.Listing.{space, newline, dash, refusedWord, grammarWord, firstWord, followWord, rowWord, numbered, numbersLine, refusedLine, grammarLine, setLine, setLines, cellText, cellsText, rowLine, rowLines, servedText, Listing, refused, conflicted, served}
