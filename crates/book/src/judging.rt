@@ -6,19 +6,19 @@ ghost use Rattle.reader.specs.Book.{spells, reads};
 ghost use Rattle.book.specs.Judging.{Judged};
 ghost use Rattle.book.specs.Judging as judging;
 use crate::Reading;
+use crate::useful::first_useless;
+use crate::useful::survey;
+use answers::Answer;
+use answers::done;
+use answers::refusal;
+use answers::refusals::USELESS;
 use reader::Verdict;
 use reader::fields::NONTERMINALS;
 use reader::fields::PRODUCTIONS;
 use reader::fields::START;
 use reader::fields::TOKENS;
 use reader::fields::byte_at;
-use crate::useful::first_useless;
-use crate::useful::survey;
 use reader::walk::read;
-use answers::Answer;
-use answers::done;
-use answers::refusal;
-use answers::refusals::USELESS;
 
 // At most as many records as there are cells.
 fn cells_for(count: u8) -> usize

@@ -64,9 +64,14 @@ module _ {g : Grammar} {table : List ℕ} (fit : FitTable g table) where
           column (yes h) = cell-row a (omega arith) (rw (lt-ltb A (g .nonterminals) a, lt-ltb t (g .tokens) h, cellOf) at e)
           column (no n) = let far : g .tokens ≤ t = omega arith in absurd (outside (rw (lt-ltb A (g .nonterminals) a, le-ltb t (g .tokens) far, cellOf)) e)
 
-  -- a string that is accepted is derived, by the list that is written
-  pub any-accepted : {tokens stack list : List ℕ} {r : Ran} → EndsRun g table tokens stack list r → r .answer .number ≡ 0 → (ps : List ℕ) × Complete g ps tokens × (r .list ≡ over ps list)
+  -- a string that is accepted is derived, by the list that is written, and the steps are its productions and the tokens
+  pub any-accepted : {tokens stack list : List ℕ} {r : Ran}
+      → EndsRun g table tokens stack list r
+      → r .answer .number ≡ 0
+      → (ps : List ℕ) × Complete g ps tokens × (r .list ≡ over ps list) × (r .answer .steps ≡ length ps + length tokens)
   unfolding ran final
   any-accepted {tokens} {stack} {list} e n =
       let (s, taken-at) = told-done (ends-told e) n in
-      (s .listed, run-sound fit-rows (counted stack) (counted list) tokens taken-at .complete, rw taken-at at (e .written))
+      let sound = run-sound fit-rows (counted stack) (counted list) tokens taken-at in
+      let steps = rw taken-at at (ends-steps e) in
+      (s .listed, sound .complete, rw taken-at at (e .written), omega (arith, steps, sound .matches))

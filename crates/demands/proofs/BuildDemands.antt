@@ -56,7 +56,7 @@ module _ (book first follow table : List ℕ) {g : Grammar} (s : Serves book g) 
 
   module _ (room : BuildRoom g first follow table) {a : Answer} {f w t : List ℕ} (o : BuildOutcome book first follow table a f w t) where
     with-table : WithTable book first follow table g (a, f, w, t)
-    with-table = build-with-room book first follow table s (record { first-fits = room .first-room; follow-fits = room .follow-room }) (room .table-room) o
+    with-table = build-with-room book first follow table s (room .sets-room) (room .table-room) o
 
     pub conflict-exactly : (a .number ≡ conflict) ↔ Conflict g
     unfolding done refusal

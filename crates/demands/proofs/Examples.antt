@@ -22,10 +22,8 @@ use Rattle.run.specs.Running as running
 use Rattle.run.specs.Expanding.{answeredBy}
 use Rattle.run.specs.Expanding as expanding
 use Rattle.run.proofs.Promise.{run-outcome-unique, expand-outcome-unique}
-use Rattle.demands.specs.Examples.{Example, Allowed, Gives, answering, runs, expands, exampleA, exampleB, exampleC, exampleD, exampleE, exampleF, exampleG, refusesBuilding, exampleH1, exampleI, exampleJ, exampleK, exampleKShort, examples}
+use Rattle.demands.specs.Examples.{Example, Allowed, Given, answering, runs, expands, exampleA, exampleB, exampleC, exampleD, exampleE, exampleF, exampleG, refusesBuilding, exampleH1, exampleI, exampleJ, exampleK, exampleKShort, examples}
 use Rattle.demands.specs.Examples as rows
-use Rattle.demands.specs.Demands.{Builder, Runner, Expander}
-use Rattle.demands.specs.Promised.{KeepsBuild, KeepsRun, KeepsExpand}
 use Rattle.demands.proofs.House.{house-admits}
 use Rattle.demands.proofs.Kept.{table-fits}
 
@@ -34,7 +32,7 @@ four-strange : FirstStrange house (0 ∷ 1 ∷ 4 ∷ []) 2
 unfolding house below
 four-strange = record { inside = omega arith; strange = omega arith; earlier = λ i h. ltb→lt (getD (0 ∷ 1 ∷ 4 ∷ []) i 0) 4 (below-each 2 (λ i. ltb (getD (0 ∷ 1 ∷ 4 ∷ []) i 0) 4) tt i h) }
 
--- the definitions allow every row, and so no other outcome of its call
+-- the definitions allow every row
 pub examples-allowed : Every Allowed examples
 unfolding examples Allowed exampleA exampleB exampleC exampleD exampleE exampleF exampleG refusesBuilding exampleH1 exampleI exampleJ exampleK exampleKShort runs expands answering house houseTable below begun meets popped replaced used facing offer runFrom rightOf isOf cellOf held only united added marking filledBelow ran expected answered final done stop refusal ended wrote applied writing applying expandFrom opened answeredBy
 examples-allowed =
@@ -51,19 +49,18 @@ examples-allowed =
     (each {x = exampleK} (expanding.ended house-serves (omega arith) (omega arith))
     (each {x = exampleKShort} (expanding.ended house-serves (omega arith) (omega arith)) nothing)))))))))))
 
-module _ {build : Builder} {run : Runner} {expand : Expander} (builds-kept : KeepsBuild build) (runs-kept : KeepsRun run) (expands-kept : KeepsExpand expand) where
-  allowed-given : (x : Example) → Allowed x → Gives build run expand x
-  unfolding Allowed Gives
-  allowed-given (rows.building book first follow table r) o =
-      let same = build-outcome-unique book first follow table (builds-kept .keeps book first follow table) o in
-      λ i. record { answer = same i .0; first = same i .1; follow = same i .2; table = same i .3 }
-  allowed-given (rows.running book table tokens stack list r) o =
-      let same = run-outcome-unique book table tokens stack list (runs-kept .keeps book table tokens stack list) o in
-      λ i. record { answer = same i .0; stack = same i .1; list = same i .2 }
-  allowed-given (rows.expanding book list stack output r) o =
-      let same = expand-outcome-unique book list stack output (expands-kept .keeps book list stack output) o in
-      λ i. record { answer = same i .0; stack = same i .1; output = same i .2 }
+allowed-given : (x : Example) → Allowed x → Given x
+unfolding Allowed Given
+allowed-given (rows.building book first follow table r) o = λ x may.
+    let same = build-outcome-unique book first follow table may o in
+    λ i. record { answer = same i .0; first = same i .1; follow = same i .2; table = same i .3 }
+allowed-given (rows.running book table tokens stack list r) o = λ x may.
+    let same = run-outcome-unique book table tokens stack list may o in
+    λ i. record { answer = same i .0; stack = same i .1; list = same i .2 }
+allowed-given (rows.expanding book list stack output r) o = λ x may.
+    let same = expand-outcome-unique book list stack output may o in
+    λ i. record { answer = same i .0; stack = same i .1; output = same i .2 }
 
-  -- functions that keep their promises give every row
-  pub examples-given : Every (Gives build run expand) examples
-  examples-given = every-map allowed-given examples-allowed
+-- and no other: what a call of a row leaves is the row's outcome
+pub examples-given : Every Given examples
+examples-given = every-map allowed-given examples-allowed

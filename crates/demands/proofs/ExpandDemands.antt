@@ -28,7 +28,7 @@ module _ (g : Grammar) (list stack output : List ℕ) where
   expandedBy = expansion g (counted stack) (counted output) list
 
   module _ {r : Expanded} (e : EndsExpansion g list stack output r) where
-    ends-told-by : ToldBy (expandedBy .progress) (expandedBy .ending) (r .answer)
+    pub ends-told-by : ToldBy (expandedBy .progress) (expandedBy .ending) (r .answer)
     ends-told-by = rw (e .answer) (told-by expandedBy)
 
     -- the steps are the productions used and the tokens written
@@ -43,11 +43,16 @@ module _ (g : Grammar) (list stack output : List ℕ) where
     unfolding stop
     ends-unfit h = ap (λ (a : Answer). a .number) (e .answer ∙ unfit-refused expandedBy h)
 
-  -- done only of a complete list, and the output is the string it derives
-  pub done-complete : {r : Expanded} → ExpansionBegins g list stack output r → r .answer .number ≡ 0 → (w : List ℕ) × Complete g list w × (r .output ≡ over w output)
+  -- done only of a complete list, the output is the string it derives, and the steps are the productions and its tokens
+  pub done-complete : {r : Expanded}
+      → ExpansionBegins g list stack output r
+      → r .answer .number ≡ 0
+      → (w : List ℕ) × Complete g list w × (r .output ≡ over w output) × (r .answer .steps ≡ length list + length w)
   unfolding refusal
   done-complete (stackless e a b c) n = absurd (omega (arith, ap (λ (x : Answer). x .number) a))
-  done-complete (begins k e) n = (expandedBy .progress .written, expand-sound g (counted stack) (counted output) list (told-complete (ends-told-by e) n) .0, e .written)
+  done-complete (begins k e) n =
+      let (derives, used) = expand-sound g (counted stack) (counted output) list (told-complete (ends-told-by e) n) in
+      (expandedBy .progress .written, derives, e .written, omega (arith, ends-moves e, used))
 
   -- with room, done exactly if the list is complete
   pub done-exact : {r : Expanded} → ExpansionBegins g list stack output r → r .answer .number ≢ room → (r .answer .number ≡ 0) ↔ ((w : List ℕ) × Complete g list w)

@@ -1,10 +1,10 @@
 -- Programs that do no work fail the very demand that document 01 names, on house book H.
 use mathlib.Core.Path.{_≡_, refl, sym, ap, _∙_}
-use mathlib.Core.Logic.{_⊎_, inl, inr, ⊎-elim, _≢_}
+use mathlib.Core.Logic.{_⊎_, ⊎-elim, _≢_}
 use mathlib.Core.List.{List, [], _∷_}
-use Prim.Native.Nat.{ℕ, zero, suc, _≤_}
+use Prim.Native.Nat.{ℕ, _≤_}
 use native.Mathlib.Omega.{arith}
-use lib.ListN.{length, take, getD, replicate}
+use lib.ListN.{take, getD, replicate}
 use Rattle.grammar.specs.Grammar.{Complete, done, shift, expand}
 use Rattle.grammar.specs.House.{house}
 use Rattle.grammar.specs.Machine.{Longest}
@@ -26,10 +26,11 @@ use Rattle.machine.specs.Room.{rightOf, peak}
 use Rattle.machine.proofs.RunTheorems.{run-place}
 use Rattle.machine.proofs.Walk.{Decided, refused, wanted-row}
 use Rattle.run.specs.Running.{Admits, ran}
-use Rattle.demands.specs.Demands.{Builder, Runner, Expander, Ran, Premises, BuildMeets2, ExpandMeets2, RunMeets2, RunMeets3, RunStepsAdd}
-use Rattle.demands.specs.Idle.{RefusesEverything, FixedOutput, FixedList, LeavesList, LeavesTable, JudgesAtFirst, InventsSteps, writing, writingOutput, untouching, untouchingBuild, judged, judgingFirst}
+use Rattle.demands.specs.Demands.{Ran, Premises, RunRoom, BuildMeets2, ExpandMeets2, RunMeets2, RunMeets3, RunStepsAdd}
+use Rattle.demands.specs.Idle.{Builder, Runner, Expander, RefusesEverything, FixedOutput, FixedList, LeavesList, LeavesTable, JudgesAtFirst, InventsSteps, writing, writingOutput, untouching, untouchingBuild, judged, judgingFirst}
 use Rattle.demands.proofs.House.{house-premises, house-admits}
 use Rattle.demands.proofs.Kept.{premises-exact}
+use Rattle.demands.proofs.Demands.{premises-room}
 
 -- the strings and lists of examples D and A, and the string of F
 abbrev stringD : List ℕ
@@ -127,7 +128,7 @@ twenty = replicate 20 9
 pub leaves-table-fails : {build : Builder} → LeavesTable build → ¬ BuildMeets2 houseBook nines nines twenty (build houseBook nines nines twenty)
 unfolding house houseTable
 leaves-table-fails {build} idle meets =
-    let served = meets .done-iff house-serves (record { first-room = omega arith; follow-room = omega arith; table-room = omega arith }) .1 house-no-conflict in
+    let served = meets .done-iff house-serves (record { sets-room = record { first-fits = omega arith; follow-fits = omega arith }; table-room = omega arith }) .1 house-no-conflict in
     let cells : TableOf house (take 20 (build houseBook nines nines twenty .table)) = meets .cells house-serves served in
     let kept : TableOf house (take 20 twenty) = rw (idle .untouched houseBook nines nines twenty) at cells in
     let first : _≡_ {A = ℕ} 9 0 = ap (λ (l : List ℕ). getD l 0 0) (table-unique (take 20 twenty) houseTable kept house-table-of) in
@@ -149,26 +150,35 @@ other-place : Longest house stringOther 1
 unfolding house houseTable house-built house-premises premises-other begun meets popped replaced used facing offer runFrom rightOf cellOf held
 other-place = run-place (premises-exact premises-other) 7 7 house-well-formed house-useful stringOther refl wanted-row
 
+-- F is decided with seven cells of each
 decided-f : Decided (ran house houseTable stringF nines nines)
 unfolding house houseTable begun meets popped replaced used facing offer runFrom rightOf cellOf held ran
 decided-f = refused wanted-row
 
+room-f : RunRoom (premises-room premises-f) nines nines
+unfolding house-built house-premises premises-f ran
+room-f =
+    let (stacked, listed) = premises-room premises-f .needed 7 7 (omega arith) decided-f in
+    record { stack-room = stacked; list-room = listed }
+
 module _ {run : Runner} (idle : JudgesAtFirst run) (meets-f : RunMeets3 houseBook houseTable stringF nines nines (run houseBook houseTable stringF nines nines)) where
-  -- F is not derivable, so syntax is the reason
+  -- F is not derivable and has room, so syntax is the reason
   syntax-f : run houseBook houseTable stringF nines nines .answer .number ≡ syntax
   unfolding house-built house-premises premises-f
   syntax-f =
-      ⊎-elim (λ n. absurd (house-not-derivable (leftmost-derives (meets-f .accepts premises-f n .1)))) (λ n. n) (idle .judges houseBook houseTable stringF nines nines house-serves premises-f decided-f)
+      ⊎-elim (λ n. absurd (house-not-derivable (leftmost-derives (meets-f .accepts premises-f n .1)))) (λ n. n)
+      (meets-f .decided premises-f (premises-room premises-f) room-f)
 
   -- one that judges at the first token and then only moves its place breaks the place of demand 3, as F shows: F and the other string
   -- have one first token and one length, and so one place; but their longest beginnings differ
   pub judges-at-first-fails : ¬ RunMeets3 houseBook houseTable stringOther nines nines (run houseBook houseTable stringOther nines nines)
   unfolding house-built house-premises premises-f premises-other
   judges-at-first-fails meets-other =
-      let same : run houseBook houseTable stringF nines nines .answer ≡ run houseBook houseTable stringOther nines nines .answer = idle .alike houseBook houseTable nines nines 0 (1 ∷ 1 ∷ []) (0 ∷ 0 ∷ []) premises-f premises-other refl in
+      let number = idle .number houseBook houseTable nines nines 0 (1 ∷ 1 ∷ []) (0 ∷ 0 ∷ []) premises-f premises-other refl in
+      let place = idle .place houseBook houseTable nines nines 0 (1 ∷ 1 ∷ []) (0 ∷ 0 ∷ []) premises-f premises-other refl in
       let f = meets-f .place premises-f syntax-f in
-      let other = meets-other .place premises-other (rw same at syntax-f) in
-      omega (arith, place-determined f house-place, place-determined other other-place, ap (λ (a : Answer). a .place) same)
+      let other = meets-other .place premises-other (sym number ∙ syntax-f) in
+      omega (arith, place-determined f house-place, place-determined other other-place, place)
 
 -- restore name in name, and restore name and name: four tokens each, but 8 steps and 11
 abbrev stringIn : List ℕ
@@ -226,11 +236,15 @@ pub untouching-build-leaves : (a : Answer) → LeavesTable (untouchingBuild a)
 unfolding untouchingBuild
 untouching-build-leaves a = record { untouched = λ book first follow table. refl }
 
-judged-numbers : (t n : ℕ) → (judged t n .number ≡ 0) ⊎ (judged t n .number ≡ syntax)
-unfolding judged answers.done answers.stop
-judged-numbers zero n = inl refl
-judged-numbers (suc t) n = inr refl
-
 pub judging-first-judges : JudgesAtFirst judgingFirst
 unfolding judgingFirst
-judging-first-judges = record { judges = λ book table tokens stack list serves h enough. judged-numbers (getD tokens 0 1) (length tokens); alike = λ book table stack list t u v h k e. rw e }
+judging-first-judges =
+    record {
+      number = λ book table stack list t u v h k e. rw e;
+      place = λ book table stack list t u v h k e. rw e;
+    }
+
+-- which refuses F with 11
+pub judging-first-refuses : judgingFirst houseBook houseTable stringF nines nines .answer .number ≡ syntax
+unfolding judgingFirst judged answers.stop
+judging-first-refuses = refl

@@ -1,11 +1,12 @@
 pub mod Kept
 pub mod AnyTable
-pub mod Shown
 pub mod RunDemands
 pub mod RunRoom
 pub mod BuildDemands
 pub mod ExpandDemands
+pub mod ExpandRoom
 pub mod Demands
+pub mod Shown
 pub mod House
 pub mod Examples
 pub mod Idle

@@ -32,7 +32,9 @@ module _ {book table tokens : List ℕ} (h : Premises book table tokens) (stack 
   pub accepted-derived : {r : Ran} → RunBegins grammar table tokens stack list r → r .answer .number ≡ 0 → (ps : List ℕ) × Complete grammar ps tokens × (r .list ≡ over ps list)
   unfolding refusal
   accepted-derived (stackless e a b c) n = absurd (omega (arith, ap (λ (x : Answer). x .number) a))
-  accepted-derived (begins k e) n = any-accepted (table-fits (h .built .built)) e n
+  accepted-derived (begins k e) n =
+      let (ps, derives, listed, steps) = any-accepted (table-fits (h .built .built)) e n in
+      (ps, derives, listed)
 
   -- where syntax is the reason, the place is that of the longest beginning
   pub syntax-place : {r : Ran} → RunBegins grammar table tokens stack list r → r .answer .number ≡ syntax → Longest grammar tokens (r .answer .place)

@@ -21,7 +21,7 @@ use Rattle.machine.proofs.Outcome.{Outcome, enough, list-short, stack-short}
 use Rattle.machine.proofs.RunTheorems.{run-steps, run-room}
 use Rattle.run.specs.Running.{ran, answered, expected}
 use Rattle.run.proofs.Promise.{Told, served, short-of-list, short-of-stack, blocked}
-use Rattle.demands.specs.Demands.{Ran, Premises}
+use Rattle.demands.specs.Demands.{Ran, Premises, RunRoom}
 use Rattle.demands.specs.RoomPlace.{StopsForRoom, no-stack, no-list-cell, no-stack-cells}
 use Rattle.demands.proofs.Kept.{premises-exact, RunBegins, stackless, begins}
 use Rattle.demands.proofs.AnyTable.{ends-told}
@@ -61,11 +61,20 @@ module _ {book table tokens : List ℕ} (h : Premises book table tokens) (stack 
       (e .answer) (e .cleared) (e .written) n
 
   -- the run decides the string exactly if it is lent the room that the string needs
-  pub decides-exactly : (n : RoomNeeded (h .built .grammar) (cellOf (h .built .grammar) table) tokens) → {r : Ran} → RunBegins (h .built .grammar) table tokens stack list r
-      → ((r .answer .number ≡ 0) ⊎ (r .answer .number ≡ syntax)) ↔ ((final (n .outcome) .height ≤ counted stack) × (length (final (n .outcome) .listed) ≤ counted list))
+  pub decides-exactly : (n : RoomNeeded (h .built .grammar) (cellOf (h .built .grammar) table) tokens)
+      → {r : Ran}
+      → RunBegins (h .built .grammar) table tokens stack list r
+      → ((r .answer .number ≡ 0) ⊎ (r .answer .number ≡ syntax)) ↔ RunRoom n stack list
   unfolding ran refusal
-  decides-exactly n (stackless e a b c) = (λ m. absurd (⊎-elim (λ k. omega (arith, ap (λ (x : Answer). x .number) a)) (λ k. omega (arith, ap (λ (x : Answer). x .number) a)) m), λ k. absurd (omega (arith, n .tall, k .0)))
+  decides-exactly n (stackless e a b c) = (
+    λ m. absurd (⊎-elim (λ k. omega (arith, ap (λ (x : Answer). x .number) a)) (λ k. omega (arith, ap (λ (x : Answer). x .number) a)) m),
+    λ k. absurd (omega (arith, n .tall, k .stack-room)),
+  )
   decides-exactly n (begins m e) = (
-    λ k. n .needed (counted stack) (counted list) (omega arith) (told-decided (ends-told e) k),
-    λ k. decided-numbers (subst (λ (o : Offered). Decided o) (sym (n .reached (counted stack) (counted list) (k .0) (k .1))) (n .decided)) (ends-told e),
+    λ k.
+        let (stacked, listed) = n .needed (counted stack) (counted list) (omega arith) (told-decided (ends-told e) k) in
+        record { stack-room = stacked; list-room = listed },
+    λ k.
+        let reached = n .reached (counted stack) (counted list) (k .stack-room) (k .list-room) in
+        decided-numbers (subst (λ (o : Offered). Decided o) (sym reached) (n .decided)) (ends-told e),
   )

@@ -6,11 +6,8 @@ use Prim.Native.Nat.{ℕ, _+_, _^_}
 use lib.ListN.{replicate}
 use Rattle.answers.specs.declared.Answer.{Answer}
 use Rattle.book.specs.Examples.{houseBook, uselessBook}
-use Rattle.table.specs.Calls.{BuildOutcome}
 use Rattle.table.specs.Examples.{houseTable, conflictedHouseBook, nestedBook}
-use Rattle.run.specs.Expanding.{ExpandOutcome}
-use Rattle.run.specs.Running.{RunOutcome}
-use Rattle.demands.specs.Demands.{Builder, Runner, Expander, Built, Ran, Expanded}
+use Rattle.demands.specs.Demands.{Built, Ran, Expanded, MayBuild, MayRun, MayExpand}
 
 pub data Example : Type 0 where
   building : (book first follow table : List ℕ) → Built → Example
@@ -19,20 +16,29 @@ pub data Example : Type 0 where
 
 -- the definitions allow this outcome
 unfoldable pub Allowed : Example → Type 0
-Allowed (building book first follow table r) = BuildOutcome book first follow table (r .answer) (r .first) (r .follow) (r .table)
-Allowed (running book table tokens stack list r) = RunOutcome book table tokens stack list (r .answer) (r .stack) (r .list)
-Allowed (expanding book list stack output r) = ExpandOutcome book list stack output (r .answer) (r .stack) (r .output)
+Allowed (building book first follow table r) = MayBuild book first follow table r
+Allowed (running book table tokens stack list r) = MayRun book table tokens stack list r
+Allowed (expanding book list stack output r) = MayExpand book list stack output r
 
 -- number, place, detail, steps and expected set
 unfoldable pub answering : (number place detail steps expected : ℕ) → Answer
-answering number place detail steps expected = record { number = number; place = place; detail = detail; steps = steps; expected = record { word = expected } }
+answering number place detail steps expected =
+    record {
+      number = number;
+      place = place;
+      detail = detail;
+      steps = steps;
+      expected = record { word = expected };
+    }
 
 -- a run, or an expansion, with the house book and its table: what is lent, then the answer and what is left
 unfoldable pub runs : (tokens stack list : List ℕ) → Answer → (stack list : List ℕ) → Example
-runs tokens stack list answer after written = running houseBook houseTable tokens stack list (record { answer = answer; stack = after; list = written })
+runs tokens stack list answer after written =
+    running houseBook houseTable tokens stack list (record { answer = answer; stack = after; list = written })
 
 unfoldable pub expands : (list stack output : List ℕ) → Answer → (stack output : List ℕ) → Example
-expands list stack output answer after written = expanding houseBook list stack output (record { answer = answer; stack = after; output = written })
+expands list stack output answer after written =
+    expanding houseBook list stack output (record { answer = answer; stack = after; output = written })
 
 -- restore name in name and name, with just enough room
 unfoldable pub exampleA : Example
@@ -106,10 +112,12 @@ exampleKShort =
     (answering 12 3 0 5 0) (0 ∷ 0 ∷ 0 ∷ []) (0 ∷ 1 ∷ 9 ∷ [])
 
 unfoldable pub examples : List Example
-examples = exampleA ∷ exampleB ∷ exampleC ∷ exampleD ∷ exampleE ∷ exampleF ∷ exampleG ∷ exampleH1 ∷ exampleI ∷ exampleJ ∷ exampleK ∷ exampleKShort ∷ []
+examples =
+    exampleA ∷ exampleB ∷ exampleC ∷ exampleD ∷ exampleE ∷ exampleF ∷ exampleG
+    ∷ exampleH1 ∷ exampleI ∷ exampleJ ∷ exampleK ∷ exampleKShort ∷ []
 
--- what the functions make of an example's call is the example's outcome
-unfoldable pub Gives : Builder → Runner → Expander → Example → Type 0
-Gives build run expand (building book first follow table r) = build book first follow table ≡ r
-Gives build run expand (running book table tokens stack list r) = run book table tokens stack list ≡ r
-Gives build run expand (expanding book list stack output r) = expand book list stack output ≡ r
+-- whatever the promise of the example's call allows is the example's outcome
+unfoldable pub Given : Example → Type 0
+Given (building book first follow table r) = (x : Built) → MayBuild book first follow table x → x ≡ r
+Given (running book table tokens stack list r) = (x : Ran) → MayRun book table tokens stack list x → x ≡ r
+Given (expanding book list stack output r) = (x : Expanded) → MayExpand book list stack output x → x ≡ r

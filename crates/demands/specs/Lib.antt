@@ -1,5 +1,4 @@
 pub mod Demands
-pub mod Promised
 pub mod RoomPlace
 pub mod Examples
 pub mod Idle

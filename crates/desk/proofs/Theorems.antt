@@ -1,5 +1,5 @@
--- What is proved of the C functions, one page: each call allows one outcome, and what keeps the promises of the calls meets the demands,
--- read of calls that lend an answer buffer long enough.
+-- What is proved of the C functions, one page: each call allows one outcome, and meets the demands, read of calls that lend an answer
+-- buffer long enough.
 use mathlib.Core.Path.{_≡_, refl, sym, _∙_, subst}
 use mathlib.Core.List.{List}
 use Prim.Native.Nat.{ℕ, _^_, _<_}
@@ -9,14 +9,14 @@ use Rattle.grammar.specs.Machine.{Longest}
 use Rattle.answers.specs.Buffers.{counted}
 use Rattle.table.specs.Calls.{SetsOutcome, BuildOutcome, LookaheadOutcome, FirstOutcome}
 use Rattle.table.proofs.Promise.{sets-outcome-unique, build-outcome-unique, lookahead-outcome-unique, first-outcome-unique}
+use Rattle.machine.proofs.ExpandTheorems.{expand-steps}
 use Rattle.run.specs.Expanding.{ExpandOutcome}
 use Rattle.run.specs.Running.{RunOutcome}
-use Rattle.machine.proofs.ExpandTheorems.{expand-steps}
 use Rattle.run.proofs.Promise.{run-outcome-unique, expand-outcome-unique}
+use Rattle.demands.specs.Demands.{BuildMeets2, ExpandMeets2, RunMeets2, RunMeets3, RunStepsAdd, ExpandStepsAdd}
 use Rattle.demands.proofs.Promise.{build-meets2, run-meets3, run-meets2, run-steps-add, expand-meets2, expand-steps-add}
-use Rattle.demands.specs.Demands.{BuildMeets2, ExpandMeets2, RunMeets2, RunMeets3, RunStepsAdd, ExpandStepsAdd, Demand2Build, Demand2Expand, Demand2Back, Demand3, RunStepsSum, ExpandStepsSum}
 use Rattle.desk.specs.Desk.{littleEndian, answerBytes, answerSize, Lent, LentCell, JudgeOutcome, SetOutcome, JudgeCall, SetsCall, BuildCall, RunCall, ExpandCall, LookaheadCall, FirstCall}
-use Rattle.desk.specs.Demands.{CBuild, CRun, CExpand, KeepsBuildCall, KeepsRunCall, KeepsExpandCall, answerFrom, buildWith, runWith, expandWith}
+use Rattle.desk.specs.Demands.{answerFrom}
 use Rattle.desk.proofs.Calls.{called-answer, called-unique, two-unique, three-unique, judge-outcome-unique, set-outcome-unique}
 use Rattle.desk.proofs.ReadBack.{FitsWords, answer-read, called-exact}
 use Rattle.desk.proofs.Fitting.{ran-bounded, run-fits, expand-fits, judge-fits, sets-fits, build-fits, lookahead-fits, first-fits}
@@ -92,6 +92,7 @@ module _ {answer : List ℕ} (lent : Lent answer) where
           only-one = meets .only-one;
           served-or-room = λ h {ps} d. rw (read .number) (meets .served-or-room h d);
           room-iff = λ h {ps} d. rw (read .number) (meets .room-iff h d);
+          decided = λ h need k. rw (read .number) (meets .decided h need k);
           place = λ h m.
               let longest = meets .place h (sym (read .number) ∙ m) in
               subst (λ (k : ℕ). Longest (h .built .grammar) tokens k) (sym (read .place (omega (arith, longest .inside, h .short)))) longest;
@@ -163,31 +164,6 @@ module _ {answer : List ℕ} (lent : Lent answer) where
         follow-sets = λ {g} serves m. meets .follow-sets serves (sym (read .number) ∙ m);
         cells = λ {g} serves m. meets .cells serves (sym (read .number) ∙ m);
       }
-
--- so a C function that keeps the promise of its call for all inputs meets the demands, whoever lends an answer buffer long enough
-pub desk-run-demand3 : (answer : List ℕ) → Lent answer → {run : CRun} → KeepsRunCall run → Demand3 (runWith answer run)
-unfolding runWith
-desk-run-demand3 answer lent kept = record { call = λ book table tokens stack list. desk-run-meets3 lent (kept .keeps book table tokens stack list answer) }
-
-pub desk-run-back : (answer : List ℕ) → Lent answer → {run : CRun} → KeepsRunCall run → Demand2Back (runWith answer run)
-unfolding runWith
-desk-run-back answer lent kept = record { call = λ book table tokens stack list. desk-run-meets2 lent (kept .keeps book table tokens stack list answer) }
-
-pub desk-run-steps-sum : (answer : List ℕ) → Lent answer → {run : CRun} → KeepsRunCall run → RunStepsSum (runWith answer run)
-unfolding runWith
-desk-run-steps-sum answer lent kept = record { call = λ book table tokens stack list. desk-run-steps-add lent (kept .keeps book table tokens stack list answer) }
-
-pub desk-expand-demand2 : (answer : List ℕ) → Lent answer → {expand : CExpand} → KeepsExpandCall expand → Demand2Expand (expandWith answer expand)
-unfolding expandWith
-desk-expand-demand2 answer lent kept = record { call = λ book list stack output. desk-expand-meets2 lent (kept .keeps book list stack output answer) }
-
-pub desk-expand-steps-sum : (answer : List ℕ) → Lent answer → {expand : CExpand} → KeepsExpandCall expand → ExpandStepsSum (expandWith answer expand)
-unfolding expandWith
-desk-expand-steps-sum answer lent kept = record { call = λ book list stack output. desk-expand-steps-add lent (kept .keeps book list stack output answer) }
-
-pub desk-build-demand2 : (answer : List ℕ) → Lent answer → {build : CBuild} → KeepsBuildCall build → Demand2Build (buildWith answer build)
-unfolding buildWith
-desk-build-demand2 answer lent kept = record { call = λ book first follow table. desk-build-meets2 lent (kept .keeps book first follow table answer) }
 
 -- an answer buffer has 32 bytes or more
 pub answer-size : answerSize ≡ 32

@@ -1,6 +1,6 @@
 use answers::Answer;
-use reader::fields::byte_at;
 use libc::STDOUT_FILENO;
+use reader::fields::byte_at;
 
 // A word at the beginning of a line or behind a space.
 fn show_word(word: &[u8]) {

@@ -19,3 +19,4 @@ pub mod ExpandDerivation
 pub mod ExpandPlace
 pub mod ExpandWhole
 pub mod ExpandTheorems
+pub mod ExpandRoom

@@ -3,12 +3,14 @@
 use mathlib.Core.Path.{_≡_}
 use mathlib.Core.List.{List, [], _∷_, _++_}
 use mathlib.Core.Option.{Option}
-use Prim.Native.Nat.{ℕ, _+_, _≤_}
+use Prim.Native.Nat.{ℕ, _≤_, _<_}
 use lib.ListN.{length, take}
-use Rattle.grammar.specs.declared.Symbol.the-variants.{Nonterminal}
+use Rattle.grammar.specs.declared.Symbol.the-variants.{Token, Nonterminal}
 use Rattle.grammar.specs.Grammar.{Form, spelled, Grammar, Column, LeftmostSteps}
 use Rattle.machine.specs.Machine.{State, Reason, full-list, full-stack, wants-end, wants-token, wants-row, Offered, taken, stopped, begun, runFrom, final}
 use Rattle.machine.specs.Room.{rightOf}
+use Rattle.machine.specs.Expansion.{Course, Upshot}
+use Rattle.machine.specs.Expansion as expanding
 
 -- the reasons of a syntax stop
 pub data Syntax : Reason → Type 0 where
@@ -45,3 +47,19 @@ pub record Before (g : Grammar) (ps w : List ℕ) (p : ℕ) (below : Form) (s : 
   pub row : ℕ
   pub on-top : s .stack ≡ Nonterminal row ∷ below
   pub form : LeftmostSteps g (Nonterminal (g .start) ∷ []) (s .listed) (spelled (take (s .matched) w) ++ s .stack)
+
+-- a state of the expansion of the list ps: `rest` of it is left, the productions before give the tokens written with the stack α behind them
+pub record Midway (g : Grammar) (ps : List ℕ) (s : Course) (rest : List ℕ) (α : Form) : Type 0 where
+  pub before : List ℕ
+  pub list : ps ≡ before ++ rest
+  pub used : s .used ≡ length before
+  pub form : LeftmostSteps g (Nonterminal (g .start) ∷ []) before (spelled (s .written) ++ α)
+
+-- what an expansion lacks that stops for room: stack cells for the next production's right side, or an output cell for the token on top
+pub data Lacks (g : Grammar) (cells output : ℕ) (s : Course) : Upshot → List ℕ → Form → Type 0 where
+  lacks-stack : {p A : ℕ} {rest : List ℕ} {α : Form}
+      → cells < length (rightOf g p ++ α)
+      → Lacks g cells output s expanding.full-stack (p ∷ rest) (Nonterminal A ∷ α)
+  lacks-output : {t : ℕ} {rest : List ℕ} {α : Form}
+      → length (s .written) ≡ output
+      → Lacks g cells output s expanding.full-output rest (Token t ∷ α)

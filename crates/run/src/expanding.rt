@@ -25,10 +25,10 @@ use answers::refusals::PRODUCTION;
 use answers::refusals::ROOM;
 use answers::refusals::STACK_ROOM;
 use answers::stop;
+use book::judging::judge;
 use reader::fields::LEFT;
 use reader::fields::LENGTH;
 use reader::fields::place_at;
-use book::judging::judge;
 use sets::none;
 
 // The most productions that an expansion takes.

@@ -17,10 +17,10 @@ use crate::Move;
 use crate::Outline;
 use crate::Step;
 use book::Reading;
+use grammar::Symbol;
 use reader::fields::byte_at;
 use reader::fields::place_at;
 use reader::fields::symbol_of;
-use grammar::Symbol;
 use table::VACANT;
 
 // How many cells of a lent buffer count.

@@ -25,8 +25,8 @@ use answers::refusals::DONE;
 use answers::refusals::ROOM;
 use answers::refusals::STACK_ROOM;
 use book::Reading;
-use reader::fields::LENGTH;
 use book::judging::judge;
+use reader::fields::LENGTH;
 
 // What comes after the first i tokens.
 pub(crate) fn ahead_of(tokens: &[u8], i: usize) -> Ahead

@@ -15,8 +15,8 @@ use crate::moves::counts;
 use crate::moves::gathered;
 use crate::moves::right_length;
 use crate::running::ahead_of;
-use reader::fields::symbol_of;
 use grammar::Symbol;
+use reader::fields::symbol_of;
 
 // Whether p is a production of nonterminal n.
 pub(crate) fn is_of(lefts: &[u8], outline: Outline, n: u8, p: u8) -> bool

@@ -1,5 +1,5 @@
-use reader::fields::byte_at;
 use libc::STDOUT_FILENO;
+use reader::fields::byte_at;
 use run::beside::run_beside;
 use run::expanding::expand;
 

@@ -1,9 +1,9 @@
 use answers::Answer;
+use book::judging::judge;
+use libc::STDOUT_FILENO;
 use reader::fields::byte_at;
 use reader::fields::length_at;
 use reader::fields::place_at;
-use book::judging::judge;
-use libc::STDOUT_FILENO;
 use sets::load;
 
 fn show_answer(word: &[u8], answer: Answer) {
