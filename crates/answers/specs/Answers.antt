@@ -1,4 +1,5 @@
--- The answers of document 01, "Refusals and their numbers": number, place, detail, steps, expected set. Fields not named are 0.
+-- The answers of document 01, "Refusals and their numbers": number, place, detail, steps, expected set. Fields not
+-- named are 0.
 use Prim.Native.Nat.{ℕ}
 use Rattle.sets.specs.declared.Set.{Set}
 pub use Rattle.sets.specs.Calls.{noSet}
@@ -15,4 +16,5 @@ refusal number place detail = record { number = number; place = place; detail = 
 
 -- refused in steps
 unfoldable pub stop : (number place detail steps : ℕ) → Set → Answer
-stop number place detail steps expected = record { number = number; place = place; detail = detail; steps = steps; expected = expected }
+stop number place detail steps expected =
+    record { number = number; place = place; detail = detail; steps = steps; expected = expected }

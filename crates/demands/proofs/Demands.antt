@@ -20,17 +20,22 @@ use Rattle.machine.specs.Stopping.{RoomNeeded}
 use Rattle.machine.proofs.RoomNeeded.{room-needed}
 use Rattle.run.specs.Running.{ran, Admits}
 use Rattle.run.proofs.Promise.{told-numbers}
-use Rattle.demands.specs.Demands.{Built, Ran, Expanded, MayBuild, MayRun, MayExpand, Premises, RunRoom, expanded, BuildMeets2, ExpandMeets2, RunMeets2, RunMeets3, RunStepsAdd, ExpandStepsAdd}
+use Rattle.demands.specs.Demands.{Built, Ran, Expanded, MayBuild, MayRun, MayExpand, Premises, RunRoom, expanded}
+use Rattle.demands.specs.Demands.{BuildMeets2, ExpandMeets2, RunMeets2, RunMeets3, RunStepsAdd, ExpandStepsAdd}
 use Rattle.demands.specs.RoomPlace.{StopsForRoom, ExpansionStops}
 use Rattle.demands.proofs.BuildDemands.{done-exactly, conflict-exactly, done-exactly-if}
-use Rattle.demands.proofs.ExpandDemands.{ends-moves, done-complete, done-exact, unfit-exact, unfit-place, expands-to, complete-room-iff}
+use Rattle.demands.proofs.ExpandDemands.{ends-moves, done-complete, done-exact, unfit-exact, unfit-place}
+use Rattle.demands.proofs.ExpandDemands.{expands-to, complete-room-iff}
 use Rattle.demands.proofs.ExpandRoom.{room-midway}
-use Rattle.demands.proofs.Kept.{premises-exact, run-ends, run-begins, before-steps, expansion-begins, expansion-ends, expansion-before-steps}
+use Rattle.demands.proofs.Kept.{premises-exact, run-ends, run-begins, before-steps, expansion-begins}
+use Rattle.demands.proofs.Kept.{expansion-ends, expansion-before-steps}
 use Rattle.demands.proofs.AnyTable.{ends-told, ends-steps, any-accepted}
-use Rattle.demands.proofs.RunDemands.{accepted-derived, syntax-place, served-or-short, room-short, short-room-refused, runs-back, done-had-room}
+use Rattle.demands.proofs.RunDemands.{accepted-derived, syntax-place, served-or-short, room-short}
+use Rattle.demands.proofs.RunDemands.{short-room-refused, runs-back, done-had-room}
 use Rattle.demands.proofs.RunRoom.{room-place, decides-exactly}
 
--- demand 2: sets and tables have no member missing and none added, and a conflict is found exactly if two productions claim one cell
+-- demand 2: sets and tables have no member missing and none added, and a conflict is found exactly if two productions
+-- claim one cell
 pub build-meets2 : (book first follow table : List ℕ) (r : Built)
     → MayBuild book first follow table r
     → BuildMeets2 book first follow table r
@@ -94,8 +99,8 @@ module _ (book table tokens stack list : List ℕ) (r : Ran) (o : MayRun book ta
       (r .answer) (r .stack) (r .list)
   run-place-room h d n = room-place h stack list d (run-begins book table tokens stack list r o h) n
 
-  -- any string, derivable or not: done or syntax exactly if list and stack have the room that the string needs, of which 65,535 cells
-  -- count, so that one that needs more is never decided
+  -- any string, derivable or not: done or syntax exactly if list and stack have the room that the string needs, of
+  -- which 65,535 cells count, so that one that needs more is never decided
   pub run-enough : (h : Premises book table tokens)
       → (need : RoomNeeded (h .built .grammar) (cellOf (h .built .grammar) table) tokens)
       → ((r .answer .number ≡ 0) ⊎ (r .answer .number ≡ syntax)) ↔ RunRoom need stack list
@@ -108,7 +113,8 @@ module _ (book table tokens stack list : List ℕ) (r : Ran) (o : MayRun book ta
       → (r .answer .number ≡ 0) ⊎ ((r .answer .number ≡ room) ⊎ (r .answer .number ≡ syntax))
   run-any-ends s a = told-numbers (ends-told (run-ends book table tokens stack list r o s a))
 
-  -- and it accepts only a string that the start symbol derives, by the list, which is as long as the steps less the tokens
+  -- and it accepts only a string that the start symbol derives, by the list, which is as long as the steps less the
+  -- tokens
   pub run-any-accepts : {g : Grammar}
       → Serves book g
       → Admits g table tokens stack
@@ -158,8 +164,8 @@ module _ (book list stack output : List ℕ) (r : Expanded) (o : MayExpand book 
         → (w : List ℕ) × Complete g list w × (r .output ≡ over w output) × (r .answer .steps ≡ length list + length w)
     expand-writes = done-complete g list stack output (expansion-begins book list stack output r o s short)
 
-    -- a complete list is refused only for room, exactly if the start or a step needs more stack than was lent, or the string is longer
-    -- than the output
+    -- a complete list is refused only for room, exactly if the start or a step needs more stack than was lent, or the
+    -- string is longer than the output
     pub expand-room-iff : {w : List ℕ} (d : Complete g list w)
         → ((r .answer .number ≡ 0) ⊎ (r .answer .number ≡ room))
         × ((r .answer .number ≡ room) ↔ ((counted stack < peak d) ⊎ (counted output < length w)))
@@ -185,12 +191,13 @@ module _ (book table : List ℕ) where
       → (e .answer .number ≡ 0) × (r .answer .number ≡ 0) × (r .list ≡ over ps list)
   expand-run stack output other list {ps} {w} h d k m l n {e} x {r} y =
       let (served, written) = expand-meets2 book ps stack output e x .expands (h .built .serves) d (omega arith) k m in
-      let string : take (length w) (e .output) ≡ w = ap (take (length w)) written ∙ take-at w (drop (length w) output) (length w) refl in
+      let string : take (length w) (e .output) ≡ w =
+      ap (take (length w)) written ∙ take-at w (drop (length w) output) (length w) refl in
       let (accepted, listed) = run-meets2 book table w other list r (rw string at y) .back h d n l in
       (served, accepted, listed)
 
-  -- the list of a string that is accepted is a derivation of it, as long as the steps less the tokens, and expands to the string wherever
-  -- there is room for that
+  -- the list of a string that is accepted is a derivation of it, as long as the steps less the tokens, and expands to
+  -- the string wherever there is room for that
   pub run-expand : (tokens stack list other output : List ℕ) (h : Premises book table tokens)
       → {r : Ran}
       → MayRun book table tokens stack list r
@@ -209,7 +216,8 @@ module _ (book table : List ℕ) where
       let (ps, d, written) = run-meets3 book table tokens stack list r y .accepts h accepted in
       let (l, within) = done-had-room h stack list d begun accepted in
       let (answer, listed) = runs-back h stack list d l within begun in
-      let cells : take (length ps) (r .list) ≡ ps = ap (take (length ps)) written ∙ take-at ps (drop (length ps) list) (length ps) refl in (
+      let cells : take (length ps) (r .list) ≡ ps =
+      ap (take (length ps)) written ∙ take-at ps (drop (length ps) list) (length ps) refl in (
         ps,
         (
           d,

@@ -64,8 +64,8 @@ pub record BuildRoom (g : Grammar) (first follow table : List ℕ) : Type 0 wher
   pub table-room : size g ≤ length table
 
 -- the stack and the list have the room that the string needs
-pub record RunRoom {g : Grammar} {cell : ℕ → Column → Option ℕ} {w : List ℕ} (need : RoomNeeded g cell w) (stack list : List ℕ)
-    : Type 0 where
+pub record RunRoom {g : Grammar} {cell : ℕ → Column → Option ℕ} {w : List ℕ} (need : RoomNeeded g cell w)
+    (stack list : List ℕ) : Type 0 where
   pub stack-room : final (need .outcome) .height ≤ counted stack
   pub list-room : length (final (need .outcome) .listed) ≤ counted list
 
@@ -121,11 +121,15 @@ pub record RunMeets3 (book table tokens stack list : List ℕ) (r : Ran) : Type 
   pub served-or-room : (h : Premises book table tokens) {ps : List ℕ}
       → Complete (h .built .grammar) ps tokens
       → (r .answer .number ≡ 0) ⊎ (r .answer .number ≡ room)
-  -- exactly if its derivation has more productions than the list has cells, or the start or a step needs more stack than was lent
+  -- exactly if its derivation has more productions than the list has cells, or the start or a step needs more stack
+  -- than was lent
   pub room-iff : (h : Premises book table tokens) {ps : List ℕ} (d : Complete (h .built .grammar) ps tokens)
       → (r .answer .number ≡ room) ↔ ((counted list < length ps) ⊎ (counted stack < peak d))
-  -- with the room that it needs any string is accepted or refused for syntax, so that one which is not derivable is refused with 11
-  pub decided : (h : Premises book table tokens) (need : RoomNeeded (h .built .grammar) (cellOf (h .built .grammar) table) tokens)
+  -- with the room that it needs any string is accepted or refused for syntax, so that one which is not derivable is
+  -- refused with 11
+  pub decided :
+      (h : Premises book table tokens)
+      (need : RoomNeeded (h .built .grammar) (cellOf (h .built .grammar) table) tokens)
       → RunRoom need stack list
       → (r .answer .number ≡ 0) ⊎ (r .answer .number ≡ syntax)
   -- where syntax is the reason, the place is the length of the longest beginning that some derivable string shares
@@ -133,8 +137,8 @@ pub record RunMeets3 (book table tokens stack list : List ℕ) (r : Ran) : Type 
       → r .answer .number ≡ syntax
       → Longest (h .built .grammar) tokens (r .answer .place)
 
--- steps = productions listed + tokens matched, as the definition's machine counts them, and the list holds those productions; 0 in an
--- answer before steps
+-- steps = productions listed + tokens matched, as the definition's machine counts them, and the list holds those
+-- productions; 0 in an answer before steps
 pub record RunStepsAdd (book table tokens stack list : List ℕ) (r : Ran) : Type 0 where
   pub sum : {g : Grammar}
       → Serves book g
@@ -151,8 +155,8 @@ pub record RunStepsAdd (book table tokens stack list : List ℕ) (r : Ran) : Typ
 abbrev pub expanded : Grammar → (list stack output : List ℕ) → Expansion
 expanded g list stack output = expansion g (counted stack) (counted output) list
 
--- steps = productions used + tokens written, as the definition counts them, and the output holds those tokens; 0 in an answer before
--- steps
+-- steps = productions used + tokens written, as the definition counts them, and the output holds those tokens; 0 in an
+-- answer before steps
 pub record ExpandStepsAdd (book list stack output : List ℕ) (r : Expanded) : Type 0 where
   pub sum : {g : Grammar}
       → Serves book g

@@ -81,8 +81,8 @@ untouching a book table tokens stack list = record { answer = a; stack = stack; 
 unfoldable pub untouchingBuild : Answer → Builder
 untouchingBuild a book first follow table = record { answer = a; first = first; follow = follow; table = table }
 
--- a string that begins with token 0 is followed to its end, any other is refused at once; so F is refused with 11, as it should be, but
--- at another place
+-- a string that begins with token 0 is followed to its end, any other is refused at once; so F is refused with 11, as
+-- it should be, but at another place
 unfoldable pub judged : (token length : ℕ) → Answer
 judged zero n = stop syntax n 0 n noSet
 judged (suc t) n = stop syntax 0 0 0 noSet

@@ -16,8 +16,8 @@ use Rattle.machine.specs.Expansion.{Course, Expansion, ended}
 use Rattle.machine.specs.Expansion as expanding
 use Rattle.machine.specs.Stopping.{Before, Midway}
 
--- what a run with the outcome o leaves that stops for room: no stack cell; or, in the state of o, right before the first production of
--- the derivation for which the list is full, or whose right side does not fit the stack
+-- what a run with the outcome o leaves that stops for room: no stack cell; or, in the state of o, right before the
+-- first production of the derivation for which the list is full, or whose right side does not fit the stack
 pub data StopsForRoom (g : Grammar) {ps w : List ℕ} (d : Complete g ps w) (o : Offered) (stack list : List ℕ)
     : Answer → List ℕ → List ℕ → Type 0 where
   no-stack : length stack ≡ 0 → StopsForRoom g d o stack list (refusal room 0 stackRoom) stack list
@@ -39,8 +39,8 @@ pub data StopsForRoom (g : Grammar) {ps w : List ℕ} (d : Complete g ps w) (o :
       → StopsForRoom g d o stack list
       (stop room (s .matched) stackRoom (length (s .listed) + s .matched) noSet) (cleared stack) (over (s .listed) list)
 
--- what an expansion that comes to e leaves if it stops for room: no stack cell; or, midway in the list, right before the first
--- production whose right side does not fit the stack, or the first token for which the output is full
+-- what an expansion that comes to e leaves if it stops for room: no stack cell; or, midway in the list, right before
+-- the first production whose right side does not fit the stack, or the first token for which the output is full
 pub data ExpansionStops (g : Grammar) (list : List ℕ) (e : Expansion) (stack output : List ℕ)
     : Answer → List ℕ → List ℕ → Type 0 where
   no-stack : length stack ≡ 0 → ExpansionStops g list e stack output (refusal room 0 stackRoom) stack output

@@ -1,5 +1,5 @@
--- What is proved of the C functions, one page: each call allows one outcome, and meets the demands, read of calls that lend an answer
--- buffer long enough.
+-- What is proved of the C functions, one page: each call allows one outcome, and meets the demands, read of calls that
+-- lend an answer buffer long enough.
 use mathlib.Core.Path.{_≡_, refl, sym, _∙_, subst}
 use mathlib.Core.List.{List}
 use Prim.Native.Nat.{ℕ, _^_, _<_}
@@ -8,54 +8,92 @@ use lib.ListN.{length}
 use Rattle.grammar.specs.Machine.{Longest}
 use Rattle.answers.specs.Buffers.{counted}
 use Rattle.table.specs.Calls.{SetsOutcome, BuildOutcome, LookaheadOutcome, FirstOutcome}
-use Rattle.table.proofs.Promise.{sets-outcome-unique, build-outcome-unique, lookahead-outcome-unique, first-outcome-unique}
+use Rattle.table.proofs.Promise.{sets-outcome-unique, build-outcome-unique, lookahead-outcome-unique}
+use Rattle.table.proofs.Promise.{first-outcome-unique}
 use Rattle.machine.proofs.ExpandTheorems.{expand-steps}
 use Rattle.run.specs.Expanding.{ExpandOutcome}
 use Rattle.run.specs.Running.{RunOutcome}
 use Rattle.run.proofs.Promise.{run-outcome-unique, expand-outcome-unique}
 use Rattle.demands.specs.Demands.{BuildMeets2, ExpandMeets2, RunMeets2, RunMeets3, RunStepsAdd, ExpandStepsAdd}
 use Rattle.demands.proofs.Promise.{build-meets2, run-meets3, run-meets2, run-steps-add, expand-meets2, expand-steps-add}
-use Rattle.desk.specs.Desk.{littleEndian, answerBytes, answerSize, Lent, LentCell, JudgeOutcome, SetOutcome, JudgeCall, SetsCall, BuildCall, RunCall, ExpandCall, LookaheadCall, FirstCall}
+use Rattle.desk.specs.Desk.{littleEndian, answerBytes, answerSize, Lent, LentCell, JudgeOutcome, SetOutcome}
+use Rattle.desk.specs.Desk.{JudgeCall, SetsCall, BuildCall, RunCall, ExpandCall, LookaheadCall, FirstCall}
 use Rattle.desk.specs.Demands.{answerFrom}
-use Rattle.desk.proofs.Calls.{called-answer, called-unique, two-unique, three-unique, judge-outcome-unique, set-outcome-unique}
+use Rattle.desk.proofs.Calls.{called-answer, called-unique, two-unique, three-unique, judge-outcome-unique}
+use Rattle.desk.proofs.Calls.{set-outcome-unique}
 use Rattle.desk.proofs.ReadBack.{FitsWords, answer-read, called-exact}
-use Rattle.desk.proofs.Fitting.{ran-bounded, run-fits, expand-fits, judge-fits, sets-fits, build-fits, lookahead-fits, first-fits}
+use Rattle.desk.proofs.Fitting.{ran-bounded, run-fits, expand-fits, judge-fits, sets-fits, build-fits}
+use Rattle.desk.proofs.Fitting.{lookahead-fits, first-fits}
 
 -- any two outcomes that a call allows are equal: the number returned, and every lent buffer
 pub run-call-unique : (book table tokens stack list answer : List ℕ) {n m : ℕ} {s t l k x y : List ℕ}
-    → RunCall book table tokens stack list answer n s l x → RunCall book table tokens stack list answer m t k y → (n ≡ m) × (s ≡ t) × (l ≡ k) × (x ≡ y)
-run-call-unique book table tokens stack list answer c d = two-unique (RunOutcome book table tokens stack list) (λ r q o p. run-outcome-unique book table tokens stack list o p) (c .call) (d .call)
+    → RunCall book table tokens stack list answer n s l x
+    → RunCall book table tokens stack list answer m t k y
+    → (n ≡ m) × (s ≡ t) × (l ≡ k) × (x ≡ y)
+run-call-unique book table tokens stack list answer c d =
+    two-unique (RunOutcome book table tokens stack list)
+    (λ r q o p. run-outcome-unique book table tokens stack list o p) (c .call) (d .call)
 
 pub expand-call-unique : (book list stack output answer : List ℕ) {n m : ℕ} {s t w v x y : List ℕ}
-    → ExpandCall book list stack output answer n s w x → ExpandCall book list stack output answer m t v y → (n ≡ m) × (s ≡ t) × (w ≡ v) × (x ≡ y)
-expand-call-unique book list stack output answer c d = two-unique (ExpandOutcome book list stack output) (λ r q o p. expand-outcome-unique book list stack output o p) (c .call) (d .call)
+    → ExpandCall book list stack output answer n s w x
+    → ExpandCall book list stack output answer m t v y
+    → (n ≡ m) × (s ≡ t) × (w ≡ v) × (x ≡ y)
+expand-call-unique book list stack output answer c d =
+    two-unique (ExpandOutcome book list stack output) (λ r q o p. expand-outcome-unique book list stack output o p)
+    (c .call) (d .call)
 
-pub judge-call-unique : (book answer : List ℕ) {n m : ℕ} {x y : List ℕ} → JudgeCall book answer n x → JudgeCall book answer m y → (n ≡ m) × (x ≡ y)
-judge-call-unique book answer c d = let (number, none, bytes) = called-unique (judge-outcome-unique book) (c .call) (d .call) in (number, bytes)
+pub judge-call-unique : (book answer : List ℕ) {n m : ℕ} {x y : List ℕ}
+    → JudgeCall book answer n x
+    → JudgeCall book answer m y
+    → (n ≡ m) × (x ≡ y)
+judge-call-unique book answer c d =
+    let (number, none, bytes) = called-unique (judge-outcome-unique book) (c .call) (d .call) in
+    (number, bytes)
 
 pub sets-call-unique : (book first follow answer : List ℕ) {n m : ℕ} {f g w v x y : List ℕ}
-    → SetsCall book first follow answer n f w x → SetsCall book first follow answer m g v y → (n ≡ m) × (f ≡ g) × (w ≡ v) × (x ≡ y)
-sets-call-unique book first follow answer c d = two-unique (SetsOutcome book first follow) (λ r q o p. sets-outcome-unique book first follow o p) (c .call) (d .call)
+    → SetsCall book first follow answer n f w x
+    → SetsCall book first follow answer m g v y
+    → (n ≡ m) × (f ≡ g) × (w ≡ v) × (x ≡ y)
+sets-call-unique book first follow answer c d =
+    two-unique (SetsOutcome book first follow) (λ r q o p. sets-outcome-unique book first follow o p) (c .call)
+    (d .call)
 
 pub build-call-unique : (book first follow table answer : List ℕ) {n m : ℕ} {f g w v t u x y : List ℕ}
-    → BuildCall book first follow table answer n f w t x → BuildCall book first follow table answer m g v u y → (n ≡ m) × (f ≡ g) × (w ≡ v) × (t ≡ u) × (x ≡ y)
-build-call-unique book first follow table answer c d = three-unique (BuildOutcome book first follow table) (λ r q o p. build-outcome-unique book first follow table o p) (c .call) (d .call)
+    → BuildCall book first follow table answer n f w t x
+    → BuildCall book first follow table answer m g v u y
+    → (n ≡ m) × (f ≡ g) × (w ≡ v) × (t ≡ u) × (x ≡ y)
+build-call-unique book first follow table answer c d =
+    three-unique (BuildOutcome book first follow table) (λ r q o p. build-outcome-unique book first follow table o p)
+    (c .call) (d .call)
 
 pub lookahead-call-unique : (book : List ℕ) (production : ℕ) (cells answer : List ℕ) {n m : ℕ} {s t x y : List ℕ}
-    → LookaheadCall book production cells answer n s x → LookaheadCall book production cells answer m t y → (n ≡ m) × (s ≡ t) × (x ≡ y)
-lookahead-call-unique book production cells answer c d = called-unique (set-outcome-unique (λ r q o p. lookahead-outcome-unique book production o p)) (c .call) (d .call)
+    → LookaheadCall book production cells answer n s x
+    → LookaheadCall book production cells answer m t y
+    → (n ≡ m) × (s ≡ t) × (x ≡ y)
+lookahead-call-unique book production cells answer c d =
+    called-unique (set-outcome-unique (λ r q o p. lookahead-outcome-unique book production o p)) (c .call) (d .call)
 
 pub first-call-unique : (book symbols cells answer : List ℕ) {n m : ℕ} {s t x y : List ℕ}
-    → FirstCall book symbols cells answer n s x → FirstCall book symbols cells answer m t y → (n ≡ m) × (s ≡ t) × (x ≡ y)
-first-call-unique book symbols cells answer c d = called-unique (set-outcome-unique (λ r q o p. first-outcome-unique book symbols o p)) (c .call) (d .call)
+    → FirstCall book symbols cells answer n s x
+    → FirstCall book symbols cells answer m t y
+    → (n ≡ m) × (s ≡ t) × (x ≡ y)
+first-call-unique book symbols cells answer c d =
+    called-unique (set-outcome-unique (λ r q o p. first-outcome-unique book symbols o p)) (c .call) (d .call)
 
--- the words lose nothing: where the book and the table are shorter than 2 ^ 64, the answer read from them is an answer of the function beneath
-pub run-call-exact : {book table tokens stack list answer : List ℕ} {n : ℕ} {s l x : List ℕ} → length book < 2 ^ 64 → length table < 2 ^ 64
-    → Lent answer → RunCall book table tokens stack list answer n s l x → RunOutcome book table tokens stack list (answerFrom n x) s l
+-- the words lose nothing: where the book and the table are shorter than 2 ^ 64, the answer read from them is an answer
+-- of the function beneath
+pub run-call-exact : {book table tokens stack list answer : List ℕ} {n : ℕ} {s l x : List ℕ}
+    → length book < 2 ^ 64
+    → length table < 2 ^ 64
+    → Lent answer
+    → RunCall book table tokens stack list answer n s l x
+    → RunOutcome book table tokens stack list (answerFrom n x) s l
 run-call-exact b t lent c = called-exact (λ a o. run-fits b t o) lent (c .call)
 
 pub expand-call-exact : {book list stack output answer : List ℕ} {n : ℕ} {s w x : List ℕ} → length book < 2 ^ 64
-    → Lent answer → ExpandCall book list stack output answer n s w x → ExpandOutcome book list stack output (answerFrom n x) s w
+    → Lent answer
+    → ExpandCall book list stack output answer n s w x
+    → ExpandOutcome book list stack output (answerFrom n x) s w
 expand-call-exact b lent c = called-exact (λ a o. expand-fits b o) lent (c .call)
 
 pub judge-call-exact : {book answer : List ℕ} {n : ℕ} {x : List ℕ} → length book < 2 ^ 64
@@ -67,26 +105,40 @@ pub sets-call-exact : {book first follow answer : List ℕ} {n : ℕ} {f w x : L
 sets-call-exact b lent c = called-exact (λ a o. sets-fits b o) lent (c .call)
 
 pub build-call-exact : {book first follow table answer : List ℕ} {n : ℕ} {f w t x : List ℕ} → length book < 2 ^ 64
-    → Lent answer → BuildCall book first follow table answer n f w t x → BuildOutcome book first follow table (answerFrom n x) f w t
+    → Lent answer
+    → BuildCall book first follow table answer n f w t x
+    → BuildOutcome book first follow table (answerFrom n x) f w t
 build-call-exact b lent c = called-exact (λ a o. build-fits b o) lent (c .call)
 
-pub lookahead-call-exact : {book : List ℕ} {production : ℕ} {cells answer : List ℕ} {n : ℕ} {s x : List ℕ} → length book < 2 ^ 64 → production < 2 ^ 64
-    → LentCell cells answer → LookaheadCall book production cells answer n s x → SetOutcome (LookaheadOutcome book production) cells (answerFrom n x) s
-lookahead-call-exact b p lent c = called-exact (λ a o. subst FitsWords (o .answer) (lookahead-fits b p (o .outcome))) lent (c .call)
+pub lookahead-call-exact : {book : List ℕ} {production : ℕ} {cells answer : List ℕ} {n : ℕ} {s x : List ℕ}
+    → length book < 2 ^ 64
+    → production < 2 ^ 64
+    → LentCell cells answer
+    → LookaheadCall book production cells answer n s x
+    → SetOutcome (LookaheadOutcome book production) cells (answerFrom n x) s
+lookahead-call-exact b p lent c =
+    called-exact (λ a o. subst FitsWords (o .answer) (lookahead-fits b p (o .outcome))) lent (c .call)
 
 pub first-call-exact : {book symbols cells answer : List ℕ} {n : ℕ} {s x : List ℕ} → length book < 2 ^ 64
-    → LentCell cells answer → FirstCall book symbols cells answer n s x → SetOutcome (FirstOutcome book symbols) cells (answerFrom n x) s
+    → LentCell cells answer
+    → FirstCall book symbols cells answer n s x
+    → SetOutcome (FirstOutcome book symbols) cells (answerFrom n x) s
 first-call-exact b lent c = called-exact (λ a o. subst FitsWords (o .answer) (first-fits b (o .outcome))) lent (c .call)
 
--- the demands of one call that lends an answer buffer long enough, its answer read back from the number returned and the words written
+-- the demands of one call that lends an answer buffer long enough, its answer read back from the number returned and
+-- the words written
 module _ {answer : List ℕ} (lent : Lent answer) where
-  module _ {book table tokens stack list : List ℕ} {n : ℕ} {s l x : List ℕ} (c : RunCall book table tokens stack list answer n s l x) where
+  module _ {book table tokens stack list : List ℕ} {n : ℕ} {s l x : List ℕ}
+      (c : RunCall book table tokens stack list answer n s l x) where
     -- demand 3
-    pub desk-run-meets3 : RunMeets3 book table tokens stack list (record { answer = answerFrom n x; stack = s; list = l })
+    pub desk-run-meets3 :
+        RunMeets3 book table tokens stack list (record { answer = answerFrom n x; stack = s; list = l })
     desk-run-meets3 =
         let told = called-answer lent (c .call) in
         let read = answer-read told in
-        let meets = run-meets3 book table tokens stack list (record { answer = told .told; stack = s; list = l }) (told .outcome) in
+        let meets =
+        run-meets3 book table tokens stack list (record { answer = told .told; stack = s; list = l })
+        (told .outcome) in
         record {
           accepts = λ h m. meets .accepts h (sym (read .number) ∙ m);
           only-one = meets .only-one;
@@ -95,25 +147,32 @@ module _ {answer : List ℕ} (lent : Lent answer) where
           decided = λ h need k. rw (read .number) (meets .decided h need k);
           place = λ h m.
               let longest = meets .place h (sym (read .number) ∙ m) in
-              subst (λ (k : ℕ). Longest (h .built .grammar) tokens k) (sym (read .place (omega (arith, longest .inside, h .short)))) longest;
+              let same = read .place (omega (arith, longest .inside, h .short)) in
+              subst (λ (k : ℕ). Longest (h .built .grammar) tokens k) (sym same) longest;
         }
 
     -- demand 2: with room, the string of a complete list runs back to the list
-    pub desk-run-meets2 : RunMeets2 book table tokens stack list (record { answer = answerFrom n x; stack = s; list = l })
+    pub desk-run-meets2 :
+        RunMeets2 book table tokens stack list (record { answer = answerFrom n x; stack = s; list = l })
     desk-run-meets2 =
         let told = called-answer lent (c .call) in
         record {
           back = λ {ps} h d k m.
-              let (accepted, listed) = run-meets2 book table tokens stack list (record { answer = told .told; stack = s; list = l }) (told .outcome) .back h d k m in
+              let (accepted, listed) =
+              run-meets2 book table tokens stack list (record { answer = told .told; stack = s; list = l })
+              (told .outcome) .back h d k m in
               (answer-read told .number ∙ accepted, listed);
         }
 
     -- steps = productions listed + tokens matched
-    pub desk-run-steps-add : RunStepsAdd book table tokens stack list (record { answer = answerFrom n x; stack = s; list = l })
+    pub desk-run-steps-add :
+        RunStepsAdd book table tokens stack list (record { answer = answerFrom n x; stack = s; list = l })
     desk-run-steps-add =
         let told = called-answer lent (c .call) in
         let read = answer-read told in
-        let adds = run-steps-add book table tokens stack list (record { answer = told .told; stack = s; list = l }) (told .outcome) in
+        let adds =
+        run-steps-add book table tokens stack list (record { answer = told .told; stack = s; list = l })
+        (told .outcome) in
         record {
           sum = λ {g} serves admits.
               let counted = adds .sum serves admits in
@@ -124,23 +183,29 @@ module _ {answer : List ℕ} (lent : Lent answer) where
         }
 
   -- demand 2 of an expansion: given room, a complete list expands to the string that it derives
-  pub desk-expand-meets2 : {book list stack output : List ℕ} {n : ℕ} {s v x : List ℕ} → ExpandCall book list stack output answer n s v x
+  pub desk-expand-meets2 : {book list stack output : List ℕ} {n : ℕ} {s v x : List ℕ}
+      → ExpandCall book list stack output answer n s v x
       → ExpandMeets2 book list stack output (record { answer = answerFrom n x; stack = s; output = v })
   desk-expand-meets2 {book} {list} {stack} {output} {n} {s} {v} c =
       let told = called-answer lent (c .call) in
       record {
         expands = λ {g} {w} serves d short h k.
-            let (done, written) = expand-meets2 book list stack output (record { answer = told .told; stack = s; output = v }) (told .outcome) .expands serves d short h k in
+            let (done, written) =
+            expand-meets2 book list stack output (record { answer = told .told; stack = s; output = v })
+            (told .outcome) .expands serves d short h k in
             (answer-read told .number ∙ done, written);
       }
 
   -- steps = productions used + tokens written
-  pub desk-expand-steps-add : {book list stack output : List ℕ} {n : ℕ} {s v x : List ℕ} → ExpandCall book list stack output answer n s v x
+  pub desk-expand-steps-add : {book list stack output : List ℕ} {n : ℕ} {s v x : List ℕ}
+      → ExpandCall book list stack output answer n s v x
       → ExpandStepsAdd book list stack output (record { answer = answerFrom n x; stack = s; output = v })
   desk-expand-steps-add {book} {list} {stack} {output} {n} {s} {v} c =
       let told = called-answer lent (c .call) in
       let read = answer-read told in
-      let adds = expand-steps-add book list stack output (record { answer = told .told; stack = s; output = v }) (told .outcome) in
+      let adds =
+      expand-steps-add book list stack output (record { answer = told .told; stack = s; output = v })
+      (told .outcome) in
       record {
         sum = λ {g} serves short k.
             let told-sum = adds .sum serves short k in
@@ -150,13 +215,17 @@ module _ {answer : List ℕ} (lent : Lent answer) where
         none = λ m. let zero = adds .none m in read .steps (omega arith) ∙ zero;
       }
 
-  -- demand 2 of building: sets and tables have no member missing and none added, and a conflict is found exactly if two productions claim one cell
-  pub desk-build-meets2 : {book first follow table : List ℕ} {n : ℕ} {f w t x : List ℕ} → BuildCall book first follow table answer n f w t x
+  -- demand 2 of building: sets and tables have no member missing and none added, and a conflict is found exactly if two
+  -- productions claim one cell
+  pub desk-build-meets2 : {book first follow table : List ℕ} {n : ℕ} {f w t x : List ℕ}
+      → BuildCall book first follow table answer n f w t x
       → BuildMeets2 book first follow table (record { answer = answerFrom n x; first = f; follow = w; table = t })
   desk-build-meets2 {book} {first} {follow} {table} {n} {f} {w} {t} c =
       let told = called-answer lent (c .call) in
       let read = answer-read told in
-      let meets = build-meets2 book first follow table (record { answer = told .told; first = f; follow = w; table = t }) (told .outcome) in
+      let meets =
+      build-meets2 book first follow table (record { answer = told .told; first = f; follow = w; table = t })
+      (told .outcome) in
       record {
         conflict-iff = λ {g} serves k. rw (read .number) (meets .conflict-iff serves k);
         done-iff = λ {g} serves k. rw (read .number) (meets .done-iff serves k);

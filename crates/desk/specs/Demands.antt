@@ -1,4 +1,5 @@
--- The answer of a C call as its caller reads it, of which the demands speak: the number returned, and the words written.
+-- The answer of a C call as its caller reads it, of which the demands speak: the number returned, and the words
+-- written.
 -- Document 01, "Running and expanding": the demands "are read of calls that lend one long enough".
 use mathlib.Core.List.{List, [], _∷_}
 use Prim.Native.Nat.{ℕ, _+_, _*_}

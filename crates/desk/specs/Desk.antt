@@ -1,5 +1,5 @@
--- What the C functions answer and leave in the lent buffers: the number is returned, and place, detail, steps and expected set go
--- into a lent answer buffer. Document 01, "Running and expanding": the restore desk's own program.
+-- What the C functions answer and leave in the lent buffers: the number is returned, and place, detail, steps and
+-- expected set go into a lent answer buffer. Document 01, "Running and expanding": the restore desk's own program.
 use mathlib.Core.Path.{_≡_}
 use mathlib.Core.List.{List, [], _∷_, _++_}
 use Prim.Native.Nat.{ℕ, zero, suc, _/_, _%_, _≤_}
@@ -23,17 +23,23 @@ littleEndian (suc bytes) n = n % 256 ∷ littleEndian bytes (n / 256)
 
 -- place, detail, steps and expected set as little-endian 64-bit words
 unfoldable pub answerBytes : Answer → List ℕ
-answerBytes a = littleEndian 8 (a .place) ++ littleEndian 8 (a .detail) ++ littleEndian 8 (a .steps) ++ littleEndian 8 (number (a .expected))
+answerBytes a =
+    littleEndian 8 (a .place) ++ littleEndian 8 (a .detail) ++ littleEndian 8 (a .steps) ++ littleEndian 8
+    (number (a .expected))
 
 -- how long an answer buffer must be: as long as the bytes of any answer
 unfoldable pub answerSize : ℕ
 answerSize = length (answerBytes (done 0))
 
--- a call: with too little lent it gives 7 before all else and changes nothing; otherwise the answer's number is returned and its
--- bytes are written over the answer buffer, of which later bytes stay
-pub data Called {Buffers : Type 0} (Enough : Type 0) (Outcome : Answer → Buffers → Type 0) (before : Buffers) (answer : List ℕ) : ℕ → Buffers → List ℕ → Type 0 where
+-- a call: with too little lent it gives 7 before all else and changes nothing; otherwise the answer's number is
+-- returned and its bytes are written over the answer buffer, of which later bytes stay
+pub data Called {Buffers : Type 0} (Enough : Type 0) (Outcome : Answer → Buffers → Type 0) (before : Buffers)
+    (answer : List ℕ) : ℕ → Buffers → List ℕ → Type 0 where
   short : ¬ Enough → Called Enough Outcome before answer room before answer
-  answered : {a : Answer} {after : Buffers} → Enough → Outcome a after → Called Enough Outcome before answer (a .number) after (over (answerBytes a) answer)
+  answered : {a : Answer} {after : Buffers}
+      → Enough
+      → Outcome a after
+      → Called Enough Outcome before answer (a .number) after (over (answerBytes a) answer)
 
 -- the answer buffer has room for an answer
 abbrev pub Lent : List ℕ → Type 0
@@ -51,19 +57,34 @@ pub record JudgeCall (book answer : List ℕ) (number : ℕ) (answer′ : List �
 
 -- FIRST and FOLLOW of each nonterminal
 pub record SetsCall (book first follow answer : List ℕ) (number : ℕ) (first′ follow′ answer′ : List ℕ) : Type 0 where
-  pub call : Called {Buffers = List ℕ × List ℕ} (Lent answer) (λ a after. SetsOutcome book first follow a (after .0) (after .1)) (first, follow) answer number (first′, follow′) answer′
+  pub call :
+      Called {Buffers = List ℕ × List ℕ} (Lent answer)
+      (λ a after. SetsOutcome book first follow a (after .0) (after .1)) (first, follow) answer number
+      (first′, follow′) answer′
 
 -- the sets and the table
-pub record BuildCall (book first follow table answer : List ℕ) (number : ℕ) (first′ follow′ table′ answer′ : List ℕ) : Type 0 where
-  pub call : Called {Buffers = List ℕ × List ℕ × List ℕ} (Lent answer) (λ a after. BuildOutcome book first follow table a (after .0) (after .1) (after .2)) (first, follow, table) answer number (first′, follow′, table′) answer′
+pub record BuildCall (book first follow table answer
+    : List ℕ) (number : ℕ) (first′ follow′ table′ answer′ : List ℕ) : Type 0 where
+  pub call :
+      Called {Buffers = List ℕ × List ℕ × List ℕ} (Lent answer)
+      (λ a after. BuildOutcome book first follow table a (after .0) (after .1) (after .2)) (first, follow, table)
+      answer number (first′, follow′, table′) answer′
 
 -- a token string run on a book and a table
-pub record RunCall (book table tokens stack list answer : List ℕ) (number : ℕ) (stack′ list′ answer′ : List ℕ) : Type 0 where
-  pub call : Called {Buffers = List ℕ × List ℕ} (Lent answer) (λ a after. RunOutcome book table tokens stack list a (after .0) (after .1)) (stack, list) answer number (stack′, list′) answer′
+pub record RunCall (book table tokens stack list answer
+    : List ℕ) (number : ℕ) (stack′ list′ answer′ : List ℕ) : Type 0 where
+  pub call :
+      Called {Buffers = List ℕ × List ℕ} (Lent answer)
+      (λ a after. RunOutcome book table tokens stack list a (after .0) (after .1)) (stack, list) answer number
+      (stack′, list′) answer′
 
 -- a production list expanded to the tokens it derives
-pub record ExpandCall (book list stack output answer : List ℕ) (number : ℕ) (stack′ output′ answer′ : List ℕ) : Type 0 where
-  pub call : Called {Buffers = List ℕ × List ℕ} (Lent answer) (λ a after. ExpandOutcome book list stack output a (after .0) (after .1)) (stack, output) answer number (stack′, output′) answer′
+pub record ExpandCall (book list stack output answer
+    : List ℕ) (number : ℕ) (stack′ output′ answer′ : List ℕ) : Type 0 where
+  pub call :
+      Called {Buffers = List ℕ × List ℕ} (Lent answer)
+      (λ a after. ExpandOutcome book list stack output a (after .0) (after .1)) (stack, output) answer number
+      (stack′, output′) answer′
 
 -- the answer buffer has room for an answer, and the set's buffer has a cell
 pub record LentCell (cells answer : List ℕ) : Type 0 where
@@ -78,9 +99,14 @@ pub record SetOutcome (Told : SetAnswer → Type 0) (cells : List ℕ) (a : Answ
   pub written : cells′ ≡ over (number (told .set) ∷ []) cells
 
 -- the lookahead of a production
-pub record LookaheadCall (book : List ℕ) (production : ℕ) (cells answer : List ℕ) (number : ℕ) (cells′ answer′ : List ℕ) : Type 0 where
-  pub call : Called {Buffers = List ℕ} (LentCell cells answer) (SetOutcome (LookaheadOutcome book production) cells) cells answer number cells′ answer′
+pub record LookaheadCall (book
+    : List ℕ) (production : ℕ) (cells answer : List ℕ) (number : ℕ) (cells′ answer′ : List ℕ) : Type 0 where
+  pub call :
+      Called {Buffers = List ℕ} (LentCell cells answer) (SetOutcome (LookaheadOutcome book production) cells) cells
+      answer number cells′ answer′
 
 -- FIRST of a symbol string
 pub record FirstCall (book symbols cells answer : List ℕ) (number : ℕ) (cells′ answer′ : List ℕ) : Type 0 where
-  pub call : Called {Buffers = List ℕ} (LentCell cells answer) (SetOutcome (FirstOutcome book symbols) cells) cells answer number cells′ answer′
+  pub call :
+      Called {Buffers = List ℕ} (LentCell cells answer) (SetOutcome (FirstOutcome book symbols) cells) cells answer
+      number cells′ answer′

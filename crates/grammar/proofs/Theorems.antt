@@ -6,7 +6,8 @@ use mathlib.Core.Option.{Option}
 use Prim.Native.Nat.{ℕ, _<_}
 use lib.ListN.{length}
 use Rattle.grammar.specs.declared.Symbol.the-variants.{Nonterminal}
-use Rattle.grammar.specs.Grammar.{Form, spelled, Grammar, Column, Derives, itself, Derivable, LeftmostSteps, Leftmost, Complete, Conflict, WellFormed, Useful}
+use Rattle.grammar.specs.Grammar.{Form, spelled, Grammar, Column, Derives, itself, Derivable, LeftmostSteps}
+use Rattle.grammar.specs.Grammar.{Leftmost, Complete, Conflict, WellFormed, Useful}
 use Rattle.grammar.specs.Machine.{Exact, Run, Accepts, Stopped, Halted, Longest}
 use Rattle.grammar.proofs.Leftmost.{leftmost-steps, steps-leftmost, derives-leftmost, leftmost-derives}
 use Rattle.grammar.proofs.Unique.{unique-from}
@@ -17,11 +18,15 @@ use Rattle.grammar.proofs.Halting.{halts-from}
 -- a list derives one string only
 pub use Rattle.grammar.proofs.Leftmost.{list-string}
 -- FIRST, FOLLOW and lookahead: what is sound and closed is exact, and each single addition is sound
-pub use Rattle.grammar.proofs.Sets.{first-exact, follow-exact, lookahead-exact, claims-exact, first-addition, follow-addition}
+pub use Rattle.grammar.proofs.Sets.{first-exact, follow-exact, lookahead-exact, claims-exact, first-addition}
+pub use Rattle.grammar.proofs.Sets.{follow-addition}
 -- FIRST never holds the end mark, FOLLOW and a lookahead never the empty string
 pub use Rattle.grammar.proofs.Sets.{first-not-end, follow-not-empty, lookahead-not-empty}
--- productive and useful: the same; a start that derives nothing makes every nonterminal useless, and so is one without productions
-pub use Rattle.grammar.proofs.Useful.{productive-exact, productive-addition, useful-exact, useful-addition, useful-start, start-useful, useful-productive, useful-reachable, without-productions}
+-- productive and useful: the same; a start that derives nothing makes every nonterminal useless, and so is one without
+-- productions
+pub use Rattle.grammar.proofs.Useful.{productive-exact, productive-addition, useful-exact, useful-addition}
+pub use Rattle.grammar.proofs.Useful.{useful-start, start-useful, useful-productive, useful-reachable}
+pub use Rattle.grammar.proofs.Useful.{without-productions}
 -- cells are exact without conflict, and exact cells leave no conflict
 pub use Rattle.grammar.proofs.Machine.{cells-exact, exact-no-conflict}
 -- the place of a syntax stop is determined
@@ -49,7 +54,8 @@ module _ {g : Grammar} where
     pub halts : (w : List ℕ) → Halted g cell (Nonterminal (g .start) ∷ []) w
     halts w = halts-from exact w [] (Nonterminal (g .start) ∷ []) itself
 
-    module _ {z : List ℕ} {β : Form} {u ps : List ℕ} (run : Run g cell z (Nonterminal (g .start) ∷ []) u ps β) (stop : Stopped g cell β z) where
+    module _ {z : List ℕ} {β : Form} {u ps : List ℕ} (run : Run g cell z (Nonterminal (g .start) ∷ []) u ps β)
+        (stop : Stopped g cell β z) where
       -- a string on which it stops is not derivable
       pub stopped-not-derivable : ¬ Derivable g (u ++ z)
       stopped-not-derivable d = blocked exact run stop z refl d

@@ -1,4 +1,5 @@
--- The textbook: grammars, derivations, FIRST, FOLLOW, lookahead, cells and conflicts, useful symbols, all by derivation.
+-- The textbook: grammars, derivations, FIRST, FOLLOW, lookahead, cells and conflicts, useful symbols, all by
+-- derivation.
 -- Document 01, "The book", "Refusals" (6 and 8) and "Sets and table". Definitions only.
 use mathlib.Core.Path.{_≡_}
 use mathlib.Core.Logic.{_≢_}
@@ -65,7 +66,9 @@ module _ (g : Grammar) where
 
   -- the first nonterminal of a form is replaced by production p
   pub data LeftmostStep (p : ℕ) : Form → Form → Type 0 where
-    leftmost : (u : List ℕ) (v : Form) {A : ℕ} {β : Form} → Rule p A β → LeftmostStep p (spelled u ++ (Nonterminal A ∷ v)) (spelled u ++ (β ++ v))
+    leftmost : (u : List ℕ) (v : Form) {A : ℕ} {β : Form}
+        → Rule p A β
+        → LeftmostStep p (spelled u ++ (Nonterminal A ∷ v)) (spelled u ++ (β ++ v))
 
   -- leftmost steps, with the list of their productions
   pub data LeftmostSteps : Form → List ℕ → Form → Type 0 where
@@ -76,7 +79,10 @@ module _ (g : Grammar) where
   pub data Leftmost : Form → List ℕ → List ℕ → Type 0 where
     done : Leftmost [] [] []
     shift : {t : ℕ} {α : Form} {ps w : List ℕ} → Leftmost α ps w → Leftmost (Token t ∷ α) ps (t ∷ w)
-    expand : {p A : ℕ} {α β : Form} {ps w : List ℕ} → Rule p A β → Leftmost (β ++ α) ps w → Leftmost (Nonterminal A ∷ α) (p ∷ ps) w
+    expand : {p A : ℕ} {α β : Form} {ps w : List ℕ}
+        → Rule p A β
+        → Leftmost (β ++ α) ps w
+        → Leftmost (Nonterminal A ∷ α) (p ∷ ps) w
 
   -- a complete list: it derives w from the start symbol
   abbrev pub Complete : List ℕ → List ℕ → Type 0

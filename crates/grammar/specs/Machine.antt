@@ -24,7 +24,11 @@ module _ (g : Grammar) where
     pub data Run (z : List ℕ) : Form → List ℕ → List ℕ → Form → Type 0 where
       here : {α : Form} → Run z α [] [] α
       match : {t : ℕ} {α β : Form} {u ps : List ℕ} → Run z α u ps β → Run z (Token t ∷ α) (t ∷ u) ps β
-      expand : {p A : ℕ} {α β γ : Form} {u ps : List ℕ} → cell A (front (u ++ z)) ≡ some p → Rule g p A γ → Run z (γ ++ α) u ps β → Run z (Nonterminal A ∷ α) u (p ∷ ps) β
+      expand : {p A : ℕ} {α β γ : Form} {u ps : List ℕ}
+          → cell A (front (u ++ z)) ≡ some p
+          → Rule g p A γ
+          → Run z (γ ++ α) u ps β
+          → Run z (Nonterminal A ∷ α) u (p ∷ ps) β
 
     -- the whole string is read and the stack is empty
     abbrev pub Accepts : List ℕ → List ℕ → Type 0

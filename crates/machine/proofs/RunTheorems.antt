@@ -16,11 +16,13 @@ use Rattle.machine.proofs.Count.{Counted, counted-stack, begun-counted,
 use Rattle.machine.proofs.Relation.{Rows, Reached, run-reached}
 use Rattle.machine.proofs.Verdict.{Derived, begun-ran, ran-derived, syntax-not-derivable, syntax-place}
 use Rattle.machine.proofs.Peak.{peak-from}
-use Rattle.machine.proofs.Outcome.{whole, Outcome, run-outcome, enough-taken, taken-enough, short-stopped, stopped-short}
+use Rattle.machine.proofs.Outcome.{whole, Outcome, run-outcome, enough-taken, taken-enough, short-stopped}
+use Rattle.machine.proofs.Outcome.{stopped-short}
 use Rattle.machine.proofs.Enough.{RoomEnough, halted-decides}
 -- the equations of an offer and of a run, case by case
 pub use Rattle.machine.specs.Stopping.{runOf}
-pub use Rattle.machine.proofs.Offer.{offer-match, offer-use, offer-halt, run-taken, run-stopped, run-match, run-use, run-halt}
+pub use Rattle.machine.proofs.Offer.{offer-match, offer-use, offer-halt, run-taken, run-stopped, run-match}
+pub use Rattle.machine.proofs.Offer.{run-use, run-halt}
 -- an offer, and a run from any state, keep the counts right and grow the list at its end
 pub use Rattle.machine.proofs.Count.{offer-counted, offer-grown, run-counted, run-grown}
 -- exact cells hold productions of their rows
@@ -33,7 +35,8 @@ pub use Rattle.machine.proofs.Outcome.{before-listed, before-fewer}
 pub use Rattle.machine.proofs.Enough.{run-more}
 
 module _ (right : ℕ → Form) (cell : ℕ → Column → Option ℕ) (room cells start : ℕ) (w : List ℕ) where
-  -- whatever the table, the moves are the productions listed and the tokens matched, and the list and the greatest height stay within their room
+  -- whatever the table, the moves are the productions listed and the tokens matched, and the list and the greatest
+  -- height stay within their room
   pub run-steps : Counted room cells (final (runFrom right cell room cells w (begun start)))
   run-steps = run-counted right cell room cells w (begun start) (begun-counted room cells start)
 
@@ -61,11 +64,19 @@ module _ {g : Grammar} {cell : ℕ → Column → Option ℕ} (rows : Rows g cel
 
 module _ {g : Grammar} {cell : ℕ → Column → Option ℕ} (exact : Exact g cell) (room cells : ℕ) where
   -- a string that stops the run by syntax is not derivable
-  pub run-syntax : (w : List ℕ) {r : Reason} {s : State} → runOf g cell room cells w ≡ stopped r s → Syntax r → ¬ Derivable g w
+  pub run-syntax : (w : List ℕ) {r : Reason} {s : State}
+      → runOf g cell room cells w ≡ stopped r s
+      → Syntax r
+      → ¬ Derivable g w
   run-syntax w e k = syntax-not-derivable exact (begun-ran (g .start) w e) k
 
   -- where the run stops by syntax, what is matched is the longest beginning that some derivable string shares
-  pub run-place : WellFormed g → ((A : ℕ) → A < g .nonterminals → Useful g A) → (w : List ℕ) {r : Reason} {s : State} → runOf g cell room cells w ≡ stopped r s → Syntax r → Longest g w (s .matched)
+  pub run-place : WellFormed g
+      → ((A : ℕ) → A < g .nonterminals → Useful g A)
+      → (w : List ℕ) {r : Reason} {s : State}
+      → runOf g cell room cells w ≡ stopped r s
+      → Syntax r
+      → Longest g w (s .matched)
   run-place well useful w e k = syntax-place exact (begun-ran (g .start) w e) k well useful
 
   module _ {ps w : List ℕ} (d : Complete g ps w) where
@@ -78,16 +89,26 @@ module _ {g : Grammar} {cell : ℕ → Column → Option ℕ} (exact : Exact g c
     run-room h = run-outcome exact h d
 
     -- taken exactly if there is room for the whole derivation
-    pub run-taken-iff : 1 ≤ room → ((s : State) × (runOf g cell room cells w ≡ taken s)) ↔ ((length ps ≤ cells) × (peak d ≤ room))
-    run-taken-iff h = (λ t. taken-enough (subst (λ (o : Offered). Outcome room cells d o) (t .1) (run-room h)), λ k. (whole d, run-complete (k .0) (k .1)))
+    pub run-taken-iff : 1 ≤ room
+        → ((s : State) × (runOf g cell room cells w ≡ taken s)) ↔ ((length ps ≤ cells) × (peak d ≤ room))
+    run-taken-iff h =
+        (λ t. taken-enough (subst (λ (o : Offered). Outcome room cells d o) (t .1) (run-room h)), λ k. (whole d, run-complete (k .0) (k .1)))
 
     -- and stopped for room exactly if there is not
-    pub run-short-iff : 1 ≤ room → ((r : Reason) × (s : State) × Short r × (runOf g cell room cells w ≡ stopped r s)) ↔ ((cells < length ps) ⊎ (room < peak d))
-    run-short-iff h = (λ t. stopped-short (subst (λ (o : Offered). Outcome room cells d o) (t .3) (run-room h)), λ k. short-stopped (run-room h) k)
+    pub run-short-iff : 1 ≤ room
+        → ((r : Reason) × (s : State) × Short r × (runOf g cell room cells w ≡ stopped r s)) ↔
+        ((cells < length ps) ⊎ (room < peak d))
+    run-short-iff h =
+        (λ t. stopped-short (subst (λ (o : Offered). Outcome room cells d o) (t .3) (run-room h)), λ k. short-stopped (run-room h) k)
 
   -- the list of a string that is taken is its only leftmost derivation
-  pub run-unique-list : (w : List ℕ) {s : State} → runOf g cell room cells w ≡ taken s → {qs : List ℕ} → Complete g qs w → qs ≡ s .listed
-  run-unique-list w e d = leftmost-unique (exact-no-conflict exact) d (run-sound (exact-rows exact) room cells w e .complete)
+  pub run-unique-list : (w : List ℕ) {s : State}
+      → runOf g cell room cells w ≡ taken s
+      → {qs : List ℕ}
+      → Complete g qs w
+      → qs ≡ s .listed
+  run-unique-list w e d =
+      leftmost-unique (exact-no-conflict exact) d (run-sound (exact-rows exact) room cells w e .complete)
 
 -- for every string there is room enough that it is taken or stops by syntax
 pub run-halts : {g : Grammar} {cell : ℕ → Column → Option ℕ} → Exact g cell → (w : List ℕ) → RoomEnough g cell w

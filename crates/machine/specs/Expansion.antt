@@ -35,21 +35,25 @@ unfoldable pub wrote : ℕ → Course → Course
 wrote t s = record { written = s .written ++ (t ∷ []); used = s .used; moves = suc (s .moves); height = s .height }
 
 unfoldable pub applied : Form → Course → Course
-applied β s = record { written = s .written; used = suc (s .used); moves = suc (s .moves); height = max (s .height) (length β) }
+applied β s =
+    record { written = s .written; used = suc (s .used); moves = suc (s .moves); height = max (s .height) (length β) }
 
 -- whether production p is one of A, its right side, and how many cells of stack and output count as room
 module _ (fits : ℕ → ℕ → Bool) (right : ℕ → Form) (room output : ℕ) where
   -- tokens on top are written, until the stack is empty or a nonterminal stands on top
   unfoldable pub writing : (Course → Expansion) → (ℕ → Form → Course → Expansion) → Form → Course → Expansion
   writing empty apply [] s = empty s
-  writing empty apply (Token t ∷ α) s = elim (ltb (length (s .written)) output) [ true ↦ writing empty apply α (wrote t s) | false ↦ ended full-output s ]
+  writing empty apply (Token t ∷ α) s =
+      elim (ltb (length (s .written)) output) [ true ↦ writing empty apply α (wrote t s) | false ↦ ended full-output s ]
   writing empty apply (Nonterminal A ∷ α) s = apply A α s
 
   -- a number that is no production of A does not fit; then the stack must not be too long
   unfoldable pub applying : (Form → Course → Expansion) → ℕ → ℕ → Form → Course → Expansion
   applying next p A α s =
       elim (fits A p) [
-        | true ↦ elim (leb (length (right p ++ α)) room) [ true ↦ next (right p ++ α) (applied (right p ++ α) s) | false ↦ ended full-stack s ]
+        | true ↦
+            elim (leb (length (right p ++ α)) room)
+            [ true ↦ next (right p ++ α) (applied (right p ++ α) s) | false ↦ ended full-stack s ]
         | false ↦ ended unfit s
       ]
 
@@ -65,8 +69,8 @@ opened = record { written = []; used = 0; moves = 0; height = 1 }
 abbrev pub expansion : Grammar → ℕ → ℕ → List ℕ → Expansion
 expansion g cells output ps = expandFrom (isOf g) (rightOf g) cells output ps (Nonterminal (g .start) ∷ []) opened
 
--- of n productions: one move for each one used and each token written, and no more used, written or stacked than there is;
--- the start symbol's cell counts in any case
+-- of n productions: one move for each one used and each token written, and no more used, written or stacked than there
+-- is; the start symbol's cell counts in any case
 pub record Spent (cells output n : ℕ) (s : Course) : Type 0 where
   pub moves : s .moves ≡ s .used + length (s .written)
   pub used : s .used ≤ n

@@ -9,7 +9,8 @@ use lib.ListN.{length}
 use Rattle.grammar.specs.declared.Symbol.the-variants.{Token, Nonterminal}
 use Rattle.grammar.specs.Grammar.{Form, Column, token, endmark}
 
--- the stack, top first; the productions listed and the tokens matched so far; the moves made; the greatest height of the stack so far
+-- the stack, top first; the productions listed and the tokens matched so far; the moves made; the greatest height of
+-- the stack so far
 pub record State : Type 0 where
   pub stack : Form
   pub listed : List ℕ
@@ -17,7 +18,8 @@ pub record State : Type 0 where
   pub moves : ℕ
   pub height : ℕ
 
--- why the machine stops: list or stack is too short, or syntax: it wants the end mark, that token, or a filled column of that row
+-- why the machine stops: list or stack is too short, or syntax: it wants the end mark, that token, or a filled column
+-- of that row
 pub data Reason : Type 0 where
   full-list : Reason
   full-stack : Reason
@@ -44,17 +46,27 @@ meets endmark t = false
 
 -- the token on top is matched and popped
 unfoldable pub popped : Form → State → State
-popped α s = record { stack = α; listed = s .listed; matched = suc (s .matched); moves = suc (s .moves); height = s .height }
+popped α s =
+    record { stack = α; listed = s .listed; matched = suc (s .matched); moves = suc (s .moves); height = s .height }
 
 -- the right side, production p's, takes the place of the nonterminal on top, and p is listed
 unfoldable pub replaced : ℕ → Form → State → State
-replaced p β s = record { stack = β; listed = s .listed ++ (p ∷ []); matched = s .matched; moves = suc (s .moves); height = max (s .height) (length β) }
+replaced p β s =
+    record {
+      stack = β;
+      listed = s .listed ++ (p ∷ []);
+      matched = s .matched;
+      moves = suc (s .moves);
+      height = max (s .height) (length β);
+    }
 
 -- the right side of each production, the cells of the table, and how many cells of stack and list count as room
 module _ (right : ℕ → Form) (cell : ℕ → Column → Option ℕ) (room cells : ℕ) where
   -- a stack that would be too long after the replacement stops the machine
   unfoldable pub used : (State → Offered) → ℕ → Form → State → Offered
-  used next p α s = elim (leb (length (right p ++ α)) room) [ true ↦ next (replaced p (right p ++ α) s) | false ↦ stopped full-stack s ]
+  used next p α s =
+      elim (leb (length (right p ++ α)) room)
+      [ true ↦ next (replaced p (right p ++ α) s) | false ↦ stopped full-stack s ]
 
   -- what the top of the stack says to the column
   unfoldable pub facing : (ℕ → Form → Offered) → Column → State → Form → Offered
@@ -70,4 +82,5 @@ module _ (right : ℕ → Form) (cell : ℕ → Column → Option ℕ) (room cel
   -- the tokens are offered one by one, then the end mark
   unfoldable pub runFrom : List ℕ → State → Offered
   runFrom [] s = offer (cells - length (s .listed)) endmark s
-  runFrom (t ∷ w) s = elim (offer (cells - length (s .listed)) (token t) s) [ taken s′ ↦ runFrom w s′ | stopped r s′ ↦ stopped r s′ ]
+  runFrom (t ∷ w) s =
+      elim (offer (cells - length (s .listed)) (token t) s) [ taken s′ ↦ runFrom w s′ | stopped r s′ ↦ stopped r s′ ]
