@@ -1,5 +1,5 @@
 # make test               the whole gate
-# make also-fail          more wrong programs, each refused (half an hour)
+# make also-fail          more wrong programs, each refused (half an hour); CRATE=NAME for those of one crate
 # make list BOOK=FILE     lists a book
 # make restore            the example program in C, target/c/restore
 # make bench              the benchmark
@@ -15,10 +15,11 @@ LIB := target/libdesk.a
 test: compiler
 	@rt fmt --check
 	@tools/also-fail --fits
+	@tools/promises
 	@log=$$(mktemp); trap 'rm -f "$$log"' EXIT; rt ci | tee "$$log"; $(MAKE) --no-print-directory list-test c-test; tail -n 1 "$$log"
 
 also-fail:
-	@tools/also-fail
+	@tools/also-fail $(CRATE)
 
 list:
 	@[ -n "$(BOOK)" ] || { echo "usage: make list BOOK=FILE" >&2; exit 2; }

@@ -154,7 +154,7 @@ static struct workload *make_workload(const char *name, const uint8_t *book, siz
     made->name = name;
     memcpy(made->book, book, book_length);
     made->book_length = book_length;
-    made->table_length = (size_t)book[3] * (book[2] + 1u);
+    made->table_length = DESK_TABLE_CELLS(book);
     made->length = length;
     made->stack = length == SHORT_STRING ? 16 : STACK;
     made->times = length == SHORT_STRING ? 40 : 1;

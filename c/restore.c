@@ -45,13 +45,19 @@ static uint64_t word(const uint8_t *answer, size_t index)
     return value;
 }
 
+/* The number in words. */
+static const char *words(uint32_t number)
+{
+    return number < sizeof refusals / sizeof *refusals ? refusals[number] : "refused";
+}
+
 static int refused(const char *what, uint32_t number, const uint8_t *answer)
 {
     printf("%s refused with %" PRIu32 ", %s: place %" PRIu64 ", detail %" PRIu64 ", steps %" PRIu64 "\n", what, number,
-           refusals[number], word(answer, 0), word(answer, 1), word(answer, 2));
+           words(number), word(answer, 0), word(answer, 1), word(answer, 2));
     if (number == DESK_SYNTAX) {
         printf("expected after %" PRIu64 " tokens:", word(answer, 0));
-        for (unsigned token = 0; token < 62; token++)
+        for (unsigned token = 0; token < DESK_MOST_GRAMMAR_TOKENS; token++)
             if (word(answer, 3) >> token & 1)
                 printf(" %u", token);
         printf("%s\n", word(answer, 3) & DESK_END_MARK ? " end" : "");
@@ -66,7 +72,7 @@ static uint32_t build(uint8_t *answer)
     uint32_t number = desk_build(book.bytes, book.length, first, DESK_MOST_NONTERMINALS, follow, DESK_MOST_NONTERMINALS,
                                  table.bytes, DESK_MOST_TABLE_CELLS, answer, DESK_ANSWER_SIZE);
     if (number == DESK_DONE)
-        table.length = (size_t)book.bytes[3] * (book.bytes[2] + 1u);
+        table.length = DESK_TABLE_CELLS(book.bytes);
     return number;
 }
 

@@ -34,11 +34,15 @@ extern "C" {
 
 #define DESK_ANSWER_SIZE 32
 #define DESK_MOST_BOOK_BYTES 2566
+#define DESK_MOST_GRAMMAR_TOKENS 62
 #define DESK_MOST_TOKENS 4096
 #define DESK_MOST_CELLS 65535
 #define DESK_MOST_SYMBOLS 16
 #define DESK_MOST_NONTERMINALS 64
 #define DESK_MOST_TABLE_CELLS 4032
+
+/* How many cells the table of a book has that desk_judge finds done: N x (T+1). */
+#define DESK_TABLE_CELLS(book) ((size_t)(book)[3] * ((book)[2] + 1u))
 
 #define DESK_NONTERMINAL 128
 #define DESK_NO_PRODUCTION 255

@@ -141,7 +141,7 @@ static void set_book(const uint8_t *bytes, size_t length)
 {
     memcpy(book, bytes, length);
     book_length = length;
-    table_length = (size_t)book[3] * (book[2] + 1u);
+    table_length = DESK_TABLE_CELLS(book);
 }
 
 /* The longest book, in which each nonterminal begins with the next one. */

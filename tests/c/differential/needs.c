@@ -27,7 +27,7 @@ size_t answer_size(void)
 {
     if (chance(90))
         return DESK_ANSWER_SIZE;
-    return chance(50) ? pick(0, 31) : pick(33, 48);
+    return chance(50) ? pick(0, DESK_ANSWER_SIZE - 1) : pick(DESK_ANSWER_SIZE + 1, DESK_ANSWER_SIZE + 16);
 }
 
 size_t set_cells(void)

@@ -3,7 +3,7 @@
 /* Makes a call with every kind of answer buffer and of empty slice. */
 static void try_answers(void call(const void *c, size_t answer_size), const void *c)
 {
-    static const size_t sizes[] = { 0, 31, 32, 40 };
+    static const size_t sizes[] = { 0, DESK_ANSWER_SIZE - 1, DESK_ANSWER_SIZE, DESK_ANSWER_SIZE + 8 };
     for (size_t i = 0; i < 2 * COUNT(sizes); i++) {
         empty_is_null = i % 2 != 0;
         call(c, sizes[i / 2]);
