@@ -1,0 +1,9 @@
+pub mod Pattern
+pub mod Marks
+pub mod Written
+pub mod Positions
+pub mod House
+pub mod Kinds
+pub mod Reader
+pub mod Text
+pub mod Examples

@@ -1,0 +1,1 @@
+// The textbook of patterns: definitions and theorems, no functions.
