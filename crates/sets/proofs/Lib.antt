@@ -6,3 +6,5 @@ pub mod Algebra
 pub mod Answers
 pub mod Unique
 pub mod Promise
+pub mod Exactness
+pub mod Words
