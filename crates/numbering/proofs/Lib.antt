@@ -1,0 +1,11 @@
+pub mod Places
+pub mod Agreement
+pub mod Beginning
+pub mod Turns
+pub mod Rows
+pub mod Reaching
+pub mod Counting
+pub mod Deciding
+pub mod Exchange
+pub mod Example
+pub mod Theorems
