@@ -1,6 +1,6 @@
 -- Sets made member by member, and families of them made set by set.
 use mathlib.Core.Path.{_≡_, refl, sym, _∙_, ap}
-use mathlib.Core.Bool.{true, and-false, or-false, false≢true}
+use mathlib.Core.Bool.{Bool, true, false, _&&_, and-false, or-false, false≢true}
 use mathlib.Core.Logic.{inl, inr, ⊎-elim}
 use mathlib.Core.List.{List}
 use Prim.Native.Nat.{ℕ, _+_, _^_, _≤_, _<_}
@@ -8,19 +8,21 @@ use native.Mathlib.Decide.{decLt, ℕ-discrete}
 use native.Mathlib.Omega.{arith}
 use lib.ListN.{length}
 use borrow.Author.Count.{below-more}
-use borrow.Author.Tests.{le-ltb}
+use borrow.Author.Tests.{lt-ltb, le-ltb, ltb-true, eqb-true, eq-eqb}
+use lib.Dec.{ltb, eqb}
 use Rattle.grammar.specs.declared.Symbol.{Symbol}
 use Rattle.grammar.specs.declared.Symbol.the-variants.{Token, Nonterminal}
 use Rattle.sets.specs.declared.Set.{Set}
 use Rattle.sets.specs.Sets.{width, member, Subset, Exactly}
-use Rattle.sets.specs.Calls.{number, None, With, setAt, stored}
+use Rattle.sets.specs.Calls.{number, None, Single, With, setAt, stored}
 use Rattle.sets.proofs.Promise.{with-is, added-new, added-keep, added-cases, stored-length, stored-there, stored-elsewhere}
+use Rattle.answers.specs.Limits.{mostProductions}
 use Rattle.reader.specs.Fields.{symbolAt}
-use Rattle.book.specs.Closure.{Adds, Follows}
-use Rattle.book.specs.Useful.{Single, IsNonterminal, NamedAt, Filled}
+use Rattle.book.specs.Closure.{Extended, Follows}
+use Rattle.book.specs.Useful.{IsNumber, IsNonterminal, NamedAt, SetsOf}
 use Rattle.book.proofs.Passes.{adds-nothing}
 
-with-adds-nothing : {s r : Set} {bit : ℕ} → width ≤ bit → With s bit r → Adds (Single bit) (number s) (number r)
+with-adds-nothing : {s r : Set} {bit : ℕ} → width ≤ bit → With s bit r → Extended (IsNumber bit) (number s) (number r)
 with-adds-nothing {s} {r} {bit} past h =
     let same : (k : ℕ) → member k (number r) ≡ member k (number s) = λ k. h .members k ∙ rw (le-ltb bit width past, and-false, or-false) in
     record {
@@ -30,10 +32,10 @@ with-adds-nothing {s} {r} {bit} past h =
       because = λ k m. inl (sym (same k) ∙ m);
     }
 
-pub with-adds : {s r : Set} {bit : ℕ} → With s bit r → Adds (Single bit) (number s) (number r)
+pub with-adds : {s r : Set} {bit : ℕ} → With s bit r → Extended (IsNumber bit) (number s) (number r)
 with-adds {s} {r} {bit} h = go (decLt bit width)
   where
-    go : Dec (bit < width) → Adds (Single bit) (number s) (number r)
+    go : Dec (bit < width) → Extended (IsNumber bit) (number s) (number r)
     go (no past) = with-adds-nothing (omega arith) h
     go (yes below) =
         let e = with-is below h in
@@ -44,7 +46,7 @@ with-adds {s} {r} {bit} h = go (decLt bit width)
           because = λ k m. ⊎-elim inl (λ same. inr (record { same = same; fits = omega arith })) (added-cases k bit (number s) (rw e at m));
         }
 
-adds-alike : {P Q : ℕ → Type 0} {before after : ℕ} → ((k : ℕ) → P k → Q k) → ((k : ℕ) → Q k → P k) → Adds P before after → Adds Q before after
+adds-alike : {P Q : ℕ → Type 0} {before after : ℕ} → ((k : ℕ) → P k → Q k) → ((k : ℕ) → Q k → P k) → Extended P before after → Extended Q before after
 adds-alike to from h =
     record {
       fits = h .fits;
@@ -53,10 +55,10 @@ adds-alike to from h =
       because = λ k m. ⊎-elim inl (λ p. inr (to k p)) (h .because k m);
     }
 
-pub token-names-none : {s : Symbol} {t before : ℕ} → s ≡ Token t → before < 2 ^ width → Adds (IsNonterminal s) before before
+pub token-names-none : {s : Symbol} {t before : ℕ} → s ≡ Token t → before < 2 ^ width → Extended (IsNonterminal s) before before
 token-names-none e fits = adds-nothing fits (λ k named. let other = named .same in let bad : _≡_ {A = ℕ} 0 1 = cc in omega arith)
 
-pub nonterminal-names-one : {s : Symbol} {n before after : ℕ} → s ≡ Nonterminal n → Adds (Single n) before after → Adds (IsNonterminal s) before after
+pub nonterminal-names-one : {s : Symbol} {n before after : ℕ} → s ≡ Nonterminal n → Extended (IsNumber n) before after → Extended (IsNonterminal s) before after
 nonterminal-names-one {s} {n} e h =
     adds-alike
     (λ k one. record { same = e ∙ ap Nonterminal (sym (one .same)); fits = one .fits })
@@ -79,17 +81,22 @@ none-exactly none empty =
       complete = λ k p. absurd (empty k p);
     }
 
-pub single-exactly : {s r : Set} {bit : ℕ} → None s → With s bit r → Exactly width (number r) (Single bit)
-single-exactly {s} {r} {bit} none h =
-    let one : Adds (Single bit) (number s) (number r) = with-adds h in
+both : (t u : Bool) → (t && u) ≡ true → (t ≡ true) × (u ≡ true)
+both true u e = (refl, e)
+both false u e = absurd (false≢true e)
+
+pub single-exactly : {r : Set} {bit : ℕ} → Single bit r → Exactly width (number r) (IsNumber bit)
+single-exactly {r} {bit} one =
     record {
       fits = one .fits;
-      sound = λ k m. ⊎-elim (λ before. absurd (false≢true (sym (none .members k) ∙ before))) (λ p. p) (one .because k m);
-      complete = one .added;
+      sound = λ k m.
+          let (same, below) = both (eqb k bit) (ltb bit width) (sym (one .members k) ∙ m) in
+          record { same = eqb-true k bit same; fits = omega (arith, eqb-true k bit same, ltb-true bit width below) };
+      complete = λ k is. one .members k ∙ rw (eq-eqb k bit (is .same), lt-ltb bit width (omega (arith, is .same, is .fits)));
     }
 
 -- one symbol more of a right side
-pub named-next : (b : List ℕ) {at i before after : ℕ} {s : Symbol} → s ≡ symbolAt b at i → Exactly width before (NamedAt b at i) → Adds (IsNonterminal s) before after → Exactly width after (NamedAt b at (i + 1))
+pub named-next : (b : List ℕ) {at i before after : ℕ} {s : Symbol} → s ≡ symbolAt b at i → Exactly width before (NamedAt b at i) → Extended (IsNonterminal s) before after → Exactly width after (NamedAt b at (i + 1))
 named-next b {at} {i} {before} {after} {s} e exact adds =
     record {
       fits = adds .fits;
@@ -110,10 +117,10 @@ pub follows-whole : {input before : ℕ} → input < 2 ^ width → Subset input 
 follows-whole fits holds = record { fits = fits; sound = λ k m. record { holds = holds; gives = m }; complete = λ k h. h .gives }
 
 module _ {P : ℕ → ℕ → Type 0} where
-  pub filled-none : {sets : List ℕ} → length sets ≡ 128 → Filled P 0 sets
+  pub filled-none : {sets : List ℕ} → length sets ≡ mostProductions → SetsOf P 0 sets
   filled-none size = record { size = size; each = λ p none. absurd (omega arith) }
 
-  pub filled-next : {n set : ℕ} {sets after : List ℕ} → n < 128 → Filled P n sets → Exactly width set (P n) → after ≡ stored sets n set → Filled P (n + 1) after
+  pub filled-next : {n set : ℕ} {sets after : List ℕ} → n < mostProductions → SetsOf P n sets → Exactly width set (P n) → after ≡ stored sets n set → SetsOf P (n + 1) after
   filled-next {n} {set} {sets} inside filled exact e =
       let there : n < length sets = omega (arith, filled .size) in
       rw e
@@ -127,14 +134,14 @@ module _ {P : ℕ → ℕ → Type 0} where
 
 -- the sets below n are those of which the members follow, and the others are as they were
 pub record Keeping (productive : ℕ) (before : List ℕ) (n : ℕ) (sets : List ℕ) : Type 0 where
-  pub filled : Filled (λ p. Follows (setAt before p) (setAt before p) productive) n sets
+  pub filled : SetsOf (λ p. Follows (setAt before p) (setAt before p) productive) n sets
   pub rest : (p : ℕ) → n ≤ p → setAt sets p ≡ setAt before p
 
 module _ {productive : ℕ} {before : List ℕ} where
-  pub keeping-none : length before ≡ 128 → Keeping productive before 0 before
+  pub keeping-none : length before ≡ mostProductions → Keeping productive before 0 before
   keeping-none size = record { filled = filled-none size; rest = λ p _. refl }
 
-  pub keeping-next : {n x set : ℕ} {sets after : List ℕ} → n < 128 → Keeping productive before n sets → x ≡ setAt sets n → Exactly width set (Follows x x productive)
+  pub keeping-next : {n x set : ℕ} {sets after : List ℕ} → n < mostProductions → Keeping productive before n sets → x ≡ setAt sets n → Exactly width set (Follows x x productive)
       → after ≡ stored sets n set → Keeping productive before (n + 1) after
   keeping-next {n} {x} {set} {sets} inside keeping same exact e =
       record {

@@ -13,6 +13,7 @@ use Rattle.grammar.specs.declared.Symbol.the-variants.{Nonterminal}
 use Rattle.grammar.specs.Grammar.{Form, Production, Grammar, Rule, Known, known-token, known-nonterminal}
 use Rattle.grammar.proofs.Every.{every-at}
 use Rattle.grammar.proofs.Rules.{rule-below, below-rule}
+use Rattle.answers.specs.Limits.{mostTokens, mostProductions, longestBook}
 use Rattle.reader.specs.Book.{reads, spells, byteOf, bytesOf, Limits}
 use Rattle.reader.specs.Fields.{lengthAt, symbolOfByte, symbolAt, placeAfter, placeOfRecord, placesOf}
 use Rattle.reader.proofs.Promise.{recordsSize, recordPlace, RecordAt, zero-cell, zeros-behind, places-length, places-cell, places-rest, longest-book, record-at, record-within, recordPlace-suc, written-read, read-limits}
@@ -30,14 +31,14 @@ recordPlaces-cell at (r ∷ ps) zero h = omega arith
 recordPlaces-cell at (r ∷ ps) (suc p) h = omega (arith, recordPlaces-cell (at + 4 + length (r .right)) ps p (omega arith))
 
 module _ (ps : List Production) where
-  pub placesIn-length : length ps ≤ 128 → length (placesIn ps) ≡ 128
+  pub placesIn-length : length ps ≤ mostProductions → length (placesIn ps) ≡ mostProductions
   unfolding placesIn
   placesIn-length fits =
-      omega (arith, length-append (recordPlaces 6 ps) (replicate (128 - length ps) 0), length-replicate {A = ℕ} (128 - length ps) 0, recordPlaces-length 6 ps)
+      omega (arith, length-append (recordPlaces 6 ps) (replicate (mostProductions - length ps) 0), length-replicate {A = ℕ} (mostProductions - length ps) 0, recordPlaces-length 6 ps)
 
   placesIn-all : (p : ℕ) → getD (placesIn ps) p 0 ≡ getD (recordPlaces 6 ps) p 0
   unfolding placesIn
-  placesIn-all p = zeros-behind (recordPlaces 6 ps) (replicate (128 - length ps) 0) p (zero-cell (128 - length ps))
+  placesIn-all p = zeros-behind (recordPlaces 6 ps) (replicate (mostProductions - length ps) 0) p (zero-cell (mostProductions - length ps))
 
   pub placesIn-cell : (p : ℕ) → p < length ps → getD (placesIn ps) p 0 ≡ recordPlace ps p
   unfolding recordPlace
@@ -47,7 +48,7 @@ module _ (ps : List Production) where
   placesIn-rest p h = placesIn-all p ∙ List·getD-eq-default (recordPlaces 6 ps) 0 (omega (arith, recordPlaces-length 6 ps))
 
 -- the byte of a known symbol stands for that symbol
-symbolOfByte-byteOf : {g : Grammar} {s : Symbol} → g .tokens ≤ 62 → Known g s → symbolOfByte (byteOf s) ≡ s
+symbolOfByte-byteOf : {g : Grammar} {s : Symbol} → g .tokens ≤ mostTokens → Known g s → symbolOfByte (byteOf s) ≡ s
 unfolding symbolOfByte byteOf
 symbolOfByte-byteOf fit (known-token {t = t} h) = rw (lt-ltb t 128 (omega arith), symbolOfByte)
 symbolOfByte-byteOf fit (known-nonterminal {A = A} h) = rw (le-ltb (128 + A) 128 (omega arith), symbolOfByte) (ap Nonterminal (omega arith))
@@ -86,7 +87,7 @@ module _ (b : List ℕ) {g : Grammar} (read : spells b ≡ reads g) where
   pub symbol-indexed : {p A : ℕ} {β : Form} → Rule g p A β → (i : ℕ) {s : Symbol} → getElem? β i ≡ some s → symbolAt b (getD (placesIn (g .productions)) p 0) i ≡ s
   symbol-indexed rule i e = symbol-there rule (record-indexed rule) i e
 
-  pub place-fits : {p A : ℕ} {β : Form} → Rule g p A β → getD (placesIn (g .productions)) p 0 < 2566
+  pub place-fits : {p A : ℕ} {β : Form} → Rule g p A β → getD (placesIn (g .productions)) p 0 < longestBook
   place-fits {p} rule =
       rw (placesIn-cell (g .productions) p (below-rule rule))
       (omega (arith, record-within rule, ap length (written-read b read), longest-book b read))
@@ -119,8 +120,8 @@ module _ (b : List ℕ) {g : Grammar} (read : spells b ≡ reads g) where
   pub places-indexed : placesOf b (length (g .productions)) ≡ placesIn (g .productions)
   places-indexed =
       let ps : List Production = g .productions in
-      let fits : length ps ≤ 128 = limits .productions-fit in
-      let sized : length (placesOf b (length ps)) ≡ 128 = places-length b (length ps) in
+      let fits : length ps ≤ mostProductions = limits .productions-fit in
+      let sized : length (placesOf b (length ps)) ≡ mostProductions = places-length b (length ps) in
       ext-getD 0 (placesOf b (length ps)) (placesIn ps) (sized ∙ sym (placesIn-length ps fits))
       (λ p _. by-place p (decLt p (length ps)))
     where

@@ -3,7 +3,11 @@ pub mod Filling
 pub mod Usefulness
 pub mod Index
 pub mod Sides
+pub mod Surveying
 pub mod Outcome
 pub mod Unique
+pub mod IndexGrammar
+pub mod ColumnLaws
 pub mod Promise
 pub mod Examples
+pub mod Theorems

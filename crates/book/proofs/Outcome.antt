@@ -5,6 +5,7 @@ use Prim.Native.Nat.{ℕ, _≤_, _<_, min}
 use native.Mathlib.Omega.{arith}
 use lib.ListN.{length, getD, replicate}
 use Rattle.grammar.specs.Grammar.{Grammar}
+use Rattle.answers.specs.Limits.{mostProductions}
 use Rattle.answers.specs.declared.Answer.{Answer}
 use Rattle.answers.specs.Answers.{done, refusal}
 use Rattle.answers.specs.Refusals.{useless}
@@ -12,39 +13,45 @@ use Rattle.reader.specs.declared.Verdict.{Verdict}
 use Rattle.reader.specs.declared.Verdict.the-variants.{Next, Bad}
 use Rattle.reader.specs.Book.{Spelling, refused, reads, spells}
 use Rattle.reader.specs.Fields.{placesOf}
-use Rattle.reader.specs.Verdicts.{told, verdictOf}
+use Rattle.reader.specs.Verdicts.{verdictOn, verdictOf}
 use Rattle.reader.proofs.Promise.{read-limits}
 use Rattle.book.specs.Judging.{AllUseful, refusing, indexOf, Judged, refuses, serves, useless-one}
-use Rattle.book.specs.Useful.{Surveyed, Sides, FirstUseless, Indexed}
+use Rattle.book.specs.Useful.{Surveyed, FirstUseless, TellsUseless, Indexed}
 use Rattle.book.proofs.Index.{header-tokens, header-nonterminals, header-start, header-productions, places-indexed}
 use Rattle.book.proofs.Sides.{sides-surveyed}
 
-told-reads : (size : ℕ) (x : Spelling) {at : ℕ} → told size x ≡ Next at → (g : Grammar) × (x ≡ reads g)
-unfolding told
-told-reads size (reads g) e = (g, refl)
-told-reads size (refused number place) e = let bad : _≡_ {A = ℕ} 0 1 = cc in absurd (omega arith)
+spelling-read : (size : ℕ) (x : Spelling) {at : ℕ} → verdictOn size x ≡ Next at → (g : Grammar) × (x ≡ reads g)
+unfolding verdictOn
+spelling-read size (reads g) e = (g, refl)
+spelling-read size (refused number place) e = let bad : _≡_ {A = ℕ} 0 1 = cc in absurd (omega arith)
 
-told-refused : (size : ℕ) (x : Spelling) {number place : ℕ} → told size x ≡ Bad number place → x ≡ refused number place
-unfolding told
-told-refused size (reads g) e = let bad : _≡_ {A = ℕ} 0 1 = cc in absurd (omega arith)
-told-refused size (refused number place) e = cc
+spelling-refused : (size : ℕ) (x : Spelling) {number place : ℕ} → verdictOn size x ≡ Bad number place → x ≡ refused number place
+unfolding verdictOn
+spelling-refused size (reads g) e = let bad : _≡_ {A = ℕ} 0 1 = cc in absurd (omega arith)
+spelling-refused size (refused number place) e = cc
 
 module _ (b : List ℕ) where
   -- a verdict that goes on means that the book spells a grammar
   pub verdict-reads : {v : Verdict} {at : ℕ} → v ≡ verdictOf b → v ≡ Next at → (g : Grammar) × (spells b ≡ reads g)
   unfolding verdictOf
-  verdict-reads e next = told-reads (length b) (spells b) (sym e ∙ next)
+  verdict-reads e next = spelling-read (length b) (spells b) (sym e ∙ next)
 
   pub verdict-refused : {v : Verdict} {number place : ℕ} → v ≡ verdictOf b → v ≡ Bad number place → spells b ≡ refused number place
   unfolding verdictOf
-  verdict-refused e bad = told-refused (length b) (spells b) (sym e ∙ bad)
+  verdict-refused e bad = spelling-refused (length b) (spells b) (sym e ∙ bad)
 
   -- as many records are surveyed as there are productions
-  pub header-counted : {g : Grammar} {P count : ℕ} → spells b ≡ reads g → P ≡ getD b 5 0 → count ≡ min P 128 → count ≡ length (g .productions)
+  pub header-counted : {g : Grammar} {P count : ℕ} → spells b ≡ reads g → P ≡ getD b 5 0 → count ≡ min P mostProductions → count ≡ length (g .productions)
   header-counted read P-is count-is = omega (arith, P-is, count-is, header-productions b read, read-limits b read .productions-fit)
 
   -- the header's bytes and the places counted through the book are the fields of the index
-  pub header-indexed : {g : Grammar} {places : List ℕ} {P N start : ℕ} → spells b ≡ reads g → N ≡ getD b 3 0 → start ≡ getD b 4 0 → P ≡ getD b 5 0 → places ≡ placesOf b P → Indexed b places P N start g
+  pub header-indexed : {g : Grammar} {places : List ℕ} {P N start : ℕ}
+      → spells b ≡ reads g
+      → N ≡ getD b 3 0
+      → start ≡ getD b 4 0
+      → P ≡ getD b 5 0
+      → places ≡ placesOf b P
+      → Indexed b places P N start g
   header-indexed {g} {P = P} read N-is start-is P-is places-are =
       let counted : P ≡ length (g .productions) = P-is ∙ header-productions b read in
       record {
@@ -56,15 +63,20 @@ module _ (b : List ℕ) where
       }
 
   -- the survey gives the index, and with it the lowest useless nonterminal
-  pub survey-decides : {g : Grammar} {places names lefts : List ℕ} {P N start count r : ℕ} → spells b ≡ reads g → N ≡ getD b 3 0 → start ≡ getD b 4 0 → P ≡ getD b 5 0 → count ≡ min P 128
-      → Surveyed b count (replicate 128 0) places names lefts
-      → ((g : Grammar) → Sides g count names lefts → N ≡ g .nonterminals → start ≡ g .start → FirstUseless g r)
+  pub survey-decides : {g : Grammar} {places names lefts : List ℕ} {P N start count r : ℕ}
+      → spells b ≡ reads g
+      → N ≡ getD b 3 0
+      → start ≡ getD b 4 0
+      → P ≡ getD b 5 0
+      → count ≡ min P mostProductions
+      → Surveyed b count (replicate mostProductions 0) places names lefts
+      → TellsUseless count names lefts N start r
       → Indexed b places P N start g × FirstUseless g r
   unfolding placesOf
-  survey-decides {g} read N-is start-is P-is count-is surveyed first =
+  survey-decides {g} read N-is start-is P-is count-is surveyed tells =
       let indexed = header-indexed read N-is start-is P-is (rw count-is at (surveyed .placed)) in
       let sides = sides-surveyed read (header-counted read P-is count-is) (surveyed .named) (surveyed .left) in
-      (indexed, first g sides (indexed .numbered) (indexed .started))
+      (indexed, tells .first g sides (indexed .numbered) (indexed .started))
 
 module _ {b places : List ℕ} {P N start r : ℕ} {g : Grammar} (indexed : Indexed b places P N start g) (first : FirstUseless g r) where
   pub judged-useless : r < N → Judged b (refusing (refusal useless r 0))

@@ -9,11 +9,11 @@ use borrow.Author.Count.{below-more}
 use Rattle.sets.specs.Sets.{width, member, Subset, Exactly, united}
 use Rattle.sets.specs.Calls.{setAt}
 use Rattle.sets.proofs.Promise.{or-left, or-right, or-cases, subset-lt}
-use Rattle.book.specs.Closure.{Adds, Follows, Reached, given, fired, Passed}
+use Rattle.book.specs.Closure.{Extended, Follows, InClosure, given, fired, Passed}
 
 -- the union with a set adds its members, where they are those of which P holds
 pub adds-union : {P : ℕ → Type 0} (before output : ℕ) {after : ℕ} → after < 2 ^ width → after ≡ united before output
-    → ((k : ℕ) → member k output ≡ true → P k) → ((k : ℕ) → P k → member k output ≡ true) → Adds P before after
+    → ((k : ℕ) → member k output ≡ true → P k) → ((k : ℕ) → P k → member k output ≡ true) → Extended P before after
 adds-union before output fits e sound complete =
     record {
       fits = fits;
@@ -22,13 +22,13 @@ adds-union before output fits e sound complete =
       because = λ k m. ⊎-elim inl (λ new. inr (sound k new)) (or-cases k before output (rw e at m));
     }
 
-pub adds-nothing : {P : ℕ → Type 0} {before : ℕ} → before < 2 ^ width → ((k : ℕ) → P k → ⊥) → Adds P before before
+pub adds-nothing : {P : ℕ → Type 0} {before : ℕ} → before < 2 ^ width → ((k : ℕ) → P k → ⊥) → Extended P before before
 adds-nothing fits none = record { fits = fits; keeps = λ k m. m; added = λ k h. absurd (none k h); because = λ k m. inl m }
 
-pub follows-where : {input output before after : ℕ} → after < 2 ^ width → Subset input before → after ≡ united before output → Adds (Follows input output before) before after
+pub follows-where : {input output before after : ℕ} → after < 2 ^ width → Subset input before → after ≡ united before output → Extended (Follows input output before) before after
 follows-where fits holds e = adds-union _ _ fits e (λ k m. record { holds = holds; gives = m }) (λ k h. h .gives)
 
-pub follows-nowhere : (input output : ℕ) {before : ℕ} → before < 2 ^ width → (Subset input before → ⊥) → Adds (Follows input output before) before before
+pub follows-nowhere : (input output : ℕ) {before : ℕ} → before < 2 ^ width → (Subset input before → ⊥) → Extended (Follows input output before) before before
 follows-nowhere input output fits fails = adds-nothing fits (λ k h. fails (h .holds))
 
 module _ {ins outs : List ℕ} {count : ℕ} where
@@ -42,7 +42,7 @@ module _ {ins outs : List ℕ} {count : ℕ} where
         because = λ k m. given m;
       }
 
-  pub passed-next : {n before now after : ℕ} → n < count → Passed ins outs count n before now → Adds (Follows (setAt ins n) (setAt outs n) now) now after → Passed ins outs count (n + 1) before after
+  pub passed-next : {n before now after : ℕ} → n < count → Passed ins outs count n before now → Extended (Follows (setAt ins n) (setAt outs n) now) now after → Passed ins outs count (n + 1) before after
   passed-next {n} {before} {now} {after} inside passed applied =
       record {
         fits = applied .fits;
@@ -55,28 +55,28 @@ module _ {ins outs : List ℕ} {count : ℕ} where
       }
 
   -- what is reached from what is reached is reached
-  reached-again : {seed before k : ℕ} → ((j : ℕ) → member j before ≡ true → Reached ins outs count seed j) → Reached ins outs count before k → Reached ins outs count seed k
+  reached-again : {seed before k : ℕ} → ((j : ℕ) → member j before ≡ true → InClosure ins outs count seed j) → InClosure ins outs count before k → InClosure ins outs count seed k
   reached-again all (given m) = all _ m
   reached-again all (fired p below holds m) = fired p below (λ j is-in. reached-again all (holds j is-in)) m
 
   -- what holds the seed and what every rule adds holds all that is reached
-  reached-within : {seed before k : ℕ} → Subset seed before → Passed ins outs count count before before → Reached ins outs count seed k → member k before ≡ true
+  reached-within : {seed before k : ℕ} → Subset seed before → Passed ins outs count count before before → InClosure ins outs count seed k → member k before ≡ true
   reached-within holds passed (given m) = holds _ m
   reached-within holds passed (fired p below reached m) = passed .added p below (λ j is-in. reached-within holds passed (reached j is-in)) _ m
 
 -- a set on the way from the seed to all that is reached, and one pass more
-pub record Round (ins outs : List ℕ) (count seed before after : ℕ) : Type 0 where
+pub record ClosureRound (ins outs : List ℕ) (count seed before after : ℕ) : Type 0 where
   pub fits : before < 2 ^ width
   pub holds : Subset seed before
-  pub because : (k : ℕ) → member k before ≡ true → Reached ins outs count seed k
+  pub because : (k : ℕ) → member k before ≡ true → InClosure ins outs count seed k
   pub passed : Passed ins outs count count before after
 
 module _ {ins outs : List ℕ} {count : ℕ} where
-  pub round-first : {seed after : ℕ} → seed < 2 ^ width → Passed ins outs count count seed after → Round ins outs count seed seed after
+  pub round-first : {seed after : ℕ} → seed < 2 ^ width → Passed ins outs count count seed after → ClosureRound ins outs count seed seed after
   round-first fits passed = record { fits = fits; holds = λ k m. m; because = λ k m. given m; passed = passed }
 
-  module _ {seed before after : ℕ} (round : Round ins outs count seed before after) where
-    pub round-next : {further : ℕ} → Passed ins outs count count after further → Round ins outs count seed after further
+  module _ {seed before after : ℕ} (round : ClosureRound ins outs count seed before after) where
+    pub round-next : {further : ℕ} → Passed ins outs count count after further → ClosureRound ins outs count seed after further
     round-next passed =
         record {
           fits = round .passed .fits;
@@ -90,7 +90,7 @@ module _ {ins outs : List ℕ} {count : ℕ} where
     round-grows differ = subset-lt before after (round .passed .keeps) (λ e. differ (sym e))
 
     -- where a pass changes nothing, the set is exactly what is reached
-    pub round-last : after ≡ before → Exactly width before (Reached ins outs count seed)
+    pub round-last : after ≡ before → Exactly width before (InClosure ins outs count seed)
     round-last same =
         record {
           fits = round .fits;

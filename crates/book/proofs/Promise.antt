@@ -1,24 +1,29 @@
--- What crates above cite of the reading layer: a judged book is refused, or it serves a grammar, which the index gives back
--- through the accessors of `fields`.
+-- What crates above cite of judging: a judged book is refused, or it serves a grammar, which the index gives back
+-- through the accessors of `reader::fields`.
 use mathlib.Core.Path.{_≡_, refl, _∙_}
 use mathlib.Core.Logic.{_≢_, ⊎-elim}
 use mathlib.Core.List.{List}
-use mathlib.Core.Option.{some}
-use Prim.Native.Nat.{ℕ, _+_, _≤_, _<_}
+use Prim.Native.Nat.{ℕ, suc, _≤_}
 use native.Mathlib.Omega.{arith}
-use lib.ListN.{length, getD, take, getElem?}
-use Rattle.grammar.specs.declared.Symbol.{Symbol}
-use Rattle.grammar.specs.Grammar.{Form, Grammar, Rule, Productive, Reachable, WellFormed}
+use lib.ListN.{take}
+use Rattle.grammar.specs.Grammar.{Grammar, Productive, Reachable, WellFormed}
 use Rattle.grammar.proofs.Useful.{useful-all}
+use Rattle.answers.specs.Limits.{longestBook}
 use Rattle.answers.specs.declared.Answer.{Answer}
 use Rattle.answers.specs.Answers.{done, refusal}
 use Rattle.reader.specs.Book.{spells, Limits}
-use Rattle.reader.specs.Fields.{leftAt, lengthAt, symbolAt}
-use Rattle.reader.proofs.Promise.{Fault, bad-mark, extra-byte, over-limit, not-a-symbol, refused-kinds, read-limits, judged-by-first}
+use Rattle.reader.specs.Faults.{Fault, bad-mark, extra-byte, over-limit, not-a-symbol}
+use Rattle.reader.proofs.Promise.{refused-kinds, read-limits, judged-by-first}
 use Rattle.book.specs.declared.Reading.{Reading}
 use Rattle.book.specs.Judging.{refusing, indexOf, Refuses, misread, useless-one, Serves, Judged, refuses, serves}
 use Rattle.book.proofs.Index.{record-indexed, symbol-indexed, place-fits, place-within, placesIn-length}
+pub use Rattle.book.specs.Served.{Entry, Served}
 pub use Rattle.book.proofs.Examples.{house-reads, house-serves, useless-refused}
+pub use Rattle.book.proofs.IndexGrammar.{outlined-sized, production-found, production-missing}
+pub use Rattle.book.proofs.IndexGrammar.{index-grammar, reading-grammar}
+pub use Rattle.book.proofs.ColumnLaws.{is-of-rule, rule-is-of}
+pub use Rattle.book.proofs.ColumnLaws.{outline-unique, lefts-unique, lengths-unique}
+pub use Rattle.book.proofs.ColumnLaws.{gathered-at-unique, is-of-unique}
 pub use Rattle.book.proofs.Unique.{refuses-unique, refuses-not-serves, serves-unique, judged-unique}
 
 fault-number : {n : ℕ} → Fault n → (1 ≤ n) × (n ≤ 6)
@@ -42,28 +47,13 @@ module _ {b : List ℕ} where
   judged-done (refuses x) none = absurd (omega (arith, refuses-some x))
   judged-done (serves {g = g} s) none = (g, s, refl)
 
-  pub judged-refused : {r : Reading} → Judged b r → r .answer .number ≢ 0 → Refuses b (r .answer) × (r ≡ refusing (r .answer))
+  pub judged-refused : {r : Reading}
+      → Judged b r
+      → r .answer .number ≢ 0
+      → Refuses b (r .answer) × (r ≡ refusing (r .answer))
   unfolding refusing indexOf done
   judged-refused (refuses x) some-number = (x, refl)
   judged-refused (serves s) some-number = absurd (some-number refl)
-
--- what a place of the book says through the accessors: the production A → β
-pub record Entry (b : List ℕ) (at A : ℕ) (β : Form) : Type 0 where
-  pub place-fits : at < 2566
-  pub within : at + 4 + length β ≤ length b
-  pub length-fits : length β ≤ 16
-  pub left : leftAt b at ≡ A
-  pub size : lengthAt b at ≡ length β
-  pub symbols : (i : ℕ) {s : Symbol} → getElem? β i ≡ some s → symbolAt b at i ≡ s
-
--- the index of a book that serves a grammar
-pub record Served (b : List ℕ) (g : Grammar) (r : Reading) : Type 0 where
-  pub tokens : r .tokens ≡ g .tokens
-  pub nonterminals : r .nonterminals ≡ g .nonterminals
-  pub start : r .start ≡ g .start
-  pub productions : r .productions ≡ length (g .productions)
-  pub cells : length (r .places) ≡ 128
-  pub entry : {p A : ℕ} {β : Form} → Rule g p A β → Entry b (getD (r .places) p 0) A β
 
 module _ {b : List ℕ} {g : Grammar} (s : Serves b g) where
   pub serves-limits : Limits g
@@ -113,5 +103,5 @@ module _ (b c : List ℕ) (same : spells b ≡ spells c) where
   judged-alike (serves s) = serves (serves-alike s)
 
 -- a longer book is judged by its first 2,567 bytes
-pub judged-by-beginning : (m : ℕ) → 2567 ≤ m → (b : List ℕ) {r : Reading} → Judged (take m b) r → Judged b r
+pub judged-by-beginning : (m : ℕ) → suc longestBook ≤ m → (b : List ℕ) {r : Reading} → Judged (take m b) r → Judged b r
 judged-by-beginning m enough b = judged-alike b (take m b) (judged-by-first m enough b)

@@ -11,7 +11,7 @@ use Rattle.grammar.proofs.Rules.{element, inside, below-rule}
 use Rattle.reader.specs.Book.{reads, spells, Limits}
 use Rattle.reader.specs.Fields.{placeOfRecord}
 use Rattle.reader.proofs.Promise.{read-limits}
-use Rattle.book.specs.Useful.{Single, NamedAt, RightNames, LeftName, Filled, Occurs, Sides}
+use Rattle.book.specs.Useful.{IsNumber, NamedAt, RightNames, LeftName, SetsOf, Occurs, Sides}
 use Rattle.book.proofs.Filling.{exactly-alike}
 use Rattle.book.proofs.Index.{record-counted, symbol-counted}
 
@@ -44,10 +44,10 @@ module _ (b : List ℕ) {g : Grammar} (read : spells b ≡ reads g) where
           };
         }
 
-    left-same : (k : ℕ) → Single (getD b (place p + 2) 0) k → k ≡ A
+    left-same : (k : ℕ) → IsNumber (getD b (place p + 2) 0) k → k ≡ A
     left-same k one = one .same ∙ record-counted b read rule .left
 
-    same-left : (k : ℕ) → k ≡ A → Single (getD b (place p + 2) 0) k
+    same-left : (k : ℕ) → k ≡ A → IsNumber (getD b (place p + 2) 0) k
     same-left k same =
         record {
           same = same ∙ sym (record-counted b read rule .left);
@@ -55,7 +55,7 @@ module _ (b : List ℕ) {g : Grammar} (read : spells b ≡ reads g) where
         }
 
 pub sides-surveyed : {b names lefts : List ℕ} {count : ℕ} {g : Grammar} → spells b ≡ reads g → count ≡ length (g .productions)
-    → Filled (RightNames b) count names → Filled (LeftName b) count lefts → Sides g count names lefts
+    → SetsOf (RightNames b) count names → SetsOf (LeftName b) count lefts → Sides g count names lefts
 sides-surveyed {b} {count = count} {g = g} read counted rights left =
     record {
       counted = counted;

@@ -16,7 +16,7 @@ use Rattle.book.specs.Judging.{LowestUseless, refusing, indexOf, Refuses
 pub reads-unique : (b : List ℕ) {g h : Grammar} → spells b ≡ reads g → spells b ≡ reads h → g ≡ h
 reads-unique b e f = cc
 
-lowest-unique : {g : Grammar} {A B : ℕ} → LowestUseless g A → LowestUseless g B → A ≡ B
+pub lowest-unique : {g : Grammar} {A B : ℕ} → LowestUseless g A → LowestUseless g B → A ≡ B
 lowest-unique {g} {A} {B} h k = go (decLt A B) (decLt B A)
   where
     go : Dec (A < B) → Dec (B < A) → A ≡ B

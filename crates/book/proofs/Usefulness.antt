@@ -16,8 +16,8 @@ use Rattle.grammar.proofs.Rules.{rule-below, below-rule}
 use Rattle.sets.specs.Sets.{width, member, Exactly}
 use Rattle.sets.specs.Calls.{setAt}
 use Rattle.sets.proofs.Promise.{member-none}
-use Rattle.book.specs.Closure.{Follows, Reached, given, fired}
-use Rattle.book.specs.Useful.{Single, Filled, Occurs, Sides, LowestMissing, FirstUseless}
+use Rattle.book.specs.Closure.{Follows, InClosure, given, fired}
+use Rattle.book.specs.Useful.{IsNumber, SetsOf, KeptNames, Occurs, Sides, LowestMissing, FirstUseless, TellsUseless}
 use Rattle.book.proofs.Filling.{exactly-alike}
 
 behind-occurs : {B : ℕ} {v β : Form} → Behind B v β → Occurs β B
@@ -50,14 +50,14 @@ module _ {g : Grammar} {count : ℕ} {names lefts : List ℕ} (sides : Sides g c
   counted : {p A : ℕ} {β : Form} → Rule g p A β → p < count
   counted rule = omega (arith, sides .counted, below-rule rule)
 
-  productive-sound : {k : ℕ} → Reached names lefts count 0 k → Productive g k
+  productive-sound : {k : ℕ} → InClosure names lefts count 0 k → Productive g k
   productive-sound {k} (given m) = absurd (false≢true (sym (member-none k) ∙ m))
   productive-sound {k} (fired p below holds m) =
       let (A, β, rule) = rule-at p below in
       subst (Productive g) (sym (sides .left-of rule .sound k m))
       (productive-addition rule (names-all β (λ B occurs. productive-sound (holds B (sides .names-of rule .complete B occurs)))))
 
-  reached-closed : ProductiveClosed g (Reached names lefts count 0)
+  reached-closed : ProductiveClosed g (InClosure names lefts count 0)
   reached-closed =
       record {
         closed = λ {p} {A} {β} rule reached.
@@ -65,12 +65,12 @@ module _ {g : Grammar} {count : ℕ} {names lefts : List ℕ} (sides : Sides g c
       }
 
   -- the closure of the left sides under the names of the right sides is the productive nonterminals
-  pub productive-exactly : {m : ℕ} → Exactly width m (Reached names lefts count 0) → Exactly width m (Productive g)
+  pub productive-exactly : {m : ℕ} → Exactly width m (InClosure names lefts count 0) → Exactly width m (Productive g)
   productive-exactly = exactly-alike (λ k. productive-sound) (productive-complete reached-closed)
 
-  module _ {m seed : ℕ} {kept : List ℕ} (productive : Exactly width m (Productive g)) (filled : Filled (λ p. Follows (setAt names p) (setAt names p) m) count kept)
-      (one : Exactly width seed (Single (g .start))) (starts : member (g .start) m ≡ true) where
-    used-sound : {k : ℕ} → Reached lefts kept count seed k → Useful g k
+  module _ {m seed : ℕ} {kept : List ℕ} (productive : Exactly width m (Productive g)) (filled : SetsOf (λ p. Follows (setAt names p) (setAt names p) m) count kept)
+      (one : Exactly width seed (IsNumber (g .start))) (starts : member (g .start) m ≡ true) where
+    used-sound : {k : ℕ} → InClosure lefts kept count seed k → Useful g k
     used-sound {k} (given is-in) = subst (Useful g) (sym (one .sound k is-in .same)) (start-useful (productive .sound (g .start) starts))
     used-sound {k} (fired p below holds is-in) =
         let (A, β, rule) = rule-at p below in
@@ -82,13 +82,13 @@ module _ {g : Grammar} {count : ℕ} {names lefts : List ℕ} (sides : Sides g c
         (names-all β (λ B o. productive .sound B (follows .holds B (sides .names-of rule .complete B o))))
         (occurs-behind β (occurs .index) (occurs .at) .1)
 
-    used-closed : UsefulClosed g (Reached lefts kept count seed)
+    used-closed : UsefulClosed g (InClosure lefts kept count seed)
     used-closed =
         record {
           at-start = given (one .complete (g .start) (record { same = refl; fits = sides .start-fits }));
           closed = λ {p} {A} {B} {β} reached rule names behind.
               fired p (counted rule)
-              (λ j is-in. subst (Reached lefts kept count seed) (sym (sides .left-of rule .sound j is-in)) reached)
+              (λ j is-in. subst (InClosure lefts kept count seed) (sym (sides .left-of rule .sound j is-in)) reached)
               (filled .each p (counted rule) .complete B
               (record {
                 holds = λ j is-in. productive .complete j (names-one names (sides .names-of rule .sound j is-in));
@@ -97,7 +97,7 @@ module _ {g : Grammar} {count : ℕ} {names lefts : List ℕ} (sides : Sides g c
         }
 
     -- the closure of the names under the left sides, productive productions only, is the useful nonterminals
-    pub useful-exactly : {used : ℕ} → Exactly width used (Reached lefts kept count seed) → Exactly width used (Useful g)
+    pub useful-exactly : {used : ℕ} → Exactly width used (InClosure lefts kept count seed) → Exactly width used (Useful g)
     useful-exactly = exactly-alike (λ k. used-sound) (useful-complete used-closed)
 
 pub lowest-useless : {g : Grammar} {used r : ℕ} → Exactly width used (Useful g) → LowestMissing used (g .nonterminals) r → FirstUseless g r
@@ -116,3 +116,24 @@ all-useless {g} exact fails =
       lowest = λ B none. absurd (omega arith);
       useless = λ _ useful. true≢false (sym (exact .complete (g .start) (useful-start useful)) ∙ fails);
     }
+
+-- what the two closures and the lowest number missing in the second tell
+module _ {names lefts : List ℕ} {count productive nonterminals start : ℕ} (first : Exactly width productive (InClosure names lefts count 0)) where
+  pub tells-lowest : {kept : List ℕ} {seed used r : ℕ}
+      → member start productive ≡ true
+      → SetsOf (KeptNames names productive) count kept
+      → Exactly width seed (IsNumber start)
+      → Exactly width used (InClosure lefts kept count seed)
+      → LowestMissing used nonterminals r
+      → TellsUseless count names lefts nonterminals start r
+  tells-lowest starts kept one second lowest =
+      record {
+        first = λ g sides numbered started.
+            lowest-useless
+            (useful-exactly sides (productive-exactly sides first) kept (rw started at one) (rw started at starts) second)
+            (rw numbered at lowest);
+      }
+
+  pub tells-all : member start productive ≡ false → TellsUseless count names lefts nonterminals start 0
+  tells-all fails =
+      record { first = λ g sides numbered started. all-useless (productive-exactly sides first) (rw started at fails) }

@@ -5,6 +5,7 @@ use mathlib.Core.List.{List, [], _∷_, _++_}
 use Prim.Native.Nat.{ℕ, _+_, _-_, _<_}
 use lib.ListN.{length, replicate}
 use Rattle.grammar.specs.Grammar.{Production, Grammar, Useful}
+use Rattle.answers.specs.Limits.{mostProductions}
 use Rattle.answers.specs.declared.Answer.{Answer}
 use Rattle.answers.specs.Answers.{done, refusal}
 use Rattle.answers.specs.Refusals.{useless}
@@ -27,11 +28,19 @@ recordPlaces at (r ∷ rest) = at ∷ recordPlaces (at + 4 + length (r .right)) 
 
 -- the places of a grammar's records, and 0 in each of the 128 cells beyond them
 unfoldable pub placesIn : List Production → List ℕ
-placesIn ps = recordPlaces 6 ps ++ replicate (128 - length ps) 0
+placesIn ps = recordPlaces 6 ps ++ replicate (mostProductions - length ps) 0
 
 -- on a refusal every other field is 0
 unfoldable pub refusing : Answer → Reading
-refusing answer = record { answer = answer; tokens = 0; nonterminals = 0; start = 0; productions = 0; places = replicate 128 0 }
+refusing answer =
+    record {
+      answer = answer;
+      tokens = 0;
+      nonterminals = 0;
+      start = 0;
+      productions = 0;
+      places = replicate mostProductions 0;
+    }
 
 unfoldable pub indexOf : Grammar → Reading
 indexOf g =
@@ -47,7 +56,10 @@ indexOf g =
 -- the book is refused with this answer, 1 to 5 or 6
 pub data Refuses (book : List ℕ) : Answer → Type 0 where
   misread : {number place : ℕ} → spells book ≡ refused number place → Refuses book (refusal number place 0)
-  useless-one : {g : Grammar} {A : ℕ} → spells book ≡ reads g → LowestUseless g A → Refuses book (refusal useless A 0)
+  useless-one : {g : Grammar} {A : ℕ}
+      → spells book ≡ reads g
+      → LowestUseless g A
+      → Refuses book (refusal useless A 0)
 
 -- the book spells this grammar and is not refused
 pub record Serves (book : List ℕ) (g : Grammar) : Type 0 where

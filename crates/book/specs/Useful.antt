@@ -12,12 +12,14 @@ use Rattle.grammar.specs.declared.Symbol.the-variants.{Nonterminal}
 use Rattle.grammar.specs.Grammar.{Form, Grammar, Rule, Useful}
 use Rattle.sets.specs.Sets.{width, member, Exactly}
 use Rattle.sets.specs.Calls.{setAt}
+use Rattle.answers.specs.Limits.{mostProductions}
 use Rattle.reader.specs.Book.{reads, spells}
 use Rattle.reader.specs.Fields.{leftAt, lengthAt, symbolAt, placeOfRecord, placesFrom}
+use Rattle.book.specs.Closure.{Follows}
 use Rattle.book.specs.Judging.{placesIn}
 
 -- k is the number a, and has a place in a set
-pub record Single (a k : ℕ) : Type 0 where
+pub record IsNumber (a k : ℕ) : Type 0 where
   pub same : k ≡ a
   pub fits : k < width
 
@@ -38,11 +40,11 @@ RightNames book p = NamedAt book (placeOfRecord book p) (lengthAt book (placeOfR
 
 -- the left side of record p
 abbrev pub LeftName : List ℕ → ℕ → ℕ → Type 0
-LeftName book p = Single (leftAt book (placeOfRecord book p))
+LeftName book p = IsNumber (leftAt book (placeOfRecord book p))
 
 -- 128 sets, of which each number p below `count` has those k as members of which P p holds
-pub record Filled (P : ℕ → ℕ → Type 0) (count : ℕ) (sets : List ℕ) : Type 0 where
-  pub size : length sets ≡ 128
+pub record SetsOf (P : ℕ → ℕ → Type 0) (count : ℕ) (sets : List ℕ) : Type 0 where
+  pub size : length sets ≡ mostProductions
   pub each : (p : ℕ) → p < count → Exactly width (setAt sets p) (P p)
 
 -- the book spells a grammar of so many productions
@@ -51,11 +53,22 @@ pub record Lists (book : List ℕ) (count : ℕ) : Type 0 where
   pub read : spells book ≡ reads grammar
   pub counted : count ≡ length (grammar .productions)
 
--- the first `count` records: their places written over what the cells were, the names on their right sides, their left sides
+-- room for the survey of a book that spells a grammar of so many productions
+pub record Surveyable (book : List ℕ) (count : ℕ) (places names lefts : List ℕ) : Type 0 where
+  pub lists : Lists book count
+  pub places-sized : length places ≡ mostProductions
+  pub names-sized : length names ≡ mostProductions
+  pub lefts-sized : length lefts ≡ mostProductions
+
+-- the first `count` records: their places written over the cells, the names on their right sides, their left sides
 pub record Surveyed (book : List ℕ) (count : ℕ) (cells places names lefts : List ℕ) : Type 0 where
   pub placed : places ≡ sets cells 0 (placesFrom book count 0)
-  pub named : Filled (RightNames book) count names
-  pub left : Filled (LeftName book) count lefts
+  pub named : SetsOf (RightNames book) count names
+  pub left : SetsOf (LeftName book) count lefts
+
+-- the members of set number p, where they are all productive
+abbrev pub KeptNames : (names : List ℕ) (productive : ℕ) → ℕ → ℕ → Type 0
+KeptNames names productive p = Follows (setAt names p) (setAt names p) productive
 
 -- the nonterminal k occurs in a form
 pub record Occurs (β : Form) (k : ℕ) : Type 0 where
@@ -80,6 +93,14 @@ pub record FirstUseless (g : Grammar) (r : ℕ) : Type 0 where
   pub inside : r ≤ g .nonterminals
   pub lowest : (B : ℕ) → B < r → Useful g B
   pub useless : r < g .nonterminals → ¬ Useful g r
+
+-- r is the lowest useless nonterminal of any grammar with these sides, so many nonterminals and this start symbol
+pub record TellsUseless (count : ℕ) (names lefts : List ℕ) (nonterminals start r : ℕ) : Type 0 where
+  pub first : (g : Grammar)
+      → Sides g count names lefts
+      → nonterminals ≡ g .nonterminals
+      → start ≡ g .start
+      → FirstUseless g r
 
 -- the book spells the grammar, and these are the fields of its index
 pub record Indexed (book places : List ℕ) (productions nonterminals start : ℕ) (g : Grammar) : Type 0 where

@@ -1,8 +1,8 @@
 // What rules reach from a seed: a set that grows until no rule adds to it.
 ghost use Prim.Native.Nat.{_<_};
 ghost use Rattle.sets.specs.Sets.{width, Exactly};
-ghost use Rattle.sets.specs.Calls.{number, setAt};
-ghost use Rattle.book.specs.Closure.{Adds, Follows, Reached, Passed};
+ghost use Rattle.sets.specs.Calls.{number};
+ghost use Rattle.book.specs.Closure.{Applied, InClosure, Passed};
 use sets::Set;
 use sets::load;
 use sets::same;
@@ -11,7 +11,7 @@ use sets::within;
 
 // The set with `outs` number p added, where `ins` number p lies within it.
 fn applied(ins: &[u64], outs: &[u64], p: usize, reached: Set) -> Set
-    ensures { λ r. ⌜ Adds (Follows (setAt (now (ins .entry)) p) (setAt (now (outs .entry)) p) (number reached)) (number reached) (number r) ⌝ }
+    ensures { λ r. ⌜ Applied (now (ins .entry)) (now (outs .entry)) p (number reached) (number r) ⌝ }
 {
     if within(load(ins, p), reached) {
         union(reached, load(outs, p))
@@ -35,7 +35,7 @@ fn pass(ins: &[u64], outs: &[u64], count: usize, reached: Set) -> Set
 
 // What is reached from the seed: passes until one changes nothing.
 pub(crate) fn closure(ins: &[u64], outs: &[u64], count: usize, seed: Set) -> Set
-    ensures { λ r. ⌜ Exactly width (number r) (Reached (now (ins .entry)) (now (outs .entry)) count (number seed)) ⌝ }
+    ensures { λ r. ⌜ Exactly width (number r) (InClosure (now (ins .entry)) (now (outs .entry)) count (number seed)) ⌝ }
 {
     let mut reached = seed;
     let mut after = pass(ins, outs, count, reached);

@@ -2,14 +2,17 @@
 ghost use mathlib.Core.Path.{_≡_};
 ghost use Prim.Native.Nat.{min};
 ghost use Rattle.grammar.specs.Grammar.{Grammar};
+ghost use Rattle.answers.specs.Limits.{mostProductions};
 ghost use Rattle.reader.specs.Book.{spells, reads};
 ghost use Rattle.book.specs.Judging.{Judged};
 ghost use Rattle.book.specs.Judging as judging;
+use crate::CELLS;
 use crate::Reading;
 use crate::useful::first_useless;
 use crate::useful::survey;
 use answers::Answer;
 use answers::done;
+use answers::limits::MOST_PRODUCTIONS;
 use answers::refusal;
 use answers::refusals::USELESS;
 use reader::Verdict;
@@ -22,9 +25,13 @@ use reader::walk::read;
 
 // At most as many records as there are cells.
 fn cells_for(count: u8) -> usize
-    ensures { λ r. ⌜ r ≡ min count 128 ⌝ }
+    ensures { λ r. ⌜ r ≡ min count mostProductions ⌝ }
 {
-    if count < 128 { count as usize } else { 128 }
+    if count < MOST_PRODUCTIONS {
+        count as usize
+    } else {
+        CELLS
+    }
 }
 
 // On a refusal every other field is 0.
@@ -37,7 +44,7 @@ fn refusing(answer: Answer) -> Reading
         nonterminals: 0,
         start: 0,
         productions: 0,
-        places: [0u16; 128],
+        places: [0u16; CELLS],
     }
 }
 
@@ -50,9 +57,9 @@ fn indexed(book: &[u8]) -> Reading
     let start = byte_at(book, 0, START);
     let productions = byte_at(book, 0, PRODUCTIONS);
     let count = cells_for(productions);
-    let mut places = [0u16; 128];
-    let mut names = [0u64; 128];
-    let mut lefts = [0u64; 128];
+    let mut places = [0u16; CELLS];
+    let mut names = [0u64; CELLS];
+    let mut lefts = [0u64; CELLS];
     survey(book, count, &mut places, &mut names, &mut lefts);
     let lowest = first_useless(&mut names, &lefts, count, nonterminals, start);
     if lowest < nonterminals {

@@ -2,11 +2,12 @@
 ghost use mathlib.Core.Path.{_≡_};
 ghost use Prim.Native.Nat.{_+_, _≤_, _<_};
 ghost use lib.ListN.{length};
-ghost use Rattle.grammar.specs.Grammar.{Grammar};
 ghost use Rattle.sets.specs.Sets.{width, Exactly};
-ghost use Rattle.sets.specs.Calls.{number, setAt};
-ghost use Rattle.book.specs.Closure.{Adds, Follows};
-ghost use Rattle.book.specs.Useful.{Single, IsNonterminal, NamedAt, Filled, Lists, Surveyed, Sides, LowestMissing, FirstUseless};
+ghost use Rattle.sets.specs.Calls.{number};
+ghost use Rattle.answers.specs.Limits.{mostProductions};
+ghost use Rattle.book.specs.Closure.{Extended, Follows};
+ghost use Rattle.book.specs.Useful.{IsNonterminal, NamedAt, SetsOf, Surveyable, Surveyed, KeptNames};
+ghost use Rattle.book.specs.Useful.{LowestMissing, TellsUseless};
 use crate::closure::closure;
 use grammar::Symbol;
 use reader::fields::LEFT;
@@ -17,20 +18,14 @@ use sets::Set;
 use sets::has;
 use sets::load;
 use sets::none;
+use sets::single;
 use sets::store;
 use sets::with;
 use sets::within;
 
-// The set with one member.
-fn single(member: u8) -> Set
-    ensures { λ r. ⌜ Exactly width (number r) (Single member) ⌝ }
-{
-    with(none(), member)
-}
-
 // The set with the nonterminal added that the symbol is.
 fn with_symbol(names: Set, s: Symbol) -> Set
-    ensures { λ r. ⌜ Adds (IsNonterminal s) (number names) (number r) ⌝ }
+    ensures { λ r. ⌜ Extended (IsNonterminal s) (number names) (number r) ⌝ }
 {
     match s {
         Symbol::Token(_) => names,
@@ -53,7 +48,8 @@ fn names_at(book: &[u8], at: usize, length: usize) -> Set
     names
 }
 
-// The place of each record, the names on its right side and its left side; a place rises by at most 259, so 128 of them cannot wrap.
+// The place of each record, the names on its right side and its left side; a place rises by at most 259, so 128 of
+// them cannot wrap.
 pub(crate) fn survey(
     book: &[u8],
     count: usize,
@@ -61,8 +57,9 @@ pub(crate) fn survey(
     names: &mut [u64],
     lefts: &mut [u64],
 )
-    requires { ⌜ Lists (now book) count × (length (now places) ≡ 128) × (length (now names) ≡ 128) × (length (now lefts) ≡ 128) ⌝ }
-    ensures { λ r. ⌜ Surveyed (now (book .entry)) count (now (places .entry)) (now (places .exit)) (now (names .exit)) (now (lefts .exit)) ⌝ }
+    requires { ⌜ Surveyable (now book) count (now places) (now names) (now lefts) ⌝ }
+    ensures { λ r. ⌜ Surveyed (now (book .entry)) count (now (places .entry))
+        (now (places .exit)) (now (names .exit)) (now (lefts .exit)) ⌝ }
 {
     let mut place: u16 = 6;
     let mut p: usize = 0;
@@ -90,8 +87,8 @@ fn kept(names: Set, productive: Set) -> Set
 
 // Of each right side, the names are kept where it derives a token string.
 fn keep_productive(names: &mut [u64], count: usize, productive: Set)
-    requires { ⌜ (count ≤ 128) × (length (now names) ≡ 128) ⌝ }
-    ensures { λ r. ⌜ Filled (λ p. Follows (setAt (now (names .entry)) p) (setAt (now (names .entry)) p) (number productive)) count (now (names .exit)) ⌝ }
+    requires { ⌜ (count ≤ mostProductions) × (length (now names) ≡ mostProductions) ⌝ }
+    ensures { λ r. ⌜ SetsOf (KeptNames (now (names .entry)) (number productive)) count (now (names .exit)) ⌝ }
 {
     let mut p: usize = 0;
     while p < count {
@@ -114,7 +111,7 @@ fn lowest_missing(set: Set, count: u8) -> u8
     k
 }
 
-// Productive first, then used through productive productions only: where the start is not productive, nothing is useful.
+// Productive first, then used through productive productions only: with a start that is not productive, nothing is.
 pub(crate) fn first_useless(
     names: &mut [u64],
     lefts: &[u64],
@@ -122,8 +119,8 @@ pub(crate) fn first_useless(
     nonterminals: u8,
     start: u8,
 ) -> u8
-    requires { ⌜ (count ≤ 128) × (length (now names) ≡ 128) ⌝ }
-    ensures { λ r. ⌜ ((g : Grammar) → Sides g count (now (names .entry)) (now (lefts .entry)) → nonterminals ≡ g .nonterminals → start ≡ g .start → FirstUseless g r) ⌝ }
+    requires { ⌜ (count ≤ mostProductions) × (length (now names) ≡ mostProductions) ⌝ }
+    ensures { λ r. ⌜ TellsUseless count (now (names .entry)) (now (lefts .entry)) nonterminals start r ⌝ }
 {
     let productive = closure(names, lefts, count, none());
     if has(productive, start) {

@@ -13,19 +13,21 @@ use Rattle.book.proofs.Promise.{house-serves, useless-refused}
 use Rattle.table.specs.Examples.{houseTable}
 use Rattle.table.specs.Calls as calls
 use Rattle.table.specs.Table.{held, cellOf}
-use Rattle.table.proofs.Promise.{house-table-of, conflicted-house-build, nested-build, build-outcome-unique}
+use Rattle.table.proofs.Promise.{house-table-of, conflicted-house-build, nested-build, build-outcome-unique, table-fits}
 use Rattle.machine.specs.Machine.{begun, meets, popped, replaced, used, facing, offer, runFrom, final}
 use Rattle.machine.specs.Expansion.{ended, wrote, applied, writing, applying, expandFrom, opened}
 use Rattle.machine.specs.Room.{rightOf, isOf}
-use Rattle.run.specs.Running.{FirstStrange, strange, marking, filledBelow, expected, answered, ran}
+use Rattle.offer.specs.Stops.{marking, filledBelow, expected, answered}
+use Rattle.offer.specs.Strings.{ran}
+use Rattle.run.specs.Running.{FirstStrange, strange}
 use Rattle.run.specs.Running as running
-use Rattle.run.specs.Expanding.{answeredBy}
-use Rattle.run.specs.Expanding as expanding
-use Rattle.run.proofs.Promise.{run-outcome-unique, expand-outcome-unique}
+use Rattle.run.proofs.Promise.{run-outcome-unique}
+use Rattle.expand.specs.Expanding.{answeredBy}
+use Rattle.expand.specs.Expanding as expanding
+use Rattle.expand.proofs.Promise.{expand-outcome-unique}
 use Rattle.demands.specs.Examples.{Example, Allowed, Given, answering, runs, expands, exampleA, exampleB, exampleC, exampleD, exampleE, exampleF, exampleG, refusesBuilding, exampleH1, exampleI, exampleJ, exampleK, exampleKShort, examples}
 use Rattle.demands.specs.Examples as rows
 use Rattle.demands.proofs.House.{house-admits}
-use Rattle.demands.proofs.Kept.{table-fits}
 
 -- token 4 stands at place 2, and is the first that H does not have
 four-strange : FirstStrange house (0 ∷ 1 ∷ 4 ∷ []) 2

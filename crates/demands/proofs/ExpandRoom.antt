@@ -13,7 +13,7 @@ use Rattle.machine.specs.Expansion.{Course, Upshot, full-stack, full-output, en
 use Rattle.machine.specs.Stopping.{Midway, Lacks, lacks-stack, lacks-output}
 use Rattle.machine.proofs.ExpandTheorems.{expand-steps}
 use Rattle.machine.proofs.ExpandRoom.{WantsRoom, wants-stack, wants-output, expand-stops}
-use Rattle.run.proofs.Promise.{ToldBy, finished, misfitting, out-of-stack, out-of-output}
+use Rattle.expand.proofs.Promise.{ToldBy, finished, misfitting, out-of-stack, out-of-output}
 use Rattle.demands.specs.Demands.{Expanded, expanded}
 use Rattle.demands.specs.RoomPlace.{ExpansionStops}
 use Rattle.demands.specs.RoomPlace as places

@@ -25,7 +25,8 @@ use Rattle.machine.specs.Machine.{begun, meets, popped, replaced, used, facing,
 use Rattle.machine.specs.Room.{rightOf, peak}
 use Rattle.machine.proofs.RunTheorems.{run-place}
 use Rattle.machine.proofs.Walk.{Decided, refused, wanted-row}
-use Rattle.run.specs.Running.{Admits, ran}
+use Rattle.offer.specs.Strings.{ran}
+use Rattle.run.specs.Running.{Admits}
 use Rattle.demands.specs.Demands.{Ran, Premises, RunRoom, BuildMeets2, ExpandMeets2, RunMeets2, RunMeets3, RunStepsAdd}
 use Rattle.demands.specs.Idle.{Builder, Runner, Expander, RefusesEverything, FixedOutput, FixedList, LeavesList, LeavesTable, JudgesAtFirst, InventsSteps, writing, writingOutput, untouching, untouchingBuild, judged, judgingFirst}
 use Rattle.demands.proofs.House.{house-premises, house-admits}

@@ -1,36 +1,30 @@
 -- What a call that keeps its promise answers and leaves, where the book serves: steps begin, or there is no stack cell.
 use mathlib.Core.Path.{_≡_, refl, ap}
 use mathlib.Core.List.{List}
-use mathlib.Core.Option.{Option}
 use Prim.Native.Nat.{ℕ, _≤_, _<_}
 use native.Mathlib.Decide.{decLt}
 use native.Mathlib.Omega.{arith}
-use lib.ListN.{length, getD}
-use Rattle.grammar.specs.Grammar.{Grammar, Cell, only, vacant}
+use lib.ListN.{length}
+use Rattle.grammar.specs.Grammar.{Grammar}
 use Rattle.grammar.specs.Machine.{Exact}
 use Rattle.answers.specs.declared.Answer.{Answer}
 use Rattle.answers.specs.Answers.{refusal}
 use Rattle.answers.specs.Refusals.{room, stackRoom}
 use Rattle.answers.specs.Buffers.{over, counted, cleared}
 use Rattle.book.specs.Judging.{Refuses, misread, useless-one, Serves}
-use Rattle.table.specs.Table.{rowAt, columnAt, held, TableOf, cellOf}
-use Rattle.table.proofs.Promise.{built-exact}
+use Rattle.table.specs.Table.{cellOf}
+use Rattle.table.proofs.Promise.{built-exact, table-fits}
 use Rattle.machine.specs.Expansion.{expansion}
 use Rattle.machine.specs.Machine.{final}
-use Rattle.run.specs.Expanding.{ExpandOutcome, answeredBy}
-use Rattle.run.specs.Expanding as expanding
-use Rattle.run.specs.Running.{Fits, FitTable, Barred, Admits, RunOutcome, ran, answered, expected}
+use Rattle.offer.specs.Strings.{ran}
+use Rattle.offer.specs.Stops.{answered, expected}
+use Rattle.run.specs.Running.{Barred, Admits, RunOutcome}
 use Rattle.run.specs.Running as running
-use Rattle.run.proofs.Promise.{Result, run-outcome-unique, expand-outcome-unique}
+use Rattle.run.proofs.Promise.{Result, run-outcome-unique}
+use Rattle.expand.specs.Expanding.{ExpandOutcome, answeredBy}
+use Rattle.expand.specs.Expanding as expanding
+use Rattle.expand.proofs.Promise.{expand-outcome-unique}
 use Rattle.demands.specs.Demands.{Ran, Expanded, Premises}
-
--- a table of the grammar passes refusal 9
-pub table-fits : {g : Grammar} {table : List ℕ} → TableOf g table → FitTable g table
-table-fits {g} {table} t = record { sized = t .sized; cells = λ i h. go i refl (t .cells i h) }
-  where
-    go : (i : ℕ) {o : Option ℕ} → held (getD table i 255) ≡ o → Cell g (rowAt g i) (columnAt g i) o → Fits g table i
-    go i e (only k one) = running.filled e (k .rule)
-    go i e (vacant n) = running.vacant e
 
 module _ {book table tokens : List ℕ} (h : Premises book table tokens) where
   -- the premises of demand 3 let steps begin wherever there is a stack cell

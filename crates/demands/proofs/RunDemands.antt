@@ -14,15 +14,17 @@ use Rattle.answers.specs.Answers.{done, refusal}
 use Rattle.answers.specs.Refusals.{room, syntax}
 use Rattle.answers.specs.Buffers.{over, counted}
 use Rattle.book.proofs.Promise.{serves-limits}
+use Rattle.table.proofs.Promise.{table-fits}
 use Rattle.machine.specs.Machine.{Offered, taken, final}
 use Rattle.machine.specs.Room.{peak}
 use Rattle.machine.proofs.Outcome.{whole}
 use Rattle.machine.proofs.RunTheorems.{run-syntax, run-place, run-complete, run-short-iff, peak-start}
-use Rattle.run.specs.Running.{ran, answered, expected}
-use Rattle.run.proofs.Promise.{told-room, told-syntax, told-numbers, short-room}
+use Rattle.offer.specs.Strings.{ran}
+use Rattle.offer.specs.Stops.{answered, expected}
+use Rattle.offer.proofs.Promise.{told-room, told-syntax, told-numbers, short-room}
 use Rattle.demands.specs.Demands.{Ran, Premises}
 use Rattle.demands.proofs.AnyTable.{ends-told, any-accepted}
-use Rattle.demands.proofs.Kept.{table-fits, premises-exact, RunBegins, stackless, begins}
+use Rattle.demands.proofs.Kept.{premises-exact, RunBegins, stackless, begins}
 
 module _ {book table tokens : List ℕ} (h : Premises book table tokens) (stack list : List ℕ) where
   abbrev pub grammar : Grammar

@@ -19,8 +19,9 @@ use Rattle.machine.proofs.Walk.{final, Decided, accepted, refused}
 use Rattle.machine.proofs.Count.{Counted}
 use Rattle.machine.proofs.Outcome.{Outcome, enough, list-short, stack-short}
 use Rattle.machine.proofs.RunTheorems.{run-steps, run-room}
-use Rattle.run.specs.Running.{ran, answered, expected}
-use Rattle.run.proofs.Promise.{Told, served, short-of-list, short-of-stack, blocked}
+use Rattle.offer.specs.Strings.{ran}
+use Rattle.offer.specs.Stops.{answered, expected}
+use Rattle.offer.proofs.Promise.{Told, served, short-of-list, short-of-stack, blocked}
 use Rattle.demands.specs.Demands.{Ran, Premises, RunRoom}
 use Rattle.demands.specs.RoomPlace.{StopsForRoom, no-stack, no-list-cell, no-stack-cells}
 use Rattle.demands.proofs.Kept.{premises-exact, RunBegins, stackless, begins}

@@ -9,11 +9,14 @@ use Rattle.grammar.specs.Grammar.{Grammar}
 use Rattle.answers.specs.declared.Answer.{Answer}
 use Rattle.answers.specs.Answers.{done, stop}
 use Rattle.answers.specs.Buffers.{counted}
+use Rattle.table.specs.Fitting.{FitTable}
 use Rattle.machine.specs.Machine.{Offered, final}
 use Rattle.machine.proofs.RunTheorems.{run-sound}
-use Rattle.run.specs.Running.{FitTable, ran, answered, expected, wordsOf, RunOutcome, BesideOutcome}
+use Rattle.offer.specs.Strings.{ran}
+use Rattle.offer.specs.Stops.{answered, expected}
+use Rattle.offer.proofs.Promise.{Told, told, served, short-of-list, short-of-stack, blocked, told-done}
+use Rattle.run.specs.Running.{wordsOf, RunOutcome, BesideOutcome}
 use Rattle.run.specs.Running as running
-use Rattle.run.proofs.Promise.{Told, told, served, short-of-list, short-of-stack, blocked, told-done}
 use Rattle.demands.proofs.AnyTable.{fit-rows}
 
 module _ {book table tokens stack list : List ℕ} where

@@ -20,8 +20,9 @@ use Rattle.machine.specs.Room.{peak}
 use Rattle.machine.specs.Machine.{final}
 use Rattle.machine.specs.Expansion.{Expansion, expansion}
 use Rattle.machine.specs.Stopping.{RoomNeeded}
-use Rattle.run.specs.Running.{Admits, ran, RunOutcome}
-use Rattle.run.specs.Expanding.{ExpandOutcome}
+use Rattle.offer.specs.Strings.{ran}
+use Rattle.run.specs.Running.{Admits, RunOutcome}
+use Rattle.expand.specs.Expanding.{ExpandOutcome}
 
 -- what building leaves: the answer, both set buffers, the table
 pub record Built : Type 0 where

@@ -10,9 +10,9 @@ use Rattle.answers.specs.Answers.{done}
 use Rattle.book.specs.Examples.{houseBook}
 use Rattle.table.specs.Examples.{houseFirstSets, houseFollowSets, houseTable}
 use Rattle.table.proofs.Promise.{house-build}
-use Rattle.demands.proofs.Promise.{house-premises, examples-allowed}
 use Rattle.demands.specs.Demands.{Premises}
 use Rattle.demands.specs.Examples.{Allowed, answering, runs, expands, exampleA, exampleF, exampleK, examples}
+use Rattle.demands.proofs.Promise.{house-premises, examples-allowed}
 use Rattle.desk.specs.Desk.{littleEndian, answerBytes, Lent, short, answered, BuildCall, RunCall, ExpandCall}
 use Rattle.desk.proofs.AnswerBytes.{answerSize-is}
 

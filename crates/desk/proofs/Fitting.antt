@@ -25,17 +25,21 @@ use Rattle.table.specs.declared.SetAnswer.{SetAnswer}
 use Rattle.table.specs.Calls.{SetsRoom, no-first, no-follow, SetsOutcome, BuildOutcome, LookaheadOutcome, FirstOutcome}
 use Rattle.table.specs.Calls as calls
 use Rattle.table.specs.Table.{size, held, cellOf}
+use Rattle.table.specs.Fitting.{Misfit, length-given, cell}
 use Rattle.machine.specs.Machine.{Reason, full-list, full-stack, wants-end, wants-token, wants-row, Offered, final}
 use Rattle.machine.specs.Expansion.{expansion, Course, Upshot}
 use Rattle.machine.specs.Room.{rightOf}
 use Rattle.machine.proofs.Count.{Counted}
 use Rattle.machine.proofs.RunTheorems.{run-steps, run-inside}
 use Rattle.machine.proofs.ExpandTheorems.{expand-steps}
-use Rattle.run.specs.Expanding.{ExpandOutcome}
-use Rattle.run.specs.Expanding as expanding
-use Rattle.run.specs.Running.{Misfit, length-given, cell, Barred, bad-table, too-long, strange, no-stack, RunOutcome, marking, filledBelow, expected, ran, answered}
+use Rattle.offer.specs.Stops.{marking, filledBelow, expected, answered}
+use Rattle.offer.specs.Strings.{ran}
+use Rattle.offer.proofs.Promise.{Told, told, served, short-of-list, short-of-stack, blocked, told-steps}
+use Rattle.run.specs.Running.{Barred, bad-table, too-long, strange, no-stack, RunOutcome}
 use Rattle.run.specs.Running as running
-use Rattle.run.proofs.Promise.{Told, told, served, short-of-list, short-of-stack, blocked, told-steps, ToldBy, told-by, finished, misfitting, out-of-stack, out-of-output}
+use Rattle.expand.specs.Expanding.{ExpandOutcome}
+use Rattle.expand.specs.Expanding as expanding
+use Rattle.expand.proofs.Promise.{ToldBy, told-by, finished, misfitting, out-of-stack, out-of-output}
 use Rattle.desk.proofs.ReadBack.{FitsWords}
 
 done-fits : (n : ℕ) → n < 2 ^ 64 → FitsWords (done n)

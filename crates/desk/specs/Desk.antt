@@ -13,8 +13,8 @@ use Rattle.book.specs.declared.Reading.{Reading}
 use Rattle.book.specs.Judging.{Judged}
 use Rattle.table.specs.declared.SetAnswer.{SetAnswer}
 use Rattle.table.specs.Calls.{SetsOutcome, BuildOutcome, LookaheadOutcome, FirstOutcome}
-use Rattle.run.specs.Expanding.{ExpandOutcome}
 use Rattle.run.specs.Running.{RunOutcome}
+use Rattle.expand.specs.Expanding.{ExpandOutcome}
 
 -- a number in so many bytes, the lowest first
 unfoldable pub littleEndian : ℕ → ℕ → List ℕ

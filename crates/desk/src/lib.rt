@@ -5,7 +5,7 @@ use crate::words::ANSWER_SIZE;
 use crate::words::write_answer;
 use answers::refusals::ROOM;
 use book::judging::judge;
-use run::expanding::expand;
+use expand::expand;
 use run::running::run;
 
 mod words;

@@ -1,7 +1,7 @@
 use crate::showing::end_line;
 use crate::showing::show_answer;
 use crate::showing::show_cells;
-use run::expanding::expand;
+use expand::expand;
 
 fn show_expansion(name: &[u8], book: &[u8], list: &[u8]) {
     let mut stack = [99u8; 4];

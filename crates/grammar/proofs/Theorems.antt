@@ -6,8 +6,7 @@ use mathlib.Core.Option.{Option}
 use Prim.Native.Nat.{ℕ, _<_}
 use lib.ListN.{length}
 use Rattle.grammar.specs.declared.Symbol.the-variants.{Nonterminal}
-use Rattle.grammar.specs.Grammar.{Form, spelled, Grammar, Column, Derives, itself, Derivable, LeftmostSteps}
-use Rattle.grammar.specs.Grammar.{Leftmost, Complete, Conflict, WellFormed, Useful}
+use Rattle.grammar.specs.Grammar.{Form, spelled, Grammar, Column, Derives, itself, Derivable, LeftmostSteps, Leftmost, Complete, Conflict, WellFormed, Useful}
 use Rattle.grammar.specs.Machine.{Exact, Run, Accepts, Stopped, Halted, Longest}
 use Rattle.grammar.proofs.Leftmost.{leftmost-steps, steps-leftmost, derives-leftmost, leftmost-derives}
 use Rattle.grammar.proofs.Unique.{unique-from}

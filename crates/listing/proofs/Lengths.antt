@@ -18,9 +18,8 @@ use Rattle.text.proofs.Promise.{decimal-length, decimal-length-word, hexadecima
 use Rattle.answers.specs.declared.Answer.{Answer}
 use Rattle.answers.specs.Answers.{refusal}
 use Rattle.reader.specs.Book.{Limits}
-use Rattle.reader.proofs.Promise.{read-limits}
+use Rattle.reader.proofs.Promise.{read-limits, refused-within}
 use Rattle.book.specs.Judging.{Refuses, misread, useless-one}
-use Rattle.reader.proofs.Promise.{refused-within}
 use Rattle.book.proofs.Promise.{refuses-number, serves-limits}
 use Rattle.table.specs.Numbers.{FirstSets, FollowSets}
 use Rattle.table.specs.Table.{size, held, TableOf, FirstConflict}

@@ -9,13 +9,11 @@ use lib.ListN.{length}
 use Rattle.grammar.specs.declared.Symbol.the-variants.{Nonterminal}
 use Rattle.grammar.specs.Grammar.{Form, Grammar, Complete, WellFormed, Useful}
 use Rattle.grammar.proofs.Useful.{useful-all}
-use Rattle.machine.specs.Expansion.{Course, complete, unfit, ended, expandFrom, opened, expansion, Spent}
-use Rattle.machine.specs.Expansion.{WithRoom}
+use Rattle.machine.specs.Expansion.{Course, complete, unfit, ended, expandFrom, opened, expansion, Spent, WithRoom}
 use Rattle.machine.specs.Room.{rightOf, isOf, peak, LongestList}
 use Rattle.machine.proofs.ExpandTrace.{traced}
 use Rattle.machine.proofs.ExpandSteps.{symbols, counted-end, counted-whole, written-grows, room-enough}
-use Rattle.machine.proofs.ExpandWhole.{ended-path, whole, whole-to, whole-sound, whole-progress, whole-within}
-use Rattle.machine.proofs.ExpandWhole.{whole-unfit, whole-longest, whole-complete, whole-exact, whole-refuses}
+use Rattle.machine.proofs.ExpandWhole.{ended-path, whole, whole-to, whole-sound, whole-progress, whole-within, whole-unfit, whole-longest, whole-complete, whole-exact, whole-refuses}
 -- two derivations with one list reach one greatest height, and the place at which a list does not fit is determined
 pub use Rattle.machine.proofs.ExpandPeak.{peak-of-list}
 pub use Rattle.machine.proofs.ExpandPlace.{list-place-determined}

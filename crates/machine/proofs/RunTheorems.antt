@@ -16,8 +16,7 @@ use Rattle.machine.proofs.Count.{Counted, counted-stack, begun-counted,
 use Rattle.machine.proofs.Relation.{Rows, Reached, run-reached}
 use Rattle.machine.proofs.Verdict.{Derived, begun-ran, ran-derived, syntax-not-derivable, syntax-place}
 use Rattle.machine.proofs.Peak.{peak-from}
-use Rattle.machine.proofs.Outcome.{whole, Outcome, run-outcome, enough-taken, taken-enough, short-stopped}
-use Rattle.machine.proofs.Outcome.{stopped-short}
+use Rattle.machine.proofs.Outcome.{whole, Outcome, run-outcome, enough-taken, taken-enough, short-stopped, stopped-short}
 use Rattle.machine.proofs.Enough.{RoomEnough, halted-decides}
 -- the equations of an offer and of a run, case by case
 pub use Rattle.machine.specs.Stopping.{runOf}

@@ -8,8 +8,7 @@ use Prim.Native.Nat.{ℕ, _≤_, _<_}
 use lib.ListN.{length, take}
 use Rattle.grammar.specs.declared.Symbol.the-variants.{Token, Nonterminal}
 use Rattle.grammar.specs.Grammar.{Form, spelled, Grammar, Column, LeftmostSteps}
-use Rattle.machine.specs.Machine.{State, Reason, full-list, full-stack, wants-end, wants-token, wants-row}
-use Rattle.machine.specs.Machine.{Offered, taken, stopped, begun, runFrom, final}
+use Rattle.machine.specs.Machine.{State, Reason, full-list, full-stack, wants-end, wants-token, wants-row, Offered, taken, stopped, begun, runFrom, final}
 use Rattle.machine.specs.Room.{rightOf}
 use Rattle.machine.specs.Expansion.{Course, Upshot}
 use Rattle.machine.specs.Expansion as expanding

@@ -12,8 +12,7 @@ use lib.ListN.{length, getD, List·getD-eq-default}
 use lib.Seq.{ext-getD}
 use Rattle.sets.specs.Sets.{member, Exactly, united, added}
 use Rattle.sets.specs.Words.{wordWidth, places, AreWords, valueOf, unitedWords, addedWords}
-use Rattle.sets.proofs.Promise.{places-are, member-united, member-added, exactly-added, exactly-united}
-use Rattle.sets.proofs.Promise.{united-word, united-words-length, value-united, value-added}
+use Rattle.sets.proofs.Promise.{places-are, member-united, member-added, exactly-added, exactly-united, united-word, united-words-length, value-united, value-added}
 use Rattle.points.specs.Points.{wordsAt, pointsAt, Put, Unite}
 use Rattle.points.proofs.Flat.{words-at-length, word-at, word-past, words-at-words, words-set, written-there}
 use Rattle.points.proofs.Stored.{stored-at-length, stored-at-words, stored-at-elsewhere, stored-at-added, stored-at-lacking, stored-at-united}

@@ -11,11 +11,9 @@ use lib.ListN.{length, getD, set, List·getD-eq-default}
 use lib.Seq.{sets as written, length-sets, ext-getD, set-out}
 use Rattle.sets.specs.Sets.{member, united, added}
 use Rattle.sets.specs.Words.{wordWidth, places, AreWords, valueOf, wordsOf, unitedWords, addedWords}
-use Rattle.sets.proofs.Promise.{places-are, member-none, value-fits, value-words, words-value, words-length, words-fit, words-past, member-value}
-use Rattle.sets.proofs.Promise.{united-words-length, united-words-fit, value-united, added-words-length, added-words-fit, value-added}
+use Rattle.sets.proofs.Promise.{places-are, member-none, value-fits, value-words, words-value, words-length, words-fit, words-past, member-value, united-words-length, united-words-fit, value-united, added-words-length, added-words-fit, value-added}
 use Rattle.points.specs.Points.{wordsAt, pointsAt, storedAt}
-use Rattle.points.proofs.Flat.{words-at-length, word-at, word-past, words-at-words, words-alike}
-use Rattle.points.proofs.Flat.{written-back, written-one, written-words, written-before, written-after, words-written}
+use Rattle.points.proofs.Flat.{words-at-length, word-at, word-past, words-at-words, words-alike, written-back, written-one, written-words, written-before, written-after, words-written}
 
 -- a slice that is one set
 pub points-whole : (ws : List ℕ) → pointsAt ws 0 (length ws) ≡ valueOf ws

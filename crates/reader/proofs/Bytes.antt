@@ -10,6 +10,7 @@ use borrow.Author.Tests.{ltb-true, leb-true, lt-ltb, le-ltb, le-leb}
 use Rattle.grammar.specs.declared.Symbol.{Symbol}
 use Rattle.grammar.specs.declared.Symbol.the-variants.{Token, Nonterminal}
 use Rattle.grammar.specs.Grammar.{Form, Grammar, Known, known-token, known-nonterminal}
+use Rattle.answers.specs.Limits.{mostTokens}
 use Rattle.answers.specs.Refusals.{short, mark, symbol}
 use Rattle.reader.specs.Book.{Spelling, refused, reads, Rest, wanted, marked, symbolOf, symbols, byteOf}
 
@@ -26,7 +27,7 @@ token-spelled T N t h = rw (lt-ltb t T h, symbolOf)
 
 module _ {g : Grammar} where
   -- the byte of a known symbol is that symbol
-  pub symbolOf-byteOf : {s : Symbol} → g .tokens ≤ 62 → Known g s → symbolOf (g .tokens) (g .nonterminals) (byteOf s) ≡ some s
+  pub symbolOf-byteOf : {s : Symbol} → g .tokens ≤ mostTokens → Known g s → symbolOf (g .tokens) (g .nonterminals) (byteOf s) ≡ some s
   unfolding symbolOf byteOf
   symbolOf-byteOf fit (known-token {t = t} h) = token-spelled (g .tokens) (g .nonterminals) t h
   symbolOf-byteOf fit (known-nonterminal {A = A} h) =

@@ -6,6 +6,7 @@ use native.Mathlib.Nat.{add-zero, zero-add}
 use native.Mathlib.Omega.{arith}
 use lib.ListN.{length, getD, drop, replicate, length-replicate, List·getD-eq-default}
 use lib.Seq.{sets, sets-eq, length-sets, getD-drop}
+use Rattle.answers.specs.Limits.{mostProductions}
 use Rattle.reader.specs.Fields.{placeOfRecord, placesFrom, placesOf}
 
 pub zero-cell : (size i : ℕ) → _≡_ {A = ℕ} (getD (replicate size 0) i 0) 0
@@ -37,16 +38,16 @@ module _ (b : List ℕ) where
   cell-from (suc count) p (suc i) h = cell-from count (suc p) i (omega arith) ∙ ap (placeOfRecord b) (omega arith)
 
   module _ (count : ℕ) where
-    cell-of : (p : ℕ) → getD (placesOf b count) p 0 ≡ getD (placesFrom b (min count 128) 0) p 0
+    cell-of : (p : ℕ) → getD (placesOf b count) p 0 ≡ getD (placesFrom b (min count mostProductions) 0) p 0
     unfolding placesOf
-    cell-of p = written-over-zeros 128 (placesFrom b (min count 128) 0) p (omega (arith, length-from (min count 128) 0))
+    cell-of p = written-over-zeros mostProductions (placesFrom b (min count mostProductions) 0) p (omega (arith, length-from (min count mostProductions) 0))
 
-    pub places-length : length (placesOf b count) ≡ 128
+    pub places-length : length (placesOf b count) ≡ mostProductions
     unfolding placesOf
-    places-length = length-sets (replicate 128 0) 0 (placesFrom b (min count 128) 0)
+    places-length = length-sets (replicate mostProductions 0) 0 (placesFrom b (min count mostProductions) 0)
 
-    pub places-cell : (p : ℕ) → p < min count 128 → getD (placesOf b count) p 0 ≡ placeOfRecord b p
-    places-cell p h = cell-of p ∙ cell-from (min count 128) 0 p h ∙ ap (placeOfRecord b) (zero-add p)
+    pub places-cell : (p : ℕ) → p < min count mostProductions → getD (placesOf b count) p 0 ≡ placeOfRecord b p
+    places-cell p h = cell-of p ∙ cell-from (min count mostProductions) 0 p h ∙ ap (placeOfRecord b) (zero-add p)
 
-    pub places-rest : (p : ℕ) → min count 128 ≤ p → getD (placesOf b count) p 0 ≡ 0
-    places-rest p h = cell-of p ∙ List·getD-eq-default (placesFrom b (min count 128) 0) 0 (omega (arith, length-from (min count 128) 0))
+    pub places-rest : (p : ℕ) → min count mostProductions ≤ p → getD (placesOf b count) p 0 ≡ 0
+    places-rest p h = cell-of p ∙ List·getD-eq-default (placesFrom b (min count mostProductions) 0) 0 (omega (arith, length-from (min count mostProductions) 0))

@@ -4,15 +4,15 @@ use mathlib.Core.Bool.{Bool, true, false, false≢true, not}
 use mathlib.Core.List.{List}
 use Prim.Native.Nat.{ℕ, zero, suc, _+_, _-_, _≤_, _<_}
 use native.Mathlib.Omega.{arith}
-use lib.Dec.{ltb}
+use lib.Dec.{leb, ltb, eqb}
 use lib.ListN.{length, getD}
-use borrow.Author.Tests.{lt-ltb, le-ltb, ltb-true, ltb-false, not-true, not-false}
+use borrow.Author.Tests.{lt-ltb, le-ltb, le-leb, ltb-true, ltb-false, leb-true, eqb-true, eqb-false, not-true, not-false}
 use Rattle.answers.specs.Refusals.{symbol}
 use Rattle.reader.specs.declared.Verdict.{Verdict}
 use Rattle.reader.specs.declared.Verdict.the-variants.{Next, Bad}
 use Rattle.reader.specs.Positional.{andThen, within, withinAt, checkedAt, wantedFrom, symbolFrom, symbolsFrom, cutOff, recordFrom, eachRecordFrom, isSymbol}
 use Rattle.reader.proofs.Turns.{symbols-turn, records-turn}
-use Rattle.reader.proofs.Checked.{Passes, by-cases, checked-right, checked-wrong, checked-short, symbols-pass, records-pass}
+use Rattle.reader.proofs.Passing.{Passes, by-cases, checked-right, checked-wrong, checked-short, symbols-pass, records-pass}
 
 -- a place is below the size where what is added is below the rest
 pub below-rest : (at more size : ℕ) → at < size → ltb more (size - at) ≡ ltb (at + more) size
@@ -23,6 +23,17 @@ below-rest at more size inside =
 
 pub standing : (x size : ℕ) {r : Bool} → r ≡ ltb x size → r ≡ true → x < size
 standing x size told so = ltb-true x size (sym told ∙ so)
+
+-- a byte lies from a number up to the next where it is that number
+pub within-one : (byte wanted : ℕ) → eqb byte wanted ≡ within wanted (suc wanted) byte
+unfolding within
+within-one byte wanted =
+    by-cases (eqb byte wanted)
+    (λ t. let same : byte ≡ wanted = eqb-true _ _ t in simp (within, t, le-leb wanted byte (omega arith), lt-ltb byte (suc wanted) (omega arith)))
+    (λ f. by-cases (leb wanted byte)
+    (λ t. let low : wanted ≤ byte = leb-true _ _ t in let differ : byte ≡ wanted → ⊥ = eqb-false _ _ f in
+    simp (within, f, t, le-ltb byte (suc wanted) (omega arith)))
+    (λ t. simp (within, f, t)))
 
 -- a byte that is not right is refused, missing or wrong, and the refusal stays
 module _ (b : List ℕ) (refusal at : ℕ) where

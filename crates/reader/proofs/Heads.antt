@@ -2,17 +2,18 @@
 use mathlib.Core.Path.{_≡_, refl, sym, _∙_}
 use mathlib.Core.Bool.{Bool, true, false, _&&_, false≢true}
 use mathlib.Core.List.{List}
-use Prim.Native.Nat.{ℕ, _+_, _<_}
+use Prim.Native.Nat.{ℕ, suc, _+_, _<_}
 use native.Mathlib.Nat.{add-zero}
 use native.Mathlib.Omega.{arith}
 use lib.Dec.{ltb}
 use lib.ListN.{length, getD}
 use borrow.Author.Tests.{lt-ltb, ltb-true}
+use Rattle.answers.specs.Limits.{mostTokens, mostNonterminals, mostProductions, mostSymbols}
 use Rattle.answers.specs.Refusals.{mark, limit, symbol}
 use Rattle.reader.specs.declared.Verdict.{Verdict}
 use Rattle.reader.specs.declared.Verdict.the-variants.{Next}
 use Rattle.reader.specs.Positional.{andThen, nextByte, within, withinAt, checkedAt, wantedFrom, symbolsFrom, markedFrom, rightFrom, headAt, recordFrom, headerFrom}
-use Rattle.reader.proofs.Checked.{Passes, by-cases, symbols-pass}
+use Rattle.reader.proofs.Passing.{Passes, by-cases, symbols-pass}
 use Rattle.reader.proofs.Guards.{byte-inside, byte-within, right-inside, goes-on, stops-at}
 
 both : (t u : Bool) → (t && u) ≡ true → (t ≡ true) × (u ≡ true)
@@ -38,16 +39,16 @@ module _ (b : List ℕ) (T N at : ℕ) where
   unfolding rightFrom nextByte symbolsFrom wantedFrom andThen
   second-passes number place = refl
 
-  opened : recordFrom b T N (Next at) ≡ from-second (wantedFrom b 80 81 mark (Next (at + 0)))
+  record-begun : recordFrom b T N (Next at) ≡ from-second (wantedFrom b 80 81 mark (Next (at + 0)))
   unfolding recordFrom markedFrom
-  opened = rw add-zero
+  record-begun = rw add-zero
 
   pub record-first : withinAt b 80 81 (at + 0) ≡ false → recordFrom b T N (Next at) ≡ checkedAt b false mark (at + 0)
-  record-first wrong = opened ∙ stops-at b 80 81 (at + 0) mark from-second second-passes wrong
+  record-first wrong = record-begun ∙ stops-at b 80 81 (at + 0) mark from-second second-passes wrong
 
   module _ (first : withinAt b 80 81 (at + 0) ≡ true) where
     marked-one : recordFrom b T N (Next at) ≡ from-second (Next (at + 1))
-    marked-one = opened ∙ goes-on b 80 81 (at + 0) mark (at + 1) from-second (omega arith) first
+    marked-one = record-begun ∙ goes-on b 80 81 (at + 0) mark (at + 1) from-second (omega arith) first
 
     pub record-second : withinAt b 82 83 (at + 1) ≡ false → recordFrom b T N (Next at) ≡ checkedAt b false mark (at + 1)
     record-second wrong = marked-one ∙ stops-at b 82 83 (at + 1) mark from-left left-passes wrong
@@ -63,20 +64,20 @@ module _ (b : List ℕ) (T N at : ℕ) where
         abbrev from-length : Verdict → Verdict
         from-length = symbolsFrom b T N (getD b (at + 3) 0)
 
-        with-left : recordFrom b T N (Next at) ≡ from-length (wantedFrom b 0 17 limit (Next (at + 3)))
+        with-left : recordFrom b T N (Next at) ≡ from-length (wantedFrom b 0 (suc mostSymbols) limit (Next (at + 3)))
         unfolding rightFrom nextByte
         with-left = marked-both ∙ goes-on b 0 N (at + 2) symbol (at + 3) (rightFrom b T N) (omega arith) third
 
-        pub record-fourth : withinAt b 0 17 (at + 3) ≡ false → recordFrom b T N (Next at) ≡ checkedAt b false limit (at + 3)
-        record-fourth wrong = with-left ∙ stops-at b 0 17 (at + 3) limit from-length (symbols-pass b T N (getD b (at + 3) 0)) wrong
+        pub record-fourth : withinAt b 0 (suc mostSymbols) (at + 3) ≡ false → recordFrom b T N (Next at) ≡ checkedAt b false limit (at + 3)
+        record-fourth wrong = with-left ∙ stops-at b 0 (suc mostSymbols) (at + 3) limit from-length (symbols-pass b T N (getD b (at + 3) 0)) wrong
 
-        pub record-rest : withinAt b 0 17 (at + 3) ≡ true → recordFrom b T N (Next at) ≡ symbolsFrom b T N (getD b (at + 3) 0) (Next (at + 4))
-        record-rest fourth = with-left ∙ goes-on b 0 17 (at + 3) limit (at + 4) from-length (omega arith) fourth
+        pub record-rest : withinAt b 0 (suc mostSymbols) (at + 3) ≡ true → recordFrom b T N (Next at) ≡ symbolsFrom b T N (getD b (at + 3) 0) (Next (at + 4))
+        record-rest fourth = with-left ∙ goes-on b 0 (suc mostSymbols) (at + 3) limit (at + 4) from-length (omega arith) fourth
 
 -- the four bytes at once
 module _ (b : List ℕ) (N at : ℕ) where
   module _ (head : headAt b N at ≡ true) where
-    behind-guard : (ltb (at + 3) (length b) ≡ true) × ((within 80 81 (getD b at 0) && (within 82 83 (getD b (at + 1) 0) && (within 0 N (getD b (at + 2) 0) && within 0 17 (getD b (at + 3) 0)))) ≡ true)
+    behind-guard : (ltb (at + 3) (length b) ≡ true) × ((within 80 81 (getD b at 0) && (within 82 83 (getD b (at + 1) 0) && (within 0 N (getD b (at + 2) 0) && within 0 (suc mostSymbols) (getD b (at + 3) 0)))) ≡ true)
     unfolding headAt
     behind-guard = both _ _ head
 
@@ -92,32 +93,34 @@ module _ (b : List ℕ) (N at : ℕ) where
         (right-inside b 80 81 (at + 0) (omega (arith, head-inside)) (rw add-zero one))
         (right-inside b 82 83 (at + 1) (omega (arith, head-inside)) two)
         (right-inside b 0 N (at + 2) (omega (arith, head-inside)) three)
-        (right-inside b 0 17 (at + 3) head-inside four)
+        (right-inside b 0 (suc mostSymbols) (at + 3) head-inside four)
 
   -- where they do not begin a record though the first three are right, the fourth is not
-  pub head-fourth : headAt b N at ≡ false → withinAt b 80 81 (at + 0) ≡ true → withinAt b 82 83 (at + 1) ≡ true → withinAt b 0 N (at + 2) ≡ true → withinAt b 0 17 (at + 3) ≡ false
+  pub head-fourth : headAt b N at ≡ false → withinAt b 80 81 (at + 0) ≡ true → withinAt b 82 83 (at + 1) ≡ true → withinAt b 0 N (at + 2) ≡ true → withinAt b 0 (suc mostSymbols) (at + 3) ≡ false
   unfolding headAt
   head-fourth none one two three =
-      by-cases (withinAt b 0 17 (at + 3))
+      by-cases (withinAt b 0 (suc mostSymbols) (at + 3))
       (λ four.
       let first : within 80 81 (getD b at 0) ≡ true = rw add-zero at (byte-within b 80 81 (at + 0) one) in
-      absurd (false≢true (sym none ∙ simp (headAt, lt-ltb _ _ (byte-inside b 0 17 (at + 3) four), first, byte-within b 82 83 (at + 1) two, byte-within b 0 N (at + 2) three, byte-within b 0 17 (at + 3) four))))
+      absurd (false≢true (sym none ∙ simp (headAt, lt-ltb _ _ (byte-inside b 0 (suc mostSymbols) (at + 3) four), first, byte-within b 82 83 (at + 1) two, byte-within b 0 N (at + 2) three, byte-within b 0 (suc mostSymbols) (at + 3) four))))
       (λ four. four)
 
+-- the header, byte by byte
 module _ (b : List ℕ) (at : ℕ) where
-  abbrev on-productions : Verdict → Verdict
-  on-productions v = wantedFrom b 1 129 limit v
+  -- the rest of the header behind each of its bytes
+  abbrev pub on-productions : Verdict → Verdict
+  on-productions v = wantedFrom b 1 (suc mostProductions) limit v
 
-  abbrev on-start : Verdict → Verdict
+  abbrev pub on-start : Verdict → Verdict
   on-start v = on-productions (wantedFrom b 0 (getD b (at + 3) 0) limit v)
 
-  abbrev on-nonterminals : Verdict → Verdict
-  on-nonterminals v = on-start (wantedFrom b 1 65 limit v)
+  abbrev pub on-nonterminals : Verdict → Verdict
+  on-nonterminals v = on-start (wantedFrom b 1 (suc mostNonterminals) limit v)
 
-  abbrev on-tokens : Verdict → Verdict
-  on-tokens v = on-nonterminals (wantedFrom b 1 63 limit v)
+  abbrev pub on-tokens : Verdict → Verdict
+  on-tokens v = on-nonterminals (wantedFrom b 1 (suc mostTokens) limit v)
 
-  abbrev on-second : Verdict → Verdict
+  abbrev pub on-second : Verdict → Verdict
   on-second v = on-tokens (wantedFrom b 82 83 mark v)
 
   productions-pass : Passes on-productions
@@ -144,43 +147,46 @@ module _ (b : List ℕ) (at : ℕ) where
   unfolding headerFrom markedFrom
   begun = rw add-zero
 
-  pub header-first : withinAt b 71 72 (at + 0) ≡ false → headerFrom b at ≡ checkedAt b false mark (at + 0)
-  header-first wrong = begun ∙ stops-at b 71 72 (at + 0) mark on-second mark-passes wrong
+  -- so many bytes are right, and the rest is still to be read
+  abbrev pub Reaches : ℕ → (Verdict → Verdict) → Type 0
+  Reaches n rest = headerFrom b at ≡ rest (Next (at + n))
 
-  module _ (first : withinAt b 71 72 (at + 0) ≡ true) where
-    after-first : headerFrom b at ≡ on-second (Next (at + 1))
-    after-first = begun ∙ goes-on b 71 72 (at + 0) mark (at + 1) on-second (omega arith) first
+  -- the header comes to the refusal at its byte n
+  abbrev pub Stops : (refusal n : ℕ) → Type 0
+  Stops refusal n = headerFrom b at ≡ checkedAt b false refusal (at + n)
 
-    pub header-second : withinAt b 82 83 (at + 1) ≡ false → headerFrom b at ≡ checkedAt b false mark (at + 1)
-    header-second wrong = after-first ∙ stops-at b 82 83 (at + 1) mark on-tokens tokens-pass wrong
+  pub first-wrong : withinAt b 71 72 (at + 0) ≡ false → Stops mark 0
+  first-wrong wrong = begun ∙ stops-at b 71 72 (at + 0) mark on-second mark-passes wrong
 
-    module _ (second : withinAt b 82 83 (at + 1) ≡ true) where
-      after-mark : headerFrom b at ≡ on-tokens (Next (at + 2))
-      after-mark = after-first ∙ goes-on b 82 83 (at + 1) mark (at + 2) on-tokens (omega arith) second
+  pub first-right : withinAt b 71 72 (at + 0) ≡ true → Reaches 1 on-second
+  first-right right = begun ∙ goes-on b 71 72 (at + 0) mark (at + 1) on-second (omega arith) right
 
-      pub header-third : withinAt b 1 63 (at + 2) ≡ false → headerFrom b at ≡ checkedAt b false limit (at + 2)
-      header-third wrong = after-mark ∙ stops-at b 1 63 (at + 2) limit on-nonterminals nonterminals-pass wrong
+  pub second-wrong : Reaches 1 on-second → withinAt b 82 83 (at + 1) ≡ false → Stops mark 1
+  second-wrong so-far wrong = so-far ∙ stops-at b 82 83 (at + 1) mark on-tokens tokens-pass wrong
 
-      module _ (third : withinAt b 1 63 (at + 2) ≡ true) where
-        after-tokens : headerFrom b at ≡ on-nonterminals (Next (at + 3))
-        after-tokens = after-mark ∙ goes-on b 1 63 (at + 2) limit (at + 3) on-nonterminals (omega arith) third
+  pub second-right : Reaches 1 on-second → withinAt b 82 83 (at + 1) ≡ true → Reaches 2 on-tokens
+  second-right so-far right = so-far ∙ goes-on b 82 83 (at + 1) mark (at + 2) on-tokens (omega arith) right
 
-        pub header-fourth : withinAt b 1 65 (at + 3) ≡ false → headerFrom b at ≡ checkedAt b false limit (at + 3)
-        header-fourth wrong = after-tokens ∙ stops-at b 1 65 (at + 3) limit on-start start-passes wrong
+  pub third-wrong : Reaches 2 on-tokens → withinAt b 1 (suc mostTokens) (at + 2) ≡ false → Stops limit 2
+  third-wrong so-far wrong = so-far ∙ stops-at b 1 (suc mostTokens) (at + 2) limit on-nonterminals nonterminals-pass wrong
 
-        module _ (fourth : withinAt b 1 65 (at + 3) ≡ true) where
-          after-nonterminals : headerFrom b at ≡ on-start (Next (at + 4))
-          after-nonterminals = after-tokens ∙ goes-on b 1 65 (at + 3) limit (at + 4) on-start (omega arith) fourth
+  pub third-right : Reaches 2 on-tokens → withinAt b 1 (suc mostTokens) (at + 2) ≡ true → Reaches 3 on-nonterminals
+  third-right so-far right = so-far ∙ goes-on b 1 (suc mostTokens) (at + 2) limit (at + 3) on-nonterminals (omega arith) right
 
-          pub header-fifth : withinAt b 0 (getD b (at + 3) 0) (at + 4) ≡ false → headerFrom b at ≡ checkedAt b false limit (at + 4)
-          header-fifth wrong = after-nonterminals ∙ stops-at b 0 (getD b (at + 3) 0) (at + 4) limit on-productions productions-pass wrong
+  pub fourth-wrong : Reaches 3 on-nonterminals → withinAt b 1 (suc mostNonterminals) (at + 3) ≡ false → Stops limit 3
+  fourth-wrong so-far wrong = so-far ∙ stops-at b 1 (suc mostNonterminals) (at + 3) limit on-start start-passes wrong
 
-          module _ (fifth : withinAt b 0 (getD b (at + 3) 0) (at + 4) ≡ true) where
-            after-start : headerFrom b at ≡ on-productions (Next (at + 5))
-            after-start = after-nonterminals ∙ goes-on b 0 (getD b (at + 3) 0) (at + 4) limit (at + 5) on-productions (omega arith) fifth
+  pub fourth-right : Reaches 3 on-nonterminals → withinAt b 1 (suc mostNonterminals) (at + 3) ≡ true → Reaches 4 on-start
+  fourth-right so-far right = so-far ∙ goes-on b 1 (suc mostNonterminals) (at + 3) limit (at + 4) on-start (omega arith) right
 
-            pub header-sixth : withinAt b 1 129 (at + 5) ≡ false → headerFrom b at ≡ checkedAt b false limit (at + 5)
-            header-sixth wrong = after-start ∙ stops-at b 1 129 (at + 5) limit (λ v. v) (λ number place. refl) wrong
+  pub fifth-wrong : Reaches 4 on-start → withinAt b 0 (getD b (at + 3) 0) (at + 4) ≡ false → Stops limit 4
+  fifth-wrong so-far wrong = so-far ∙ stops-at b 0 (getD b (at + 3) 0) (at + 4) limit on-productions productions-pass wrong
 
-            pub header-whole : withinAt b 1 129 (at + 5) ≡ true → headerFrom b at ≡ Next (at + 6)
-            header-whole sixth = after-start ∙ goes-on b 1 129 (at + 5) limit (at + 6) (λ v. v) (omega arith) sixth
+  pub fifth-right : Reaches 4 on-start → withinAt b 0 (getD b (at + 3) 0) (at + 4) ≡ true → Reaches 5 on-productions
+  fifth-right so-far right = so-far ∙ goes-on b 0 (getD b (at + 3) 0) (at + 4) limit (at + 5) on-productions (omega arith) right
+
+  pub sixth-wrong : Reaches 5 on-productions → withinAt b 1 (suc mostProductions) (at + 5) ≡ false → Stops limit 5
+  sixth-wrong so-far wrong = so-far ∙ stops-at b 1 (suc mostProductions) (at + 5) limit (λ v. v) (λ number place. refl) wrong
+
+  pub sixth-right : Reaches 5 on-productions → withinAt b 1 (suc mostProductions) (at + 5) ≡ true → Reaches 6 (λ v. v)
+  sixth-right so-far right = so-far ∙ goes-on b 1 (suc mostProductions) (at + 5) limit (at + 6) (λ v. v) (omega arith) right

@@ -14,13 +14,14 @@ use Rattle.grammar.specs.declared.Symbol.the-variants.{Token, Nonterminal}
 use Rattle.grammar.specs.Grammar.{Form, Production, Grammar}
 use Rattle.sets.specs.Calls.{Decides}
 use Rattle.sets.proofs.Promise.{decided, decides-unique}
+use Rattle.answers.specs.Limits.{mostTokens, mostNonterminals, mostProductions, mostSymbols}
 use Rattle.answers.specs.Refusals.{short, mark, limit, symbol}
 use Rattle.reader.specs.declared.Verdict.{Verdict}
 use Rattle.reader.specs.declared.Verdict.the-variants.{Next, Bad}
 use Rattle.reader.specs.Book.{refused, Rest, wanted, marked, symbolOf, IsSymbol, symbols, records, ending, spells}
-use Rattle.reader.specs.Verdicts.{told, verdictOf, placeOf}
+use Rattle.reader.specs.Verdicts.{verdictOn, verdictOf, verdictPlace}
 use Rattle.reader.specs.Positional.{andThen, nextByte, within, checkedAt, wantedFrom, symbolFrom, symbolsFrom, markedFrom, rightFrom, recordFrom, eachRecordFrom, resumedAt, headerFrom, recordsFrom, endFrom, isSymbol}
-use Rattle.reader.proofs.Checked.{Passes, by-cases, checked-right, checked-wrong, checked-short, symbols-pass, records-pass}
+use Rattle.reader.proofs.Passing.{Passes, by-cases, checked-right, checked-wrong, checked-short, symbols-pass, records-pass}
 
 module _ (T N : ℕ) where
   pub symbol-known : (byte : ℕ) → isSymbol T N byte ≡ true → IsSymbol T N byte
@@ -46,7 +47,7 @@ module _ (T N : ℕ) where
 module _ (b : List ℕ) where
   -- the consuming reader, put at a place of the book, comes to a verdict
   abbrev Comes : Rest → ℕ → Verdict → Type 0
-  Comes reader at v = told (length b) (reader (drop at b) at) ≡ v
+  Comes reader at v = verdictOn (length b) (reader (drop at b) at) ≡ v
 
   -- whatever was read, both readers go on alike from any place of the book
   abbrev Alike : {A : Type 0} → (A → Rest) → (Verdict → Verdict) → Type 0
@@ -56,10 +57,10 @@ module _ (b : List ℕ) where
       at ≤ length b →
       Passes K →
       reader [] at ≡ refused short at →
-      (at < length b → right ≡ true → told (length b) (reader (getD b at 0 ∷ drop (suc at) b) at) ≡ K (Next (suc at))) →
+      (at < length b → right ≡ true → verdictOn (length b) (reader (getD b at 0 ∷ drop (suc at) b) at) ≡ K (Next (suc at))) →
       (right ≡ false → reader (getD b at 0 ∷ drop (suc at) b) at ≡ refused refusal at) →
       Comes reader at (K (checkedAt b right refusal at))
-  unfolding told
+  unfolding verdictOn
   judged-joins right refusal reader K at inside passes missing fine wrong =
       by-cases (ltb at (length b))
       (λ t. let h : at < length b = ltb-true at (length b) t in
@@ -111,7 +112,7 @@ module _ (b : List ℕ) where
         at ≤ length b →
         Passes K →
         Alike next K →
-        Comes (wanted 0 17 limit (λ l. symbols T N l next)) at (K (rightFrom b T N (Next at)))
+        Comes (wanted 0 (suc mostSymbols) limit (λ l. symbols T N l next)) at (K (rightFrom b T N (Next at)))
     unfolding rightFrom nextByte
     right-joins next K at inside passes alike =
         wanted-joins _ _ _ _ (λ v. K (symbolsFrom b T N (getD b at 0) v)) _ inside
@@ -134,7 +135,7 @@ module _ (b : List ℕ) where
         (λ form place fits. records-join p _ K place fits passes (λ rest. alike _))))
 
   end-joins : (g : Grammar) (at : ℕ) → at ≤ length b → Comes (ending g) at (endFrom b at (Next at))
-  unfolding told ending endFrom andThen
+  unfolding verdictOn ending endFrom andThen
   end-joins g at inside =
       by-cases (ltb at (length b))
       (λ t. rw (drop-cons b at 0 (ltb-true at (length b) t), endFrom, t))
@@ -145,34 +146,34 @@ module _ (b : List ℕ) where
   -- the records and the end after a header, each from the place that the part before it came to
   unfoldable pub line : Verdict → Verdict
   line headed =
-      let listed = recordsFrom b (placeOf headed) headed in
-      endFrom b (placeOf listed) listed
+      let listed = recordsFrom b (verdictPlace headed) headed in
+      endFrom b (verdictPlace listed) listed
 
   line-passes : Passes line
-  unfolding line recordsFrom resumedAt placeOf endFrom andThen
+  unfolding line recordsFrom resumedAt verdictPlace endFrom andThen
   line-passes number place = rw (records-pass b (getD b 2 0) (getD b 3 0) (getD b 5 0) number place)
 
   pub spells-joined : verdictOf b ≡ line (headerFrom b 0)
-  unfolding verdictOf spells line headerFrom recordsFrom resumedAt placeOf endFrom wantedFrom andThen
+  unfolding verdictOf spells line headerFrom recordsFrom resumedAt verdictPlace endFrom wantedFrom andThen
   spells-joined =
-      let after-start : Verdict → Verdict = λ v. line (wantedFrom b 1 129 limit v) in
+      let after-start : Verdict → Verdict = λ v. line (wantedFrom b 1 (suc mostProductions) limit v) in
       let after-nonterminals : Verdict → Verdict = λ v. after-start (wantedFrom b 0 (getD b 3 0) limit v) in
-      let after-tokens : Verdict → Verdict = λ v. after-nonterminals (wantedFrom b 1 65 limit v) in
-      let after-mark : Verdict → Verdict = λ v. after-tokens (wantedFrom b 1 63 limit v) in
+      let after-tokens : Verdict → Verdict = λ v. after-nonterminals (wantedFrom b 1 (suc mostNonterminals) limit v) in
+      let after-mark : Verdict → Verdict = λ v. after-tokens (wantedFrom b 1 (suc mostTokens) limit v) in
       marked-joins _ _ _ after-mark 0 zero-le line-passes
       (λ h. wanted-joins _ _ _ _ after-tokens _ h line-passes
       (λ h. wanted-joins _ _ _ _ after-nonterminals _ h line-passes
       (λ h. wanted-joins _ _ _ _ after-start _ h line-passes
       (λ h. wanted-joins _ _ _ _ line _ h line-passes
-      (λ h. records-join _ _ _ _ (λ listed. endFrom b (placeOf listed) listed) _ h (λ number place. refl)
+      (λ h. records-join _ _ _ _ (λ listed. endFrom b (verdictPlace listed) listed) _ h (λ number place. refl)
       (λ rest. end-joins _))))))
 
   -- the parts, called one after another, answer what the bytes spell
   pub read-is : {headed listed verdict : Verdict} {records-start records-end : ℕ} →
       headed ≡ headerFrom b 0 →
-      records-start ≡ placeOf headed →
+      records-start ≡ verdictPlace headed →
       listed ≡ recordsFrom b records-start headed →
-      records-end ≡ placeOf listed →
+      records-end ≡ verdictPlace listed →
       verdict ≡ endFrom b records-end listed →
       verdict ≡ verdictOf b
   unfolding line

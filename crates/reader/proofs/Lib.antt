@@ -1,6 +1,6 @@
 pub mod Records
 pub mod Turns
-pub mod Checked
+pub mod Passing
 pub mod Guards
 pub mod Heads
 pub mod Joined
@@ -12,5 +12,9 @@ pub mod Place
 pub mod Longest
 pub mod Cells
 pub mod Forms
+pub mod Walking
 pub mod Tools
+pub mod Carrying
+pub mod Asking
+pub mod Theorems
 pub mod Promise

@@ -6,16 +6,11 @@ use native.Mathlib.Omega.{arith}
 use lib.ListN.{length}
 use Rattle.grammar.specs.declared.Symbol.the-variants.{Token}
 use Rattle.grammar.specs.Grammar.{Form, Production, Grammar}
-use Rattle.answers.specs.Refusals.{short, mark, extra, limit, symbol}
+use Rattle.answers.specs.Limits.{mostTokens, mostNonterminals, mostProductions, mostSymbols}
+use Rattle.answers.specs.Refusals.{short, mark, limit, symbol}
 use Rattle.reader.specs.Book.{Spelling, refused, reads, Rest, marked, symbols, records, ending, spells, Continued}
+use Rattle.reader.specs.Faults.{Fault, bad-mark, extra-byte, over-limit, not-a-symbol}
 use Rattle.reader.proofs.Bytes.{token-spelled, Look, taken, turned, Takes, wanted-takes, symbols-takes}
-
--- the refusals of a book for a byte that stands there
-pub data Fault : ℕ → Type 0 where
-  bad-mark : Fault mark
-  extra-byte : Fault extra
-  over-limit : Fault limit
-  not-a-symbol : Fault symbol
 
 -- the answer to some continuation of the bytes is a grammar
 pub record Goes (answer : List ℕ → Spelling) (bs : List ℕ) : Type 0 where
@@ -24,23 +19,23 @@ pub record Goes (answer : List ℕ → Spelling) (bs : List ℕ) : Type 0 where
   pub read : answer (bs ++ more) ≡ reads to
 
 -- an answer to bytes from the place `at` on that the first bad or missing byte decides
-pub data Decided (answer : List ℕ → Spelling) (at : ℕ) (bs : List ℕ) : Spelling → Type 0 where
-  whole : {g : Grammar} → Decided answer at bs (reads g)
-  ended : (k : ℕ) → k ≡ at + length bs → Goes answer bs → Decided answer at bs (refused short k)
+pub data FirstDecides (answer : List ℕ → Spelling) (at : ℕ) (bs : List ℕ) : Spelling → Type 0 where
+  whole : {g : Grammar} → FirstDecides answer at bs (reads g)
+  ended : (k : ℕ) → k ≡ at + length bs → Goes answer bs → FirstDecides answer at bs (refused short k)
   stopped : {n : ℕ} (k : ℕ) → Fault n → (used : List ℕ) (b : ℕ) (rest : List ℕ) → bs ≡ used ++ (b ∷ rest) → k ≡ at + length used → Goes answer used
-      → ((others : List ℕ) → answer (used ++ (b ∷ others)) ≡ refused n k) → Decided answer at bs (refused n k)
+      → ((others : List ℕ) → answer (used ++ (b ∷ others)) ≡ refused n k) → FirstDecides answer at bs (refused n k)
 
 -- the reader's answers are such, and there are bytes that it reads
 record Orderly (r : Rest) : Type 0 where
   goes : (at : ℕ) → Goes (λ bs. r bs at) []
-  judged : (bs : List ℕ) (at : ℕ) → Decided (λ bs. r bs at) at bs (r bs at)
+  judged : (bs : List ℕ) (at : ℕ) → FirstDecides (λ bs. r bs at) at bs (r bs at)
 
 -- one byte more in front
 module _ {answer next : List ℕ → Spelling} {b : ℕ} (on : (bs : List ℕ) → answer (b ∷ bs) ≡ next bs) where
   goes-before : {bs : List ℕ} → Goes next bs → Goes answer (b ∷ bs)
   goes-before {bs} g = record { more = g .more; to = g .to; read = on (bs ++ g .more) ∙ g .read }
 
-  judged-before : {at : ℕ} {bs : List ℕ} {x : Spelling} → Decided next (suc at) bs x → Decided answer at (b ∷ bs) x
+  judged-before : {at : ℕ} {bs : List ℕ} {x : Spelling} → FirstDecides next (suc at) bs x → FirstDecides answer at (b ∷ bs) x
   judged-before whole = whole
   judged-before (ended k place g) = ended k (omega arith) (goes-before g)
   judged-before (stopped k fault used c rest split place g all) =
@@ -53,11 +48,11 @@ module _ {A : Type 0} {byte : A → ℕ} {Fine : A → Type 0} {next : A → Res
       goes : (at : ℕ) → Goes (λ bs. r bs at) []
       goes at = let g = h a fine .goes (suc at) in record { more = byte a ∷ g .more; to = g .to; read = t .goes a fine (g .more) at ∙ g .read }
 
-      by-look : {b : ℕ} → Look byte Fine next n r b → (bs : List ℕ) (at : ℕ) → Decided (λ bs. r bs at) at (b ∷ bs) (r (b ∷ bs) at)
+      by-look : {b : ℕ} → Look byte Fine next n r b → (bs : List ℕ) (at : ℕ) → FirstDecides (λ bs. r bs at) at (b ∷ bs) (r (b ∷ bs) at)
       by-look (taken a fine) bs at = rw (t .goes a fine bs at) (judged-before (λ bs. t .goes a fine bs at) (h a fine .judged bs (suc at)))
       by-look (turned b stops) bs at = rw (stops bs at) (stopped at fault [] b bs refl (omega arith) (goes at) (λ others. stops others at))
 
-      judged : (bs : List ℕ) (at : ℕ) → Decided (λ bs. r bs at) at bs (r bs at)
+      judged : (bs : List ℕ) (at : ℕ) → FirstDecides (λ bs. r bs at) at bs (r bs at)
       judged [] at = rw (t .missing at) (ended at (omega arith) (goes at))
       judged (b ∷ bs) at = by-look (t .look b) bs at
 
@@ -79,7 +74,7 @@ records-orderly T N zero some-token some-nonterminal h = h []
 records-orderly T N (suc p) some-token some-nonterminal h =
     marked-orderly 80 82
     (takes-orderly (wanted-takes 0 N symbol) not-a-symbol 0 (omega arith) λ A _.
-    takes-orderly (wanted-takes 0 17 limit) over-limit 0 (omega arith) λ l _.
+    takes-orderly (wanted-takes 0 (suc mostSymbols) limit) over-limit 0 (omega arith) λ l _.
     symbols-orderly T N l some-token λ form.
     records-orderly T N p some-token some-nonterminal λ ps. h (record { left = A; right = form } ∷ ps))
 
@@ -90,25 +85,25 @@ ending-orderly g = record { goes = goes; judged = judged }
     goes : (at : ℕ) → Goes (λ bs. ending g bs at) []
     goes at = record { more = []; to = g; read = refl }
 
-    judged : (bs : List ℕ) (at : ℕ) → Decided (λ bs. ending g bs at) at bs (ending g bs at)
+    judged : (bs : List ℕ) (at : ℕ) → FirstDecides (λ bs. ending g bs at) at bs (ending g bs at)
     judged [] at = whole
     judged (b ∷ bs) at = stopped at extra-byte [] b bs refl (omega arith) (goes at) (λ others. refl)
 
 -- what a book spells is decided by the first bad or missing byte
-pub spells-decided : (b : List ℕ) → Decided spells 0 b (spells b)
+pub spells-decided : (b : List ℕ) → FirstDecides spells 0 b (spells b)
 unfolding spells
 spells-decided b =
     let order =
     marked-orderly 71 82
-    (takes-orderly (wanted-takes 1 63 limit) over-limit 1 (omega arith) λ T tokens.
-    takes-orderly (wanted-takes 1 65 limit) over-limit 1 (omega arith) λ N nonterminals.
+    (takes-orderly (wanted-takes 1 (suc mostTokens) limit) over-limit 1 (omega arith) λ T tokens.
+    takes-orderly (wanted-takes 1 (suc mostNonterminals) limit) over-limit 1 (omega arith) λ N nonterminals.
     takes-orderly (wanted-takes 0 N limit) over-limit 0 (omega arith) λ start _.
-    takes-orderly (wanted-takes 1 129 limit) over-limit 1 (omega arith) λ P _.
+    takes-orderly (wanted-takes 1 (suc mostProductions) limit) over-limit 1 (omega arith) λ P _.
     records-orderly T N P (tokens .0) (nonterminals .0) λ ps.
     ending-orderly (record { tokens = T; nonterminals = N; start = start; productions = ps })) in
     order .judged b 0
 
-pub decided-as : (b : List ℕ) {x : Spelling} → spells b ≡ x → Decided spells 0 b x
+pub decided-as : (b : List ℕ) {x : Spelling} → spells b ≡ x → FirstDecides spells 0 b x
 decided-as b e = rw e at (spells-decided b)
 
 pub continued : {b : List ℕ} → Goes spells b → Continued b

@@ -1,15 +1,16 @@
 -- A refusal's place: the bytes before it can be continued to a book that reads, and with the byte at it they cannot.
 use mathlib.Core.Path.{_≡_, refl, _∙_, ap}
-use mathlib.Core.Logic.{_≢_, _⊎_, inl, inr}
+use mathlib.Core.Logic.{_≢_, inl, inr}
 use mathlib.Core.List.{List, [], _∷_, _++_, append-assoc}
-use Prim.Native.Nat.{ℕ, suc, _+_, _≤_, _<_}
+use Prim.Native.Nat.{ℕ, suc, _+_}
 use native.Mathlib.Omega.{arith}
 use lib.ListN.{length, take, length-append}
 use lib.Seq.{take-at, take-append-add}
 use Rattle.answers.specs.Refusals.{short}
 use Rattle.reader.specs.Book.{refused, reads, spells, Continued}
+use Rattle.reader.specs.Faults.{Fault, bad-mark, extra-byte, over-limit, not-a-symbol, Refusal}
 use Rattle.reader.proofs.Bytes.{refused-not-reads}
-use Rattle.reader.proofs.Order.{Fault, bad-mark, extra-byte, over-limit, not-a-symbol, Decided, ended, stopped, decided-as, continued}
+use Rattle.reader.proofs.Order.{FirstDecides, ended, stopped, decided-as, continued}
 
 fault-not-short : {n : ℕ} → Fault n → n ≢ short
 fault-not-short bad-mark e = omega arith
@@ -17,16 +18,10 @@ fault-not-short extra-byte e = omega arith
 fault-not-short over-limit e = omega arith
 fault-not-short not-a-symbol e = omega arith
 
--- a refusal's number, and that its place is in the book, or at its end for a missing byte
-pub record Refusal (b : List ℕ) (n k : ℕ) : Type 0 where
-  pub kind : (n ≡ short) ⊎ Fault n
-  pub within : k ≤ length b
-  pub inside : n ≢ short → k < length b
-
 pub refused-kinds : (b : List ℕ) {n k : ℕ} → spells b ≡ refused n k → Refusal b n k
 refused-kinds b e = by-judged (decided-as b e)
   where
-    by-judged : {n k : ℕ} → Decided spells 0 b (refused n k) → Refusal b n k
+    by-judged : {n k : ℕ} → FirstDecides spells 0 b (refused n k) → Refusal b n k
     by-judged (ended k place g) = record { kind = inl refl; within = omega arith; inside = λ other. absurd (other refl) }
     by-judged (stopped k fault used c rest split place g all) =
         let long : length b ≡ length used + suc (length rest) = ap length split ∙ length-append used (c ∷ rest) in
@@ -36,7 +31,7 @@ refused-kinds b e = by-judged (decided-as b e)
 pub book-short : (b : List ℕ) {k : ℕ} → spells b ≡ refused short k → (k ≡ length b) × Continued b
 book-short b e = by-judged (decided-as b e) refl
   where
-    by-judged : {n k : ℕ} → Decided spells 0 b (refused n k) → n ≡ short → (k ≡ length b) × Continued b
+    by-judged : {n k : ℕ} → FirstDecides spells 0 b (refused n k) → n ≡ short → (k ≡ length b) × Continued b
     by-judged (ended k place g) _ = (omega arith, continued g)
     by-judged (stopped k fault used c rest split place g all) e = absurd (fault-not-short fault e)
 
@@ -44,7 +39,7 @@ book-short b e = by-judged (decided-as b e) refl
 pub book-place : (b : List ℕ) {n k : ℕ} → spells b ≡ refused n k → n ≢ short → Continued (take k b) × (¬ Continued (take (suc k) b))
 book-place b e = by-judged (decided-as b e)
   where
-    by-judged : {n k : ℕ} → Decided spells 0 b (refused n k) → n ≢ short → Continued (take k b) × (¬ Continued (take (suc k) b))
+    by-judged : {n k : ℕ} → FirstDecides spells 0 b (refused n k) → n ≢ short → Continued (take k b) × (¬ Continued (take (suc k) b))
     by-judged (ended k place g) other = absurd (other refl)
     by-judged (stopped k fault used c rest split place g all) _ =
         let before : take k b ≡ used = rw split (take-at used (c ∷ rest) k (omega arith)) in

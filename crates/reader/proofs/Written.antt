@@ -6,14 +6,15 @@ use native.Mathlib.Omega.{arith}
 use lib.ListN.{length}
 use Rattle.grammar.specs.Grammar.{Form, Production, Grammar, Rule, Every, nothing, each}
 use Rattle.grammar.proofs.Every.{at-every, every-at, every-map}
+use Rattle.answers.specs.Limits.{mostTokens, mostNonterminals, mostProductions, mostSymbols}
 use Rattle.answers.specs.Refusals.{mark, limit, symbol}
 use Rattle.reader.specs.Book.{Spelling, reads, Rest, marked, symbols, records, ending, spells, byteOf, recordBytes, recordsBytes, bytesOf, Limits}
 use Rattle.reader.proofs.Bytes.{refused-not-reads, Spelled, Look, taken, turned, Takes, wanted-takes, symbols-takes, wanted-taken, marked-taken, symbolOf-byteOf, symbolOf-known}
 
 -- a production that a record can hold
-record Held (T N : ℕ) (r : Production) : Type 0 where
+record Recordable (T N : ℕ) (r : Production) : Type 0 where
   left-known : r .left < N
-  length-fits : length (r .right) ≤ 16
+  length-fits : length (r .right) ≤ mostSymbols
   right-spelled : Every (Spelled T N) (r .right)
 
 module _ (T N : ℕ) where
@@ -23,7 +24,7 @@ module _ (T N : ℕ) where
   symbols-written nothing next bs h at = h at
   symbols-written (each {x = s} e es) next bs h at = rw (e, symbols) (symbols-written es (λ form. next (s ∷ form)) bs h (suc at))
 
-  records-written : {ps : List Production} → Every (Held T N) ps → (next : List Production → Rest) (bs : List ℕ) {x : Spelling} → ((at : ℕ) → next ps bs at ≡ x)
+  records-written : {ps : List Production} → Every (Recordable T N) ps → (next : List Production → Rest) (bs : List ℕ) {x : Spelling} → ((at : ℕ) → next ps bs at ≡ x)
       → (at : ℕ) → records T N (length ps) next (recordsBytes ps ++ bs) at ≡ x
   unfolding records recordsBytes recordBytes
   records-written nothing next bs h at = h at
@@ -31,12 +32,12 @@ module _ (T N : ℕ) where
       let low : 0 ≤ r .left = omega arith in
       let known : r .left < N = held .left-known in
       let any : 0 ≤ length (r .right) = omega arith in
-      let fits : length (r .right) < 17 = omega (arith, held .length-fits) in
+      let fits : length (r .right) < suc mostSymbols = omega (arith, held .length-fits) in
       simp (marked-taken, wanted-taken, append-assoc)
       (symbols-written (held .right-spelled) (λ form. records T N (length ps) (λ tail. next (record { left = r .left; right = form } ∷ tail))) (recordsBytes ps ++ bs) (records-written rest (λ tail. next (r ∷ tail)) bs h) _)
 
 -- each production of a grammar within the limits can be held by a record
-every-held : {g : Grammar} → Limits g → Every (Held (g .tokens) (g .nonterminals)) (g .productions)
+every-held : {g : Grammar} → Limits g → Every (Recordable (g .tokens) (g .nonterminals)) (g .productions)
 every-held {g} limits =
     at-every
     (g .productions)
@@ -52,10 +53,10 @@ every-held {g} limits =
 pub read-written : {g : Grammar} → Limits g → spells (bytesOf g) ≡ reads g
 unfolding spells bytesOf ending
 read-written {g} limits =
-    let tokens : g .tokens < 63 = omega (arith, limits .tokens-fit) in
-    let nonterminals : g .nonterminals < 65 = omega (arith, limits .nonterminals-fit) in
+    let tokens : g .tokens < suc mostTokens = omega (arith, limits .tokens-fit) in
+    let nonterminals : g .nonterminals < suc mostNonterminals = omega (arith, limits .nonterminals-fit) in
     let start : 0 ≤ g .start = omega arith in
-    let productions : length (g .productions) < 129 = omega (arith, limits .productions-fit) in
+    let productions : length (g .productions) < suc mostProductions = omega (arith, limits .productions-fit) in
     simp (marked-taken, wanted-taken, limits .some-token, limits .some-nonterminal, limits .well-formed .start-known, limits .some-production)
     (rw append-nil at (records-written (g .tokens) (g .nonterminals) (every-held limits) (λ ps. ending (record { tokens = g .tokens; nonterminals = g .nonterminals; start = g .start; productions = ps })) [] (λ at. refl) 6))
 
@@ -92,16 +93,16 @@ marked-only one other h =
     rw (first, second) h
 
 records-only : (T N p : ℕ) {next : List Production → Rest} {W : List ℕ → Grammar → Type 0}
-    → ((ps : List Production) → length ps ≡ p → Every (Held T N) ps → Only (next ps) (λ bs. W (recordsBytes ps ++ bs))) → Only (records T N p next) W
+    → ((ps : List Production) → length ps ≡ p → Every (Recordable T N) ps → Only (next ps) (λ bs. W (recordsBytes ps ++ bs))) → Only (records T N p next) W
 unfolding records recordsBytes recordBytes
 records-only T N zero h = h [] refl nothing
 records-only T N (suc p) h =
     marked-only 80 82
     (takes-only (wanted-takes 0 N symbol) λ A known.
-    takes-only (wanted-takes 0 17 limit) λ l fits.
+    takes-only (wanted-takes 0 (suc mostSymbols) limit) λ l fits.
     symbols-only T N l λ form same spelled.
     records-only T N p λ ps count held.
-    let kept : Held T N (record { left = A; right = form }) = record { left-known = known .1; length-fits = omega arith; right-spelled = spelled } in
+    let kept : Recordable T N (record { left = A; right = form }) = record { left-known = known .1; length-fits = omega arith; right-spelled = spelled } in
     record { holds = λ bs at g e. rw (append-assoc, same) at (h (record { left = A; right = form } ∷ ps) (ap suc count) (each kept held) .holds bs at g e) })
 
 ending-only : (h : Grammar) {W : List ℕ → Grammar → Type 0} → W [] h → Only (ending h) W
@@ -113,8 +114,8 @@ ending-only h {W} w = record { holds = by-bytes }
     by-bytes (b ∷ bs) at g e = absurd (refused-not-reads refl e)
 
 -- a grammar with its numbers in range, and with productions that records can hold, is within the limits
-held-limits : (g : Grammar) → (1 ≤ g .tokens) × (g .tokens < 63) → (1 ≤ g .nonterminals) × (g .nonterminals < 65) → g .start < g .nonterminals
-    → (1 ≤ length (g .productions)) × (length (g .productions) < 129) → Every (Held (g .tokens) (g .nonterminals)) (g .productions) → Limits g
+held-limits : (g : Grammar) → (1 ≤ g .tokens) × (g .tokens < suc mostTokens) → (1 ≤ g .nonterminals) × (g .nonterminals < suc mostNonterminals) → g .start < g .nonterminals
+    → (1 ≤ length (g .productions)) × (length (g .productions) < suc mostProductions) → Every (Recordable (g .tokens) (g .nonterminals)) (g .productions) → Limits g
 held-limits g tokens nonterminals start count held =
     record {
       some-token = tokens .0;
@@ -135,10 +136,10 @@ spells-only : (b : List ℕ) (g : Grammar) → spells b ≡ reads g → (b ≡ b
 unfolding spells bytesOf ending
 spells-only b g e =
     let all : Only _ (λ bs g. (bs ≡ bytesOf g) × Limits g) = marked-only 71 82
-    (takes-only (wanted-takes 1 63 limit) λ T tokens.
-    takes-only (wanted-takes 1 65 limit) λ N nonterminals.
+    (takes-only (wanted-takes 1 (suc mostTokens) limit) λ T tokens.
+    takes-only (wanted-takes 1 (suc mostNonterminals) limit) λ N nonterminals.
     takes-only (wanted-takes 0 N limit) λ start known.
-    takes-only (wanted-takes 1 129 limit) λ P count.
+    takes-only (wanted-takes 1 (suc mostProductions) limit) λ P count.
     records-only T N P λ ps same held.
     ending-only (record { tokens = T; nonterminals = N; start = start; productions = ps })
     (rw (append-nil, same), held-limits _ tokens nonterminals (known .1) (omega arith) held)) in

@@ -9,6 +9,7 @@ use lib.Seq.{sets}
 use Rattle.grammar.specs.Grammar.{Form}
 use Rattle.grammar.specs.declared.Symbol.{Symbol}
 use Rattle.grammar.specs.declared.Symbol.the-variants.{Token, Nonterminal}
+use Rattle.answers.specs.Limits.{mostProductions}
 
 -- a token below 128, else the nonterminal 128 less
 unfoldable pub symbolOfByte : ℕ → Symbol
@@ -42,7 +43,7 @@ placesFrom b (suc count) p = placeOfRecord b p ∷ placesFrom b count (suc p)
 
 -- the places of the first records, at most 128, and 0 in each cell beyond them
 unfoldable pub placesOf : List ℕ → ℕ → List ℕ
-placesOf b count = sets (replicate 128 0) 0 (placesFrom b (min count 128) 0)
+placesOf b count = sets (replicate mostProductions 0) 0 (placesFrom b (min count mostProductions) 0)
 
 -- so many bytes from a place on, as symbols
 unfoldable pub formIn : List ℕ → (from count : ℕ) → Form

@@ -1,4 +1,5 @@
 pub mod Book
+pub mod Faults
 pub mod Fields
 pub mod Verdicts
 pub mod Positional

@@ -5,6 +5,7 @@ use mathlib.Core.List.{List}
 use Prim.Native.Nat.{ℕ, zero, suc, _+_, _-_}
 use lib.Dec.{leb, ltb}
 use lib.ListN.{length, getD}
+use Rattle.answers.specs.Limits.{mostTokens, mostNonterminals, mostProductions, mostSymbols}
 use Rattle.answers.specs.Refusals.{short, mark, extra, limit, symbol}
 use Rattle.reader.specs.declared.Verdict.{Verdict}
 use Rattle.reader.specs.declared.Verdict.the-variants.{Next, Bad}
@@ -31,7 +32,11 @@ withinAt b low high at = ltb at (length b) && within low high (getD b at 0)
 
 -- the byte at a place is missing, right or wrong
 unfoldable pub checkedAt : List ℕ → Bool → ℕ → ℕ → Verdict
-checkedAt b right refusal at = elim (ltb at (length b)) [ true ↦ elim right [ true ↦ Next (at + 1) | false ↦ Bad refusal at ] | false ↦ Bad short (length b) ]
+checkedAt b right refusal at =
+    elim (ltb at (length b)) [
+      | true ↦ elim right [ true ↦ Next (at + 1) | false ↦ Bad refusal at ]
+      | false ↦ Bad short (length b)
+    ]
 
 unfoldable pub wantedFrom : List ℕ → (low high refusal : ℕ) → Verdict → Verdict
 wantedFrom b low high refusal v = andThen v λ at. checkedAt b (within low high (getD b at 0)) refusal at
@@ -48,11 +53,15 @@ markedFrom b one other v = wantedFrom b other (suc other) mark (wantedFrom b one
 
 -- the length of a right side, then its symbols
 unfoldable pub rightFrom : List ℕ → (T N : ℕ) → Verdict → Verdict
-rightFrom b T N v = symbolsFrom b T N (nextByte b v) (wantedFrom b 0 17 limit v)
+rightFrom b T N v = symbolsFrom b T N (nextByte b v) (wantedFrom b 0 (suc mostSymbols) limit v)
 
 -- the four bytes from a place on begin a record: `PR`, a left side, the length of a right side
 unfoldable pub headAt : List ℕ → (N : ℕ) → ℕ → Bool
-headAt b N at = ltb (at + 3) (length b) && (within 80 81 (getD b at 0) && (within 82 83 (getD b (at + 1) 0) && (within 0 N (getD b (at + 2) 0) && within 0 17 (getD b (at + 3) 0))))
+headAt b N at =
+    ltb (at + 3) (length b)
+    && (within 80 81 (getD b at 0)
+    && (within 82 83 (getD b (at + 1) 0)
+    && (within 0 N (getD b (at + 2) 0) && within 0 (suc mostSymbols) (getD b (at + 3) 0))))
 
 unfoldable pub recordFrom : List ℕ → (T N : ℕ) → Verdict → Verdict
 recordFrom b T N v = rightFrom b T N (wantedFrom b 0 N symbol (markedFrom b 80 82 v))
@@ -64,10 +73,10 @@ eachRecordFrom b T N (suc p) v = eachRecordFrom b T N p (recordFrom b T N v)
 -- the header at a place, whose fourth byte is N
 unfoldable pub headerFrom : List ℕ → ℕ → Verdict
 headerFrom b at =
-    wantedFrom b 1 129 limit
+    wantedFrom b 1 (suc mostProductions) limit
     (wantedFrom b 0 (getD b (at + 3) 0) limit
-    (wantedFrom b 1 65 limit
-    (wantedFrom b 1 63 limit
+    (wantedFrom b 1 (suc mostNonterminals) limit
+    (wantedFrom b 1 (suc mostTokens) limit
     (markedFrom b 71 82 (Next at)))))
 
 -- a byte is wanted where the book ends, unless it was refused

@@ -5,12 +5,12 @@ use Prim.Native.Nat.{ℕ}
 use denote.Ref.{RefT}
 use Rattle.reader.specs.declared.Reader.{Reader}
 use Rattle.reader.specs.declared.Verdict.{Verdict}
-use Rattle.reader.specs.Verdicts.{placeOf}
+use Rattle.reader.specs.Verdicts.{verdictPlace}
 
 -- at the front of the book
-abbrev pub opened : RefT (List ℕ) → Reader
-opened book = record { book = book; at = 0 }
+abbrev pub atFront : RefT (List ℕ) → Reader
+atFront book = record { book = book; at = 0 }
 
 -- the same book, at the place that a verdict names
 abbrev pub movedTo : Reader → Verdict → Reader
-movedTo r v = record { book = r .book; at = placeOf v }
+movedTo r v = record { book = r .book; at = verdictPlace v }

@@ -8,14 +8,14 @@ use Rattle.reader.specs.declared.Verdict.{Verdict}
 use Rattle.reader.specs.declared.Verdict.the-variants.{Next, Bad}
 
 -- the verdict on so many bytes that come to a spelling
-unfoldable pub told : ℕ → Spelling → Verdict
-told size (refused number place) = Bad number place
-told size (reads g) = Next size
+unfoldable pub verdictOn : ℕ → Spelling → Verdict
+verdictOn size (refused number place) = Bad number place
+verdictOn size (reads g) = Next size
 
 unfoldable pub verdictOf : List ℕ → Verdict
-verdictOf b = told (length b) (spells b)
+verdictOf b = verdictOn (length b) (spells b)
 
 -- the place that a verdict names
-unfoldable pub placeOf : Verdict → ℕ
-placeOf (Next at) = at
-placeOf (Bad number place) = place
+unfoldable pub verdictPlace : Verdict → ℕ
+verdictPlace (Next at) = at
+verdictPlace (Bad number place) = place

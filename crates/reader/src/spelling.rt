@@ -1,12 +1,12 @@
 // The bytes of a book judged from the front: refusals 1 to 5.
 ghost use mathlib.Core.Path.{_≡_};
 ghost use mathlib.Core.Bool.{false};
-ghost use Prim.Native.Nat.{ℕ, _+_, _-_, _≤_};
+ghost use Prim.Native.Nat.{ℕ, suc, _+_, _-_, _≤_};
 ghost use lib.Dec.{ltb};
 ghost use Rattle.reader.specs.declared.Verdict.the-variants.{Next};
-ghost use Rattle.reader.specs.Verdicts.{placeOf};
-ghost use Rattle.reader.specs.Positional.{within, withinAt, checkedAt, symbolsFrom, cutOff, headAt, recordFrom, eachRecordFrom};
-ghost use Rattle.reader.specs.Positional.{headerFrom, recordsFrom, endFrom};
+ghost use Rattle.reader.specs.Verdicts.{verdictPlace};
+ghost use Rattle.reader.specs.Positional.{within, withinAt, checkedAt, symbolsFrom, cutOff, headAt, recordFrom};
+ghost use Rattle.reader.specs.Positional.{eachRecordFrom, headerFrom, recordsFrom, endFrom};
 use crate::Verdict;
 use crate::fields::LEFT;
 use crate::fields::LENGTH;
@@ -17,6 +17,10 @@ use crate::fields::SYMBOLS;
 use crate::fields::TOKENS;
 use crate::fields::byte_at;
 use crate::fields::is_symbol;
+use answers::limits::MOST_NONTERMINALS;
+use answers::limits::MOST_PRODUCTIONS;
+use answers::limits::MOST_SYMBOLS;
+use answers::limits::MOST_TOKENS;
 use answers::refusals::EXTRA;
 use answers::refusals::LIMIT;
 use answers::refusals::MARK;
@@ -25,7 +29,7 @@ use answers::refusals::SYMBOL;
 
 // The place that a verdict names.
 pub(crate) fn place_of(v: Verdict) -> usize
-    ensures { λ r. ⌜ r ≡ placeOf v ⌝ }
+    ensures { λ r. ⌜ r ≡ verdictPlace v ⌝ }
 {
     match v {
         Verdict::Next(at) => at,
@@ -37,29 +41,35 @@ pub(crate) fn place_of(v: Verdict) -> usize
 fn stands(book: &[u8], at: usize, more: usize) -> bool
     ensures { λ r. do ⌜ r ≡ ltb (at + more) (← ⟦book.len()⟧ .entry) ⌝ }
 {
-    if at < book.len() {
-        more < book.len() - at
-    } else {
-        false
-    }
+    at < book.len() && more < book.len() - at
 }
 
 // The byte lies in `low .. high`.
 fn lies_in(byte: u8, low: u8, high: u8) -> bool
     ensures { λ r. ⌜ r ≡ within low high byte ⌝ }
 {
-    if low <= byte { byte < high } else { false }
+    low <= byte && byte < high
+}
+
+// The byte is the one wanted.
+fn is_byte(byte: u8, wanted: u8) -> bool
+    ensures { λ r. ⌜ r ≡ within wanted (suc wanted) byte ⌝ }
+{
+    byte == wanted
 }
 
 // The book has a byte at place `at + more`, and it lies in `low .. high`.
 fn is_within(book: &[u8], at: usize, more: usize, low: u8, high: u8) -> bool
     ensures { λ r. ⌜ r ≡ withinAt (now (book .entry)) low high (at + more) ⌝ }
 {
-    if stands(book, at, more) {
-        lies_in(book[at + more], low, high)
-    } else {
-        false
-    }
+    stands(book, at, more) && lies_in(book[at + more], low, high)
+}
+
+// The book has this byte at place `at + more`.
+fn is_mark(book: &[u8], at: usize, more: usize, wanted: u8) -> bool
+    ensures { λ r. ⌜ r ≡ withinAt (now (book .entry)) wanted (suc wanted) (at + more) ⌝ }
+{
+    stands(book, at, more) && is_byte(book[at + more], wanted)
 }
 
 // The refusal for the byte at place `at + more`, which is missing or wrong.
@@ -118,16 +128,16 @@ fn is_head(book: &[u8], at: usize, n: u8) -> bool
     if !stands(book, at, LENGTH) {
         return false;
     }
-    if !lies_in(book[at], b'P', b'P' + 1) {
+    if !is_byte(book[at], b'P') {
         return false;
     }
-    if !lies_in(book[at + 1], b'R', b'R' + 1) {
+    if !is_byte(book[at + 1], b'R') {
         return false;
     }
     if !lies_in(book[at + LEFT], 0, n) {
         return false;
     }
-    lies_in(book[at + LENGTH], 0, 17)
+    lies_in(book[at + LENGTH], 0, MOST_SYMBOLS + 1)
 }
 
 // The refusal for the first of the four bytes from `at` on that is missing or wrong.
@@ -135,10 +145,10 @@ fn refused_head(book: &[u8], at: usize, n: u8) -> Verdict
     requires { ⌜ headAt (now book) n at ≡ false ⌝ }
     ensures { λ r. ⌜ ((T : ℕ) → r ≡ recordFrom (now (book .entry)) T n (Next at)) ⌝ }
 {
-    if !is_within(book, at, 0, b'P', b'P' + 1) {
+    if !is_mark(book, at, 0, b'P') {
         return refused(book, MARK, at, 0);
     }
-    if !is_within(book, at, 1, b'R', b'R' + 1) {
+    if !is_mark(book, at, 1, b'R') {
         return refused(book, MARK, at, 1);
     }
     if !is_within(book, at, LEFT, 0, n) {
@@ -179,22 +189,22 @@ fn each_record(book: &[u8], from: usize, t: u8, n: u8, count: u8) -> Verdict
 pub(crate) fn header(book: &[u8], at: usize) -> Verdict
     ensures { λ r. ⌜ r ≡ headerFrom (now (book .entry)) at ⌝ }
 {
-    if !is_within(book, at, 0, b'G', b'G' + 1) {
+    if !is_mark(book, at, 0, b'G') {
         return refused(book, MARK, at, 0);
     }
-    if !is_within(book, at, 1, b'R', b'R' + 1) {
+    if !is_mark(book, at, 1, b'R') {
         return refused(book, MARK, at, 1);
     }
-    if !is_within(book, at, TOKENS, 1, 63) {
+    if !is_within(book, at, TOKENS, 1, MOST_TOKENS + 1) {
         return refused(book, LIMIT, at, TOKENS);
     }
-    if !is_within(book, at, NONTERMINALS, 1, 65) {
+    if !is_within(book, at, NONTERMINALS, 1, MOST_NONTERMINALS + 1) {
         return refused(book, LIMIT, at, NONTERMINALS);
     }
     if !is_within(book, at, START, 0, byte_at(book, at, NONTERMINALS)) {
         return refused(book, LIMIT, at, START);
     }
-    if !is_within(book, at, PRODUCTIONS, 1, 129) {
+    if !is_within(book, at, PRODUCTIONS, 1, MOST_PRODUCTIONS + 1) {
         return refused(book, LIMIT, at, PRODUCTIONS);
     }
     Verdict::Next(at + 6)

@@ -1,15 +1,15 @@
 // The reader that carries the book: thin functions over those of `spelling`, and `read` above them.
 ghost use mathlib.Core.Path.{_≡_};
 ghost use Rattle.reader.specs.Positional.{headerFrom, recordsFrom, endFrom};
-ghost use Rattle.reader.specs.Verdicts.{placeOf, verdictOf};
-ghost use Rattle.reader.specs.Reader.{opened, movedTo};
+ghost use Rattle.reader.specs.Verdicts.{verdictOf};
+ghost use Rattle.reader.specs.Reader.{atFront, movedTo};
 use crate::Reader;
 use crate::Verdict;
 use crate::spelling;
 
 // A reader at the front of the book.
 pub(crate) fn new<'a>(book: &'a [u8]) -> Reader<'a>
-    ensures { λ r. ⌜ r ≡ opened (book .entry) ⌝ }
+    ensures { λ r. ⌜ r ≡ atFront (book .entry) ⌝ }
 {
     Reader { book, at: 0 }
 }

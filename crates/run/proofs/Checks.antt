@@ -1,96 +1,72 @@
--- The checks before steps: the table's cells, the tokens, and what a call is refused with.
-use mathlib.Core.Path.{_≡_, refl, sym, _∙_, ap, subst}
+-- The checks before steps: the tokens, and what a call is refused with.
+use mathlib.Core.Path.{_≡_, _∙_, subst}
 use mathlib.Core.Logic.{_≢_}
-use mathlib.Core.Bool.{Bool, true, false}
 use mathlib.Core.List.{List}
-use mathlib.Core.Option.{Option, some, none}
-use Prim.Native.Nat.{ℕ, _+_, _*_, _/_, _≤_, _<_}
-use native.Mathlib.Nat.{div-lt-iff-lt-mul}
+use Prim.Native.Nat.{ℕ, _+_, _≤_, _<_}
 use native.Mathlib.Omega.{arith}
-use lib.Dec.{eqb}
-use lib.ListN.{length, getD, getElem?}
+use lib.ListN.{length, getD}
 use borrow.Author.Count.{below-more}
-use borrow.Author.Tests.{eqb-true, eq-eqb}
-use Rattle.grammar.specs.Grammar.{Form, Production, Grammar, Rule}
-use Rattle.sets.specs.Calls.{Decides}
-use Rattle.sets.proofs.Promise.{decided}
+use Rattle.grammar.specs.Grammar.{Grammar}
 use Rattle.answers.specs.Answers.{done, refusal}
+use Rattle.answers.specs.Limits.{longestString}
 use Rattle.answers.specs.Refusals as refusals
 use Rattle.answers.specs.declared.Answer.{Answer}
-use Rattle.table.specs.Table.{size, rowAt, held}
-use Rattle.machine.specs.Room.{isOf}
-use Rattle.run.specs.Checking.{FirstMisfit, FirstAbove, Checked, barred, admitted}
-use Rattle.run.specs.Moves.{Outlines}
-use Rattle.run.specs.Running.{Fits, vacant, filled, FitTable, Misfit, bad-table, too-long, strange, no-stack}
-use Rattle.run.specs.declared.Outline.{Outline}
-use Rattle.run.proofs.Deciding.{held-vacant, held-filled}
+use Rattle.book.specs.declared.columns.Outline.{Outline}
+use Rattle.book.specs.Columns.{Outlines}
+use Rattle.table.specs.declared.fitting.Fitting.{Fitting}
+use Rattle.table.specs.declared.fitting.Fitting.the-variants.{Fit, MisfitAt}
+use Rattle.table.specs.Fitting.{FitTable, Misfit, TableFitting, fit, misfit}
+use Rattle.run.specs.Checking.{FirstAbove, barred, admitted, CheckedWith}
+use Rattle.run.specs.Running.{FirstStrange, bad-table, too-long, strange, no-stack}
 
-module _ (g : Grammar) (A p : ℕ) where
-  -- a production of A is one by its left side
-  of-rule : isOf g A p ≡ true → (β : Form) × Rule g p A β
-  unfolding isOf
-  of-rule h = go (getElem? (g .productions) p) refl
-    where
-      go : (x : Option Production) → getElem? (g .productions) p ≡ x → (β : Form) × Rule g p A β
-      go none e = let no-left : false ≡ true = rw (e, isOf) at h in let bad : _≡_ {A = ℕ} 0 1 = cc in absurd (omega arith)
-      go (some r) e =
-          let same : eqb (r .left) A ≡ true = rw (e, isOf) at h in
-          (r .right, record { at = e ∙ ap some (λ i. record { left = eqb-true (r .left) A same i; right = r .right }) })
+module _ {g : Grammar} {table : List ℕ} where
+  misfit-place : {f : Fitting} {place : ℕ} → TableFitting g table f → f ≡ MisfitAt place → Misfit g table place
+  misfit-place {place = place} (fit whole) e = let bad : _≡_ {A = ℕ} 0 1 = cc in absurd (omega arith)
+  misfit-place {place = place} (misfit {k = k} m) e =
+      let same : k ≡ place = cc in
+      subst (λ (i : ℕ). Misfit g table i) same m
 
-  rule-of : {β : Form} → Rule g p A β → isOf g A p ≡ true
-  unfolding isOf
-  rule-of rule = rw (rule .at, isOf) (eq-eqb A A refl)
+  fit-table : {f : Fitting} → TableFitting g table f → f ≡ Fit → FitTable g table
+  fit-table (fit whole) e = whole
+  fit-table (misfit m) e = let bad : _≡_ {A = ℕ} 0 1 = cc in absurd (omega arith)
 
-module _ (g : Grammar) (table : List ℕ) (i : ℕ) {cell : ℕ} (there : cell ≡ getD table i 255) where
-  pub vacant-fits : cell ≡ 255 → Fits g table i
-  vacant-fits e = vacant (held-vacant (ap held there) e)
+-- every token before the first that is T or above is below T
+below : {o : Outline} {g : Grammar} {tokens : List ℕ} {k : ℕ}
+    → Outlines o g
+    → FirstAbove (o .tokens) tokens k
+    → (j : ℕ)
+    → j < k
+    → getD tokens j 0 < g .tokens
+below sized above j h = rw (sized .tokens) (above .earlier j h)
 
-  pub filled-fits : {r : Bool} (row : ℕ) → cell ≢ 255 → r ≡ isOf g row cell → row ≡ rowAt g i → Decides r (Fits g table i)
-  filled-fits {r} row n e same = decided r fits told
-    where
-      holds : held (getD table i 255) ≡ some cell
-      holds = held-filled (ap held there) n
+module _ {g : Grammar} {table : List ℕ} {f : Fitting} (fitting : TableFitting g table f) {tokens : List ℕ} {cells : ℕ} {r : Answer} where
+  pub check-table : {place : ℕ} → f ≡ MisfitAt place → r ≡ refusal refusals.table place 0 → CheckedWith g table tokens cells r
+  check-table m e = record { checked = λ stack all. rw e (barred (bad-table (misfit-place fitting m))) }
 
-      fits : r ≡ true → Fits g table i
-      fits t = let (β, rule) = of-rule g row cell (sym e ∙ t) in filled holds (subst (λ (A : ℕ). Rule g cell A β) same rule)
+  module _ (fits : f ≡ Fit) where
+    pub check-long : longestString < length tokens → r ≡ refusal refusals.limit longestString 0 → CheckedWith g table tokens cells r
+    check-long h e = record { checked = λ stack all. rw e (barred (too-long (fit-table fitting fits) h)) }
 
-      told : Fits g table i → r ≡ true
-      told (vacant f) = let h = holds in let bad : _≡_ {A = ℕ} 0 1 = cc in absurd (omega arith)
-      told (filled {p = q} {β = β} f rule) =
-          let h = holds in
-          let number : q ≡ cell = cc in
-          e ∙ rule-of g row cell (subst (λ (A : ℕ). Rule g cell A β) (sym same) (subst (λ (n : ℕ). Rule g n (rowAt g i) β) number rule))
+    module _ (short : length tokens ≤ longestString) {o : Outline} (sized : Outlines o g) {k : ℕ} (above : FirstAbove (o .tokens) tokens k) where
+      pub check-strange : k < length tokens → r ≡ refusal refusals.token k 0 → CheckedWith g table tokens cells r
+      check-strange h e =
+          let first : FirstStrange g tokens k = record { inside = h; strange = rw (sized .tokens) (above .above h); earlier = below sized above } in
+          record { checked = λ stack all. rw e (barred (strange (fit-table fitting fits) short first)) }
 
--- the row of a cell of the table
-pub row-below : (i n t : ℕ) → i < n * (t + 1) → i / (t + 1) < n
-row-below i n t h = div-lt-iff-lt-mul {k = t + 1} (omega arith) .1 h
+      module _ (over : length tokens ≤ k) where
+        pub check-no-stack : cells ≡ 0 → r ≡ refusal refusals.room 0 refusals.stackRoom → CheckedWith g table tokens cells r
+        check-no-stack h e =
+            record {
+              checked = λ stack all. rw e (barred (no-stack (fit-table fitting fits) short (λ j l. below sized above j (omega arith)) (all ∙ h)));
+            }
 
-size-is : {o : Outline} {g : Grammar} → Outlines o g → o .nonterminals * (o .tokens + 1) ≡ size g
-size-is sized = rw (sized .tokens, sized .nonterminals)
-
-fit-table : {g : Grammar} {table : List ℕ} {i : ℕ} → length table ≡ size g → FirstMisfit g table i → length table ≤ i → FitTable g table
-fit-table all first over = record { sized = all; cells = λ j h. first .earlier j (omega arith) }
-
-module _ {o : Outline} {g : Grammar} (sized : Outlines o g) {table tokens stack : List ℕ} {r : Answer} {n : ℕ} (size-of : n ≡ o .nonterminals * (o .tokens + 1)) where
-  pub check-length : length table ≢ n → r ≡ refusal refusals.table (length table) 0 → Checked g table tokens stack r
-  check-length other e = rw e (barred (bad-table (Misfit.length-given (λ f. other (f ∙ sym (size-of ∙ size-is sized))))))
-
-  module _ (sizes : length table ≡ n) {i : ℕ} (first : FirstMisfit g table i) where
-    pub check-cell : i < length table → r ≡ refusal refusals.table i 0 → Checked g table tokens stack r
-    check-cell h e = let all : length table ≡ size g = sizes ∙ size-of ∙ size-is sized in rw e (barred (bad-table (Misfit.cell {i = i} all (omega arith) (first .misfit h) (first .earlier))))
-
-    pub check-long : length table ≤ i → 4096 < length tokens → r ≡ refusal refusals.limit 4096 0 → Checked g table tokens stack r
-    check-long over h e = rw e (barred (too-long (fit-table (sizes ∙ size-of ∙ size-is sized) first over) h))
-
-    module _ (over : length table ≤ i) (short : length tokens ≤ 4096) {k : ℕ} (above : FirstAbove (o .tokens) tokens k) where
-      pub check-strange : k < length tokens → r ≡ refusal refusals.token k 0 → Checked g table tokens stack r
-      check-strange h e = rw e (barred (strange (fit-table (sizes ∙ size-of ∙ size-is sized) first over) short (record { inside = h; strange = rw (sized .tokens) (above .above h); earlier = λ j l. rw (sized .tokens) (above .earlier j l) })))
-
-      pub check-no-stack : length tokens ≤ k → length stack ≡ 0 → r ≡ refusal refusals.room 0 refusals.stackRoom → Checked g table tokens stack r
-      check-no-stack all h e = rw e (barred (no-stack (fit-table (sizes ∙ size-of ∙ size-is sized) first over) short (λ j l. rw (sized .tokens) (above .earlier j (omega arith))) h))
-
-      pub check-done : length tokens ≤ k → length stack ≢ 0 → r ≡ done 0 → Checked g table tokens stack r
-      check-done all other e = rw e (admitted (record { fits = fit-table (sizes ∙ size-of ∙ size-is sized) first over; short = short; known = λ j l. rw (sized .tokens) (above .earlier j (omega arith)); stacked = omega arith }))
+        pub check-done : cells ≢ 0 → r ≡ done 0 → CheckedWith g table tokens cells r
+        check-done n e =
+            record {
+              checked = λ stack all. rw e
+                  (admitted
+                  (record { fits = fit-table fitting fits; short = short; known = λ j l. below sized above j (omega arith); stacked = omega arith }));
+            }
 
 -- the highest of the tokens passed and the next one
 pub highest-turn : (tokens : List ℕ) {i m n : ℕ} → ((j : ℕ) → j < i → getD tokens j 0 ≤ m) → m ≤ n → getD tokens i 0 ≤ n → (j : ℕ) → j < i + 1 → getD tokens j 0 ≤ n

@@ -17,19 +17,19 @@ use Rattle.sets.specs.declared.Set.{Set}
 use Rattle.sets.proofs.Promise.{none-is, with-is, same-members}
 use Rattle.answers.specs.Answers.{done, stop}
 use Rattle.answers.specs.declared.Answer.{Answer}
+use Rattle.book.specs.Columns.{Outlines}
+use Rattle.book.specs.declared.columns.Outline.{Outline}
 use Rattle.table.specs.Table.{held}
+use Rattle.table.proofs.Promise.{held-vacant, held-filled}
 use Rattle.machine.specs.Machine.{State, Reason, full-list, full-stack, wants-end, wants-token, wants-row, Offered, taken, stopped, final}
+use Rattle.offer.specs.Resuming.{causeOf, progressOf, reported}
+use Rattle.offer.specs.Stops.{marking, filledBelow, expected, answered}
+use Rattle.offer.specs.declared.Cause.the-variants.{FullList, FullStack, WantsEnd, WantsToken, WantsRow}
+use Rattle.offer.specs.declared.Cause.{Cause}
+use Rattle.offer.specs.declared.Progress.{Progress}
+use Rattle.offer.specs.declared.Reply.the-variants.{Taken, Stopped}
+use Rattle.offer.specs.declared.Reply.{Reply}
 use Rattle.run.specs.Answering.{RowColumns, Expects, numberOf, detailOf, progressIn, Answers}
-use Rattle.run.specs.Moves.{Outlines}
-use Rattle.run.specs.Resuming.{causeOf, progressOf, reported}
-use Rattle.run.specs.Running.{marking, filledBelow, expected, answered}
-use Rattle.run.specs.declared.Cause.the-variants.{FullList, FullStack, WantsEnd, WantsToken, WantsRow}
-use Rattle.run.specs.declared.Cause.{Cause}
-use Rattle.run.specs.declared.Outline.{Outline}
-use Rattle.run.specs.declared.Progress.{Progress}
-use Rattle.run.specs.declared.Reply.the-variants.{Taken, Stopped}
-use Rattle.run.specs.declared.Reply.{Reply}
-use Rattle.run.proofs.Deciding.{held-vacant, held-filled}
 
 -- a place past the width adds nothing
 pub with-marks : {s : Set} {bit : ℕ} {r : Set} → With s bit r → number r ≡ marking bit (number s)

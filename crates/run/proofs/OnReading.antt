@@ -8,16 +8,13 @@ use lib.ListN.{length}
 use Rattle.grammar.specs.Grammar.{Grammar}
 use Rattle.answers.specs.declared.Answer.{Answer}
 use Rattle.book.specs.Judging.{Serves, indexOf}
+use Rattle.book.specs.Columns.{grammarIn}
+use Rattle.book.proofs.Promise.{index-grammar}
 use Rattle.run.specs.Beside.{Shown}
-use Rattle.run.specs.Index.{grammarIn}
 use Rattle.run.specs.Judged.{JudgedRun, no-stack, ended}
-use Rattle.run.specs.Resuming.{OfferOutcome}
 use Rattle.run.specs.Running.{Admits, RunOutcome}
 use Rattle.run.specs.Running as running
-use Rattle.run.specs.declared.Progress.{Progress}
-use Rattle.run.specs.declared.Reply.{Reply}
 use Rattle.run.proofs.OutcomeUnique.{Result, BesideResult, beside-outcome-unique}
-use Rattle.run.proofs.Records.{index-grammar}
 
 -- a run on a judged book allows one outcome
 pub judged-run-unique : {g : Grammar} {table tokens stack list : List ℕ} {a b : Answer} {s l t m : List ℕ} → JudgedRun g table tokens stack list a s l → JudgedRun g table tokens stack list b t m → _≡_ {A = Result} (a, s, l) (b, t, m)
@@ -25,14 +22,6 @@ judged-run-unique (no-stack e) (no-stack f) = refl
 judged-run-unique (no-stack e) (ended h) = absurd (omega arith)
 judged-run-unique (ended h) (no-stack e) = absurd (omega arith)
 judged-run-unique (ended h) (ended k) = refl
-
-abbrev pub OfferResult : Type 0
-OfferResult = Reply × List ℕ × List ℕ
-
--- and so does an offer
-pub offer-outcome-unique : (g : Grammar) (table : List ℕ) (column : ℕ) (at : Progress) (stack list : List ℕ) {r q : Reply} {s l t m : List ℕ}
-    → OfferOutcome g table column at stack list r s l → OfferOutcome g table column at stack list q t m → _≡_ {A = OfferResult} (r, s, l) (q, t, m)
-offer-outcome-unique g table column at stack list o p = λ i. ((o .offers .answer ∙ sym (p .offers .answer)) i, (o .offers .stack-cells ∙ sym (p .offers .stack-cells)) i, (o .offers .list-cells ∙ sym (p .offers .list-cells)) i)
 
 abbrev pub ShownResult : Type 0
 ShownResult = List ℕ × List ℕ × List ℕ × List ℕ × ℕ × ℕ

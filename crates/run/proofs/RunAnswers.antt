@@ -1,36 +1,38 @@
 -- The answer of a run from the reply that the code has for its outcome.
 use mathlib.Core.Path.{_≡_, refl, _∙_, ap, subst}
 use mathlib.Core.Logic.{_≢_}
-use mathlib.Core.List.{List}
+use mathlib.Core.List.{List, []}
 use Prim.Native.Nat.{ℕ, _+_, _-_, _^_, _≤_, _<_}
 use native.Mathlib.Omega.{arith}
 use lib.ListN.{length, take, drop, length-drop}
 use lib.Seq.{take-all}
 use Rattle.grammar.specs.Grammar.{Grammar}
-use Rattle.answers.specs.Answers.{done, refusal}
+use Rattle.answers.specs.Answers.{done, refusal, stop}
 use Rattle.answers.specs.declared.Answer.{Answer}
 use Rattle.answers.specs.Buffers.{counted}
 use Rattle.book.specs.Judging.{Judged}
 use Rattle.book.specs.declared.Reading.{Reading}
-use Rattle.book.proofs.Promise.{judged-done, judged-refused}
+use Rattle.book.specs.Columns.{outlineIn, outlined, Outlines}
+use Rattle.book.specs.declared.columns.Outline.{Outline}
+use Rattle.book.proofs.Promise.{judged-done, judged-refused, reading-grammar}
 use Rattle.table.specs.Table.{cellOf}
-use Rattle.machine.specs.Machine.{State, Offered, taken, stopped, final}
+use Rattle.machine.specs.Machine.{State, full-stack, Offered, taken, stopped, final}
 use Rattle.machine.specs.Room.{rightOf}
 use Rattle.machine.proofs.Count.{Counted}
 use Rattle.machine.proofs.RunTheorems.{run-steps, run-inside}
+use Rattle.offer.specs.Strings.{ran, StringOutcome}
+use Rattle.offer.specs.Strings as strings
+use Rattle.offer.specs.Resuming.{causeOf, progressOf, reported}
+use Rattle.offer.specs.Stops.{expected, answered}
+use Rattle.offer.specs.declared.Progress.{Progress}
+use Rattle.offer.specs.declared.Reply.{Reply}
 use Rattle.run.specs.Answering.{progressIn, Answers}
 use Rattle.run.specs.Beside.{Shown}
 use Rattle.run.specs.Checking.{Checked, barred, admitted}
-use Rattle.run.specs.Judged.{JudgedRun, ended}
-use Rattle.run.specs.Accounting.{RanThrough, AccountedOn, Accounted}
-use Rattle.run.specs.Moves.{outlineIn, outlined, Outlines}
-use Rattle.run.specs.Resuming.{progressOf, reported}
-use Rattle.run.specs.Running.{Barred, bad-table, too-long, strange, no-stack, Admits, expected, answered, ran, RunOutcome, wordsOf, BesideOutcome}
+use Rattle.run.specs.Judged.{JudgedRun, no-stack, ended}
+use Rattle.run.specs.Accounting.{AccountedOn, Accounted}
+use Rattle.run.specs.Running.{Barred, bad-table, too-long, strange, Admits, RunOutcome, wordsOf, BesideOutcome}
 use Rattle.run.specs.declared.Account.{Account}
-use Rattle.run.specs.declared.Outline.{Outline}
-use Rattle.run.specs.declared.Progress.{Progress}
-use Rattle.run.specs.declared.Reply.{Reply}
-use Rattle.run.proofs.Records.{reading-grammar}
 
 progress-reported : (o : Offered) → progressIn (reported o) ≡ progressOf (final o)
 unfolding reported final
@@ -65,9 +67,28 @@ module _ (g : Grammar) (table tokens stack list : List ℕ) where
     pub ran-answered : {o : Outline} {r : Answer} → Outlines o g → Answers o table reply r → r ≡ answered (expected g table) (ran g table tokens stack list)
     ran-answered sized a = a .answer g sized (ran g table tokens stack list) reports (ran-counted .steps)
 
--- what is left when steps have been made
-pub judged-ended : {g : Grammar} {table tokens stack list : List ℕ} {o : Outline} {reply : Reply} {r : Answer} {stack′ list′ : List ℕ} → 1 ≤ length stack → Outlines o g → RanThrough g table tokens stack list reply stack′ list′ → Answers o table reply r → JudgedRun g table tokens stack list r stack′ list′
-judged-ended {g} {table} {tokens} {stack} {list} h sized steps a = rw (ran-answered g table tokens stack list (steps .answer) sized a, steps .stack-cells, steps .list-cells) (ended h)
+-- a machine that has not begun
+nowhere : State
+nowhere = record { stack = []; listed = []; matched = 0; moves = 0; height = 0 }
+
+module _ {g : Grammar} {table tokens stack list : List ℕ} where
+  -- productions listed and tokens matched can be counted together
+  pub string-countable : {reply : Reply} {stack′ list′ : List ℕ}
+      → StringOutcome g table tokens stack list reply stack′ list′
+      → length tokens < 2 ^ 63
+      → progressIn reply .listed + progressIn reply .matched < 2 ^ 64
+  string-countable (strings.no-stack e) h = omega arith
+  string-countable (strings.ended k) h = reply-countable g table tokens stack list refl h
+
+  -- what is left of a run on a judged book
+  pub judged-answered : {o : Outline} {r : Answer} {reply : Reply} {stack′ list′ : List ℕ}
+      → StringOutcome g table tokens stack list reply stack′ list′
+      → Outlines o g
+      → Answers o table reply r
+      → JudgedRun g table tokens stack list r stack′ list′
+  unfolding reported causeOf progressOf answered stop refusal final nowhere
+  judged-answered (strings.no-stack e) sized a = rw (a .answer g sized (stopped full-stack nowhere) refl refl) (no-stack e)
+  judged-answered (strings.ended h) sized a = rw (ran-answered g table tokens stack list refl sized a) (ended h)
 
 -- a refusal before steps has a number
 barred-some : {g : Grammar} {table tokens stack : List ℕ} {a : Answer} → Barred g table tokens stack a → a .number ≢ 0
@@ -75,7 +96,7 @@ unfolding refusal
 barred-some (bad-table m) e = omega arith
 barred-some (too-long f h) e = omega arith
 barred-some (strange f h s) e = omega arith
-barred-some (no-stack f h k l) e = omega arith
+barred-some (Barred.no-stack f h k l) e = omega arith
 
 module _ {g : Grammar} {table tokens stack : List ℕ} where
   checked-barred : {a : Answer} → Checked g table tokens stack a → a .number ≢ 0 → Barred g table tokens stack a
@@ -91,10 +112,17 @@ module _ {g : Grammar} {table tokens stack : List ℕ} where
   account-barred h n = AccountedOn.barred (checked-barred h n)
 
 -- what is left when steps have been made and counted
-pub account-stepped : {g : Grammar} {table tokens stack list : List ℕ} {o : Outline} {reply : Reply} {at : Progress} {r : Answer} {stack′ list′ : List ℕ} → Admits g table tokens stack → Outlines o g → RanThrough g table tokens stack list reply stack′ list′ → at ≡ progressIn reply → Answers o table reply r → AccountedOn g table tokens stack list (record { answer = r; matched = at .matched }) stack′ list′
-account-stepped {g} {table} {tokens} {stack} {list} admits sized steps here a =
-    let matched = ap (λ (x : Progress). x .matched) here ∙ reply-matched g table tokens stack list (steps .answer) in
-    rw (ran-answered g table tokens stack list (steps .answer) sized a, matched, steps .stack-cells, steps .list-cells) (AccountedOn.stepped admits)
+pub account-stepped : {g : Grammar} {table tokens stack list : List ℕ} {o : Outline} {reply : Reply} {at : Progress} {r : Answer} {stack′ list′ : List ℕ}
+    → Admits g table tokens stack
+    → Outlines o g
+    → StringOutcome g table tokens stack list reply stack′ list′
+    → at ≡ progressIn reply
+    → Answers o table reply r
+    → AccountedOn g table tokens stack list (record { answer = r; matched = at .matched }) stack′ list′
+account-stepped admits sized (strings.no-stack e) here a = absurd (omega (arith, admits .stacked))
+account-stepped {g} {table} {tokens} {stack} {list} admits sized (strings.ended h) here a =
+    let matched = ap (λ (x : Progress). x .matched) here ∙ reply-matched g table tokens stack list refl in
+    rw (ran-answered g table tokens stack list refl sized a, matched) (AccountedOn.stepped admits)
 
 module _ {book table tokens stack list : List ℕ} {reading : Reading} (judged : Judged book reading) where
   pub account-refused : reading .answer .number ≢ 0 → Accounted book table tokens stack list (record { answer = reading .answer; matched = 0 }) stack list

@@ -1,30 +1,16 @@
 -- What a run comes to stage by stage: steps made, the stack cleared, the checks, the judging; with the number of tokens matched.
 -- Document 01, "Running and expanding". Only contracts inside the crate cite what stands here.
-use mathlib.Core.Path.{_≡_}
 use mathlib.Core.List.{List}
 use Prim.Native.Nat.{ℕ}
-use lib.ListN.{length}
 use Rattle.grammar.specs.Grammar.{Grammar}
 use Rattle.answers.specs.declared.Answer.{Answer}
 use Rattle.answers.specs.Buffers.{over, cleared}
 use Rattle.book.specs.Judging.{Refuses, Serves}
 use Rattle.machine.specs.Machine.{final}
-use Rattle.run.specs.Resuming.{reported}
-use Rattle.run.specs.Running.{Barred, Admits, expected, answered, ran}
+use Rattle.offer.specs.Stops.{expected, answered}
+use Rattle.offer.specs.Strings.{ran}
+use Rattle.run.specs.Running.{Barred, Admits}
 use Rattle.run.specs.declared.Account.{Account}
-use Rattle.run.specs.declared.Reply.{Reply}
-
--- steps made from the start, before and after the stack is cleared
-pub record Stepped (g : Grammar) (table tokens stack list : List ℕ) (r : Reply) (stack′ list′ : List ℕ) : Type 0 where
-  pub answer : r ≡ reported (ran g table tokens stack list)
-  pub lists : list′ ≡ over (final (ran g table tokens stack list) .listed) list
-  pub stack-length : length stack′ ≡ length stack
-  pub list-length : length list′ ≡ length list
-
-pub record RanThrough (g : Grammar) (table tokens stack list : List ℕ) (r : Reply) (stack′ list′ : List ℕ) : Type 0 where
-  pub answer : r ≡ reported (ran g table tokens stack list)
-  pub stack-cells : stack′ ≡ cleared stack
-  pub list-cells : list′ ≡ over (final (ran g table tokens stack list) .listed) list
 
 -- a run with the number of tokens that it matched: none before steps
 pub data AccountedOn (g : Grammar) (table tokens stack list : List ℕ) : Account → List ℕ → List ℕ → Type 0 where

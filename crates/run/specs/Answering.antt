@@ -9,16 +9,16 @@ use Rattle.sets.specs.Calls.{number}
 use Rattle.sets.specs.declared.Set.{Set}
 use Rattle.answers.specs.Refusals.{room, syntax, stackRoom, listRoom}
 use Rattle.answers.specs.declared.Answer.{Answer}
+use Rattle.book.specs.Columns.{Outlines}
+use Rattle.book.specs.declared.columns.Outline.{Outline}
 use Rattle.machine.specs.Machine.{Reason, Offered, final}
-use Rattle.run.specs.Moves.{Outlines}
-use Rattle.run.specs.Resuming.{causeOf, reported}
-use Rattle.run.specs.Running.{filledBelow, expected, answered}
-use Rattle.run.specs.declared.Cause.the-variants.{FullList, FullStack, WantsEnd, WantsToken, WantsRow}
-use Rattle.run.specs.declared.Cause.{Cause}
-use Rattle.run.specs.declared.Outline.{Outline}
-use Rattle.run.specs.declared.Progress.{Progress}
-use Rattle.run.specs.declared.Reply.the-variants.{Taken, Stopped}
-use Rattle.run.specs.declared.Reply.{Reply}
+use Rattle.offer.specs.Resuming.{causeOf, reported}
+use Rattle.offer.specs.Stops.{filledBelow, expected, answered}
+use Rattle.offer.specs.declared.Cause.the-variants.{FullList, FullStack, WantsEnd, WantsToken, WantsRow}
+use Rattle.offer.specs.declared.Cause.{Cause}
+use Rattle.offer.specs.declared.Progress.{Progress}
+use Rattle.offer.specs.declared.Reply.the-variants.{Taken, Stopped}
+use Rattle.offer.specs.declared.Reply.{Reply}
 
 abbrev pub numberOf : Cause → ℕ
 numberOf FullList = room

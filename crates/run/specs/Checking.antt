@@ -1,18 +1,13 @@
 -- What is checked before steps: the table, the number of tokens, the tokens, a stack cell.
 -- Document 01, "Refusals and their numbers". Only contracts inside the crate cite what stands here.
 use mathlib.Core.List.{List}
+use mathlib.Core.Path.{_≡_}
 use Prim.Native.Nat.{ℕ, _≤_, _<_}
 use lib.ListN.{length, getD}
 use Rattle.grammar.specs.Grammar.{Grammar}
 use Rattle.answers.specs.Answers.{done}
 use Rattle.answers.specs.declared.Answer.{Answer}
-use Rattle.run.specs.Running.{Fits, Barred, Admits}
-
--- the first cell that does not fit, or the length
-pub record FirstMisfit (g : Grammar) (table : List ℕ) (r : ℕ) : Type 0 where
-  pub inside : r ≤ length table
-  pub earlier : (j : ℕ) → j < r → Fits g table j
-  pub misfit : r < length table → ¬ Fits g table r
+use Rattle.run.specs.Running.{Barred, Admits}
 
 -- the first token that is not below T, or the length
 pub record FirstAbove (T : ℕ) (tokens : List ℕ) (r : ℕ) : Type 0 where
@@ -24,3 +19,7 @@ pub record FirstAbove (T : ℕ) (tokens : List ℕ) (r : ℕ) : Type 0 where
 pub data Checked (g : Grammar) (table tokens stack : List ℕ) : Answer → Type 0 where
   barred : {a : Answer} → Barred g table tokens stack a → Checked g table tokens stack a
   admitted : Admits g table tokens stack → Checked g table tokens stack (done 0)
+
+-- whatever the stack, if it has so many cells
+pub record CheckedWith (g : Grammar) (table tokens : List ℕ) (cells : ℕ) (r : Answer) : Type 0 where
+  pub checked : (stack : List ℕ) → length stack ≡ cells → Checked g table tokens stack r

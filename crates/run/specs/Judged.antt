@@ -10,7 +10,8 @@ use Rattle.answers.specs.Refusals.{room, stackRoom}
 use Rattle.answers.specs.declared.Answer.{Answer}
 use Rattle.answers.specs.Buffers.{over, cleared}
 use Rattle.machine.specs.Machine.{final}
-use Rattle.run.specs.Running.{expected, answered, ran}
+use Rattle.offer.specs.Stops.{expected, answered}
+use Rattle.offer.specs.Strings.{ran}
 
 -- without a stack cell steps do not begin
 pub data JudgedRun (g : Grammar) (table tokens stack list : List ℕ) : Answer → List ℕ → List ℕ → Type 0 where

@@ -2,12 +2,5 @@ pub mod Accounting
 pub mod Answering
 pub mod Beside
 pub mod Checking
-pub mod Expanding
-pub mod Index
 pub mod Judged
-pub mod Moves
-pub mod Offering
-pub mod Resuming
 pub mod Running
-pub mod Stack
-pub mod Turns

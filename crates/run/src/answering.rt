@@ -1,11 +1,6 @@
 ghost use mathlib.Core.Path.{_≡_};
 ghost use Prim.Native.Nat.{_+_, _^_, _<_};
 ghost use Rattle.run.specs.Answering.{numberOf, detailOf, WithColumn, RowColumns, Expects, progressIn, Answers};
-use crate::Cause;
-use crate::Outline;
-use crate::Progress;
-use crate::Reply;
-use crate::moves::cell_at;
 use answers::Answer;
 use answers::done;
 use answers::refusals::LIST_ROOM;
@@ -13,12 +8,17 @@ use answers::refusals::ROOM;
 use answers::refusals::STACK_ROOM;
 use answers::refusals::SYNTAX;
 use answers::stop;
+use book::columns::Outline;
+use offer::Cause;
+use offer::Progress;
+use offer::Reply;
 use sets::END_MARK;
 use sets::Set;
 use sets::column_bit;
 use sets::none;
 use sets::with;
 use table::VACANT;
+use table::fitting::cell_at;
 
 // The set with column j of row n added, where that cell is filled.
 fn with_column(columns: Set, table: &[u8], outline: Outline, n: u8, j: u8) -> Set

@@ -21,7 +21,18 @@ pub fn run_beside<'t, 'b>(
     list: &mut [u8],
     answer: &mut [u64; 5],
 ) -> &'t [u8]
-    ensures { λ r. ⌜ Shown (now (book .entry)) (now (table .entry)) (now (tokens .entry)) (now (stack .entry)) (now (list .entry)) (now (answer .exit)) (now r) (now (stack .exit)) (now (list .exit)) (tokens .entry .ptr) (r .ptr) ⌝ }
+    ensures { λ r. ⌜ Shown
+        (now (book .entry))
+        (now (table .entry))
+        (now (tokens .entry))
+        (now (stack .entry))
+        (now (list .entry))
+        (now (answer .exit))
+        (now r)
+        (now (stack .exit))
+        (now (list .exit))
+        (tokens .entry .ptr)
+        (r .ptr) ⌝ }
 {
     let whole = account(book, table, tokens, stack, list);
     let reply = whole.answer;

@@ -1,7 +1,7 @@
+use expand::expand;
 use libc::STDOUT_FILENO;
 use reader::fields::byte_at;
 use run::beside::run_beside;
-use run::expanding::expand;
 
 fn show_word(word: &[u8]) {
     io::write_all(STDOUT_FILENO, word);

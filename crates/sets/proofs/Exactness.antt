@@ -4,7 +4,7 @@ use mathlib.Core.Bool.{false≢true}
 use mathlib.Core.Logic.{_↔_, _⊎_, ⊎-elim, inl, inr}
 use Prim.Native.Nat.{ℕ, _<_}
 use lib.Pow.{pow-pos}
-use Rattle.sets.specs.Sets.{member, Exactly, united, added}
+use Rattle.sets.specs.Sets.{Exactly, united, added}
 use Rattle.sets.proofs.Members.{member-none}
 use Rattle.sets.proofs.Operations.{or-left, or-right, or-cases, added-new, added-keep, added-cases}
 use Rattle.sets.proofs.Order.{united-fits, added-fits}

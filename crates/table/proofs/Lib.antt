@@ -22,6 +22,7 @@ pub mod Answering
 pub mod SymbolStrings
 pub mod SetAnswering
 pub mod Worked
+pub mod TableFits
 pub mod Examples
 pub mod Theorems
 pub mod Promise

@@ -7,5 +7,7 @@ pub use Rattle.table.proofs.Outcomes.{sets-outcome-unique, build-outcom
 pub use Rattle.table.proofs.SetAnswers.{lookahead-outcome-unique, first-outcome-unique}
 pub use Rattle.table.proofs.Building.{table-no-conflict, first-is-conflict, conflict-iff, conflict-first, build-built, built-build, built-done}
 pub use Rattle.table.proofs.Closed.{first-is, lookahead-is, sets-at, taken-at, at-taken}
+pub use Rattle.table.proofs.TableFits.{held-vacant, held-filled, row-fits, misfit-not-fit, misfit-unique}
+pub use Rattle.table.proofs.TableFits.{table-fits, fitting-unique, cell-at-unique}
 pub use Rattle.table.proofs.Examples.{house-first-sets, house-follow-sets, house-table-of, house-build, conflicted-house-conflict, conflicted-house-build, nested-conflict, nested-build}
 unfoldable pub use Rattle.table.proofs.Examples.{house-built}

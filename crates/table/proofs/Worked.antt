@@ -12,8 +12,7 @@ use Rattle.grammar.specs.Grammar.{Production, Grammar, Column, Member, Every, n
 use Rattle.grammar.specs.Machine.{Exact}
 use Rattle.grammar.proofs.Sets.{FirstOf, FollowOf, first-exact, follow-exact}
 use Rattle.grammar.proofs.Tests.{or-left, or-right, or-elim, all, any, all-every, any-of, below, below-each}
-use Rattle.grammar.proofs.Worked.{Entry, same, same-is, same-self, In, Among, rowOf, row-every, in-every, in-row, in-self, ruled}
-use Rattle.grammar.proofs.Worked.{firstSets, followSets, firstTest, followTest, first-sets-sound, first-test-closed, follow-sets-sound, follow-test-closed}
+use Rattle.grammar.proofs.Worked.{Entry, same, same-is, same-self, In, Among, rowOf, row-every, in-every, in-row, in-self, ruled, firstSets, followSets, firstTest, followTest, first-sets-sound, first-test-closed, follow-sets-sound, follow-test-closed}
 use Rattle.grammar.proofs.WorkedForm.{formTest, form-tested}
 use Rattle.grammar.proofs.WorkedUseful.{productives, usefuls, productives-sound, usefuls-sound, has, has-every}
 use Rattle.grammar.proofs.WorkedCells.{claiming, claimants, single, claims-found, found-claims}

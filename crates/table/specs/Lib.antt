@@ -3,6 +3,7 @@ pub mod Checks
 pub mod Claims
 pub mod Examples
 pub mod Filling
+pub mod Fitting
 pub mod Forms
 pub mod Numbers
 pub mod Steps

@@ -26,6 +26,7 @@ mod checks;
 mod claims;
 mod families;
 mod first;
+pub mod fitting;
 mod follow;
 mod forms;
 mod tails;

@@ -6,12 +6,12 @@ use borrow.Author.Needs.{needs}
 use Rattle.sets.specs.Sets.{width}
 use Rattle.sets.specs.Calls.{number}
 use Rattle.sets.proofs.Promise.{decides-true, decides-false}
-use Rattle.book.proofs.Passes.{Round, round-first, round-next, round-grows, round-last}
+use Rattle.book.proofs.Passes.{ClosureRound, round-first, round-next, round-grows, round-last}
 use Rattle.book.proofs.closure.closure.Statement.{statement}
 use Rattle.book.proofs.closure.closure.Tie as tie
 
 abbrev Inv-loop : tie.InvT-loop
-Inv-loop ins outs count reached₀ after₀ reached after = Round ins outs count (number reached₀) (number reached) (number after)
+Inv-loop ins outs count reached₀ after₀ reached after = ClosureRound ins outs count (number reached₀) (number reached) (number after)
 
 abbrev μ-loop : tie.MeasureT-loop
 μ-loop ins outs count reached₀ after₀ reached after = 2 ^ width - number reached

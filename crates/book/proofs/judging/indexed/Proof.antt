@@ -5,6 +5,16 @@ use Rattle.book.proofs.Outcome.{header-counted, survey-decides, judged-
 use Rattle.book.proofs.judging.indexed.Statement.{statement}
 use Rattle.book.proofs.judging.indexed.Tie as tie
 
+-- the states that a call goes through: the header read, the records surveyed
+abbrev header : tie.After-survey → tie.After-cells-for
+header d = d .before .before .before .before
+
+abbrev surveyed : tie.After-first-useless → tie.After-survey
+surveyed d = d .before .before .before .before .before .before
+
+abbrev start : tie.After-cells-for → tie.Start
+start d = d .before .before .before .before .before
+
 byte-at-requires : tie.Need-byte-at-requires
 byte-at-requires c κs = search needs
 
@@ -28,18 +38,18 @@ slice-aggregate-survey-3 c = search needs
 
 survey-requires : tie.Need-survey-requires
 survey-requires c κs =
-    let pre = c .before .before .before .before .before .before .before .before .pre in
-    let byte-at3 = c .before .before .before .before .byte-at3 in
-    let cells-for = c .before .before .before .cells-for in (
-      record {
+    let head = c .before .before .before in
+    let pre = start head .pre in
+    record {
+      lists = record {
         grammar = pre .0;
         read = pre .1;
-        counted = header-counted _ (pre .1) (byte-at3 .ensures) (cells-for .ensures);
-      },
-      search needs,
-      search needs,
-      search needs,
-    )
+        counted = header-counted _ (pre .1) (head .before .byte-at3 .ensures) (head .cells-for .ensures);
+      };
+      places-sized = search needs;
+      names-sized = search needs;
+      lefts-sized = search needs;
+    }
 
 slice-aggregate-first-useless : tie.Need-slice-aggregate-first-useless
 slice-aggregate-first-useless c = search needs
@@ -49,9 +59,8 @@ slice-aggregate-first-useless-2 c = search needs
 
 first-useless-requires : tie.Need-first-useless-requires
 first-useless-requires c κs =
-    let cells-for = c .before .before .before .before .before .before .before .before .before .cells-for in
-    let survey = c .before .before .before .before .before .survey in
-    (omega (arith, cells-for .ensures), survey .ensures .named .size)
+    let found = c .before .before .before .before .before in
+    (omega (arith, header found .cells-for .ensures), found .survey .ensures .named .size)
 
 cast-refusal : tie.Need-cast-refusal
 cast-refusal c = search needs
@@ -64,16 +73,14 @@ refusing-requires c κs = search needs
 
 returns : tie.Need-returns
 returns c =
-    let pre = c .before .before .before .before .before .before .before .before .before .before .before .before .before .before .before .before .before .before .before .pre in
-    let byte-at = c .before .before .before .before .before .before .before .before .before .before .before .before .before .before .before .before .before .byte-at in
-    let byte-at2 = c .before .before .before .before .before .before .before .before .before .before .before .before .before .before .before .before .byte-at2 in
-    let byte-at3 = c .before .before .before .before .before .before .before .before .before .before .before .before .before .before .before .byte-at3 in
-    let cells-for = c .before .before .before .before .before .before .before .before .before .before .before .before .before .before .cells-for in
-    let survey = c .before .before .before .before .before .before .before .before .before .before .survey in
-    let first-useless = c .before .before .before .before .first-useless in
-    let if1 = c .before .before .if1 in
-    let decided = survey-decides _ (pre .1) (byte-at .ensures) (byte-at2 .ensures) (byte-at3 .ensures) (cells-for .ensures) (survey .ensures) (first-useless .ensures) in
-    rw (c .refusing .ensures, c .before .refusal .ensures) (judged-useless (decided .0) (decided .1) (if1 .taken))
+    let last = c .before .before .before .before in
+    let found = surveyed last in
+    let head = header found in
+    let counted = head .before in
+    let (indexed, first) =
+    survey-decides _ (start head .pre .1) (counted .before .before .byte-at .ensures) (counted .before .byte-at2 .ensures) (counted .byte-at3 .ensures)
+    (head .cells-for .ensures) (found .survey .ensures) (last .first-useless .ensures) in
+    rw (c .refusing .ensures, c .before .refusal .ensures) (judged-useless indexed first (c .before .before .if1 .taken))
 
 done-requires : tie.Need-done-requires
 done-requires c κs = search needs
@@ -83,16 +90,14 @@ byte-at-requires-4 c κs = search needs
 
 returns-2 : tie.Need-returns-2
 returns-2 c =
-    let pre = c .before .before .before .before .before .before .before .before .before .before .before .before .before .before .before .before .before .before .before .pre in
-    let byte-at = c .before .before .before .before .before .before .before .before .before .before .before .before .before .before .before .before .before .byte-at in
-    let byte-at2 = c .before .before .before .before .before .before .before .before .before .before .before .before .before .before .before .before .byte-at2 in
-    let byte-at3 = c .before .before .before .before .before .before .before .before .before .before .before .before .before .before .before .byte-at3 in
-    let cells-for = c .before .before .before .before .before .before .before .before .before .before .before .before .before .before .cells-for in
-    let survey = c .before .before .before .before .before .before .before .before .before .before .survey in
-    let first-useless = c .before .before .before .before .first-useless in
-    let if1 = c .before .before .if1 in
-    let decided = survey-decides _ (pre .1) (byte-at .ensures) (byte-at2 .ensures) (byte-at3 .ensures) (cells-for .ensures) (survey .ensures) (first-useless .ensures) in
-    judged-served (decided .0) (decided .1) (if1 .left) (c .byte-at4 .ensures) (c .before .done .ensures)
+    let last = c .before .before .before .before in
+    let found = surveyed last in
+    let head = header found in
+    let counted = head .before in
+    let (indexed, first) =
+    survey-decides _ (start head .pre .1) (counted .before .before .byte-at .ensures) (counted .before .byte-at2 .ensures) (counted .byte-at3 .ensures)
+    (head .cells-for .ensures) (found .survey .ensures) (last .first-useless .ensures) in
+    judged-served indexed first (c .before .before .if1 .left) (c .byte-at4 .ensures) (c .before .done .ensures)
 
 pub indexed-spec : {M : Type 1} → statement M
 indexed-spec =

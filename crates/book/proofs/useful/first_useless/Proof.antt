@@ -2,7 +2,8 @@
 use mathlib.Core.Path.{sym, _∙_}
 use borrow.Author.Needs.{needs}
 use Rattle.sets.proofs.Promise.{none-is}
-use Rattle.book.proofs.Usefulness.{productive-exactly, useful-exactly, lowest-useless, all-useless}
+use Rattle.book.proofs.Filling.{single-exactly}
+use Rattle.book.proofs.Usefulness.{tells-lowest, tells-all}
 use Rattle.book.proofs.useful.first_useless.Statement.{statement}
 use Rattle.book.proofs.useful.first_useless.Tie as tie
 
@@ -32,25 +33,20 @@ same-length c = search needs
 
 returns : tie.Need-returns
 returns c =
-    let none = c .before .before .before .before .before .before .before .before .before .before .before .none in
-    let closure = c .before .before .before .before .before .before .before .before .before .before .closure in
-    let has = c .before .before .before .before .before .before .before .before .before .has in
-    let if1 = c .before .before .before .before .before .before .before .before .if1 in
-    let keep-productive = c .before .before .before .before .before .before .keep-productive in
-    let single = c .before .before .single in
-    λ g sides numbered started.
-    let productive = productive-exactly sides (rw (none-is (none .ensures)) at (closure .ensures)) in
-    let starts = rw started at (sym (has .ensures) ∙ if1 .taken) in
-    let one = rw started at (single .ensures) in
-    lowest-useless (useful-exactly sides productive (keep-productive .ensures) one starts (c .before .closure2 .ensures)) (rw numbered at (c .lowest-missing .ensures))
+    let kept = c .before .before .before .before .before .before in
+    let asked = kept .before .before .before in
+    let closed = rw (none-is (asked .before .before .none .ensures)) at (asked .before .closure .ensures) in
+    let starts = sym (asked .has .ensures) ∙ kept .before .before .if1 .taken in
+    tells-lowest closed starts (kept .keep-productive .ensures) (single-exactly (c .before .before .single .ensures)) (c .before .closure2 .ensures) (c .lowest-missing .ensures)
 
 same-length-2 : tie.Need-same-length-2
 same-length-2 c = search needs
 
 returns-2 : tie.Need-returns-2
-returns-2 c = λ g sides numbered started.
-    let productive = productive-exactly sides (rw (none-is (c .before .before .before .none .ensures)) at (c .before .before .closure .ensures)) in
-    all-useless productive (rw started at (sym (c .before .has .ensures) ∙ c .if1 .left))
+returns-2 c =
+    let asked = c .before in
+    let closed = rw (none-is (asked .before .before .none .ensures)) at (asked .before .closure .ensures) in
+    tells-all closed (sym (asked .has .ensures) ∙ c .if1 .left)
 
 pub first-useless-spec : {M : Type 1} → statement M
 first-useless-spec =

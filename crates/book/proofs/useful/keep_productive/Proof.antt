@@ -34,12 +34,11 @@ loop-less c = search needs
 
 loop-again : tie.Need-loop-again Inv-loop μ-loop
 loop-again c =
-    let loop = c .before .before .before .before .before .before .before .before .loop in
-    let load = c .before .before .before .before .load in
-    let kept = c .before .before .before .kept in
-    let store = c .before .before .store in (
+    let stored = c .before .before in
+    let loaded = stored .before .before in
+    let turn = loaded .before .before .before in (
       search needs,
-      keeping-next (search needs) (loop .inv .1) (load .ensures .loaded) (kept .ensures) (store .ensures),
+      keeping-next (search needs) (turn .before .loop .inv .1) (loaded .load .ensures .loaded) (stored .before .kept .ensures) (stored .store .ensures),
     )
 
 same-length : tie.Need-same-length Inv-loop μ-loop

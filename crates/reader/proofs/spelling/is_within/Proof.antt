@@ -13,7 +13,9 @@ stands-requires : tie.Need-stands-requires
 stands-requires c κs = search needs
 
 add-lies-in : tie.Need-add-lies-in
-add-lies-in c = omega (arith, standing (c .before .before .before .args .at + c .before .before .before .args .more) (length (c .before .before .before .args .book .now)) (c .before .stands .ensures) (c .if1 .taken))
+add-lies-in c =
+    let args = c .before .before .before .args in
+    omega (arith, standing (args .at + args .more) (length (args .book .now)) (c .before .stands .ensures) (c .if1 .taken))
 
 shared-slice-read-lies-in : tie.Need-shared-slice-read-lies-in
 shared-slice-read-lies-in c =
@@ -30,7 +32,7 @@ returns c = simp (withinAt, sym (c .before .before .before .stands .ensures) ∙
 
 returns-2 : tie.Need-returns-2
 unfolding withinAt
-returns-2 c = simp (withinAt, sym (c .before .stands .ensures) ∙ c .if1 .left)
+returns-2 c = simp (withinAt, sym (c .before .stands .ensures) ∙ c .if1 .left, c .if1 .left)
 
 pub is-within-spec : {M : Type 1} → statement M
 is-within-spec = tie.close (tie.spec stands-requires add-lies-in shared-slice-read-lies-in lies-in-requires returns returns-2)

@@ -1,6 +1,6 @@
--- The two cases of `placeOf`.
+-- The two cases of `verdictPlace`.
 use borrow.Author.Needs.{needs}
-use Rattle.reader.specs.Verdicts.{placeOf}
+use Rattle.reader.specs.Verdicts.{verdictPlace}
 use Rattle.reader.proofs.spelling.place_of.Statement.{statement}
 use Rattle.reader.proofs.spelling.place_of.Tie as tie
 
@@ -11,11 +11,11 @@ enum-known-v-2 : tie.Need-enum-known-v-2
 enum-known-v-2 c = search needs
 
 returns : tie.Need-returns
-unfolding placeOf
+unfolding verdictPlace
 returns c = cc
 
 returns-2 : tie.Need-returns-2
-unfolding placeOf
+unfolding verdictPlace
 returns-2 c = cc
 
 pub place-of-spec : {M : Type 1} → statement M

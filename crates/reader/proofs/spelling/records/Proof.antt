@@ -2,7 +2,7 @@
 use mathlib.Core.Path.{sym}
 use borrow.Author.Needs.{needs}
 use Rattle.reader.specs.Positional.{recordsFrom, resumedAt, andThen}
-use Rattle.reader.proofs.Checked.{records-pass}
+use Rattle.reader.proofs.Passing.{records-pass}
 use Rattle.reader.proofs.spelling.records.Statement.{statement}
 use Rattle.reader.proofs.spelling.records.Tie as tie
 

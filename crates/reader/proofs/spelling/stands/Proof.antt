@@ -1,5 +1,5 @@
 -- Both tests together compare the place with the length.
-use mathlib.Core.Path.{sym}
+use mathlib.Core.Path.{sym, _∙_}
 use Prim.Native.Nat.{_+_}
 use native.Mathlib.Omega.{arith}
 use lib.ListN.{length}
@@ -16,7 +16,10 @@ returns : tie.Need-returns
 returns c = below-rest _ _ _ (c .if1 .taken)
 
 returns-2 : tie.Need-returns-2
-returns-2 c = sym (le-ltb (c .before .args .at + c .before .args .more) (length (c .before .args .book .now)) (omega arith))
+returns-2 c =
+    let args = c .before .args in
+    let size = length (args .book .now) in
+    le-ltb (args .at) size (c .if1 .left) ∙ sym (le-ltb (args .at + args .more) size (omega arith))
 
 pub stands-spec : {M : Type 1} → statement M
 stands-spec = tie.close (tie.spec sub-result returns returns-2)

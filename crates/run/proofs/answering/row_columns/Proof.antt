@@ -3,10 +3,10 @@ use mathlib.Core.Path.{_≡_}
 use Prim.Native.Nat.{_+_, _-_, _≤_}
 use borrow.Author.Needs.{needs}
 use Rattle.grammar.specs.Grammar.{Grammar}
-use Rattle.sets.proofs.Promise.{none-is}
 use Rattle.sets.specs.Calls.{number}
-use Rattle.run.specs.Moves.{Outlines}
-use Rattle.run.specs.Running.{filledBelow}
+use Rattle.sets.proofs.Promise.{none-is}
+use Rattle.book.specs.Columns.{Outlines}
+use Rattle.offer.specs.Stops.{filledBelow}
 use Rattle.run.proofs.Expected.{rows-over}
 use Rattle.run.proofs.answering.row_columns.Statement.{statement}
 use Rattle.run.proofs.answering.row_columns.Tie as tie

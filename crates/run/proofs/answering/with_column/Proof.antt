@@ -1,7 +1,7 @@
 -- A column is added where its cell is filled.
 use native.Mathlib.Omega.{arith}
 use borrow.Author.Needs.{needs}
-use Rattle.run.proofs.Deciding.{row-fits}
+use Rattle.table.proofs.Promise.{row-fits}
 use Rattle.run.proofs.Expected.{column-vacant, column-filled}
 use Rattle.run.proofs.answering.with_column.Statement.{statement}
 use Rattle.run.proofs.answering.with_column.Tie as tie

@@ -2,8 +2,8 @@
 use mathlib.Core.Path.{refl}
 use native.Mathlib.Omega.{arith}
 use borrow.Author.Needs.{needs}
-use Rattle.run.proofs.Records.{outlined-sized}
-use Rattle.run.proofs.RunAnswers.{checked-admits, account-barred, account-stepped, reply-countable}
+use Rattle.book.proofs.Promise.{outlined-sized}
+use Rattle.run.proofs.RunAnswers.{checked-admits, account-barred, account-stepped, string-countable}
 use Rattle.run.proofs.running.account_on.Statement.{statement}
 use Rattle.run.proofs.running.account_on.Tie as tie
 
@@ -14,14 +14,10 @@ returns : tie.Need-returns
 returns c =
     let args = c .before .before .before .before .before .before .before .before .before .args in
     let check = c .before .before .check in
-    account-barred (check .ensures (args .stack .now) refl) (c .if1 .taken)
+    account-barred (check .ensures .checked (args .stack .now) refl) (c .if1 .taken)
 
-run-on-requires : tie.Need-run-on-requires
-run-on-requires c κs =
-    let args = c .before .before .before .before .before .before .before .before .before .before .before .args in
-    let check = c .before .before .before .before .check in
-    let if1 = c .before .before .if1 in
-    checked-admits (check .ensures (args .stack .now) refl) (if1 .left) .stacked
+offer-string-requires : tie.Need-offer-string-requires
+offer-string-requires c κs = search needs
 
 progress-of-requires : tie.Need-progress-of-requires
 progress-of-requires c κs = search needs
@@ -31,8 +27,8 @@ answer-of-requires c κs =
     let args = c .before .before .before .before .before .before .before .before .before .before .before .before .before .before .before .before .before .args in
     let check = c .before .before .before .before .before .before .before .before .before .before .check in
     let if1 = c .before .before .before .before .before .before .before .before .if1 in
-    let run-on = c .before .before .before .before .before .run-on in
-    reply-countable _ _ _ _ _ (run-on .ensures .answer) (omega (arith, checked-admits (check .ensures (args .stack .now) refl) (if1 .left) .short))
+    let offer-string = c .before .before .before .before .before .offer-string in
+    string-countable (offer-string .ensures) (omega (arith, checked-admits (check .ensures .checked (args .stack .now) refl) (if1 .left) .short))
 
 same-length : tie.Need-same-length
 same-length c = search needs
@@ -45,8 +41,8 @@ returns-2 c =
     let args = c .before .before .before .before .before .before .before .before .before .before .before .before .before .before .before .before .before .before .args in
     let check = c .before .before .before .before .before .before .before .before .before .before .before .check in
     let if1 = c .before .before .before .before .before .before .before .before .before .if1 in
-    let run-on = c .before .before .before .before .before .before .run-on in
-    account-stepped (checked-admits (check .ensures (args .stack .now) refl) (if1 .left)) (outlined-sized _ _ _) (run-on .ensures) (c .before .progress-of .ensures) (c .answer-of .ensures)
+    let offer-string = c .before .before .before .before .before .before .offer-string in
+    account-stepped (checked-admits (check .ensures .checked (args .stack .now) refl) (if1 .left)) (outlined-sized _ _ _) (offer-string .ensures) (c .before .progress-of .ensures) (c .answer-of .ensures)
 
 pub account-on-spec : {M : Type 1} → statement M
 account-on-spec =
@@ -54,7 +50,7 @@ account-on-spec =
     (tie.spec
     check-requires
     returns
-    run-on-requires
+    offer-string-requires
     progress-of-requires
     answer-of-requires
     same-length

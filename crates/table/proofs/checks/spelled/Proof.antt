@@ -1,8 +1,8 @@
 -- A refusal passes through; then the length, then each byte.
 use native.Mathlib.Omega.{arith}
 use borrow.Author.Needs.{needs}
-use Rattle.table.proofs.SymbolStrings.{something}
 use Rattle.table.specs.Checks.{passes, stops, goes, too-long, strange}
+use Rattle.table.proofs.SymbolStrings.{something}
 use Rattle.table.proofs.checks.spelled.Statement.{statement}
 use Rattle.table.proofs.checks.spelled.Tie as tie
 

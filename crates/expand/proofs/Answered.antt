@@ -1,0 +1,72 @@
+-- The answer to each way in which an expansion ends, and what its number says of that.
+use mathlib.Core.Path.{_≡_, refl}
+use mathlib.Core.Logic.{_⊎_, inl, inr, _≢_}
+use native.Mathlib.Omega.{arith}
+use Rattle.answers.specs.declared.Answer.{Answer}
+use Rattle.answers.specs.Answers.{done, stop, noSet}
+use Rattle.answers.specs.Refusals.{room, production, stackRoom, outputRoom}
+use Rattle.machine.specs.Machine.{full-stack}
+use Rattle.machine.specs.Expansion.{Course, Upshot, complete, unfit, full-output, Expansion, WithRoom, completes, misfits}
+use Rattle.machine.specs.Expansion as expansion
+use Rattle.expand.specs.Expanding.{answeredBy}
+
+-- how an expansion ended, and its answer
+pub data ToldBy (s : Course) : Upshot → Answer → Type 0 where
+  finished : ToldBy s complete (done (s .moves))
+  misfitting : ToldBy s unfit (stop production (s .used) 0 (s .moves) noSet)
+  out-of-stack : ToldBy s expansion.full-stack (stop room (s .used) stackRoom (s .moves) noSet)
+  out-of-output : ToldBy s full-output (stop room (s .used) outputRoom (s .moves) noSet)
+
+pub told-by : (x : Expansion) → ToldBy (x .progress) (x .ending) (answeredBy x)
+unfolding answeredBy
+told-by x = go (x .ending)
+  where
+    go : (e : Upshot) → ToldBy (x .progress) e (answeredBy (record { ending = e; progress = x .progress }))
+    go complete = finished
+    go unfit = misfitting
+    go expansion.full-stack = out-of-stack
+    go full-output = out-of-output
+
+pub complete-done : (x : Expansion) → x .ending ≡ complete → answeredBy x ≡ done (x .progress .moves)
+unfolding answeredBy
+complete-done x h = rw (h, answeredBy)
+
+pub unfit-refused : (x : Expansion) → x .ending ≡ unfit → answeredBy x ≡ stop production (x .progress .used) 0 (x .progress .moves) noSet
+unfolding answeredBy
+unfit-refused x h = rw (h, answeredBy)
+
+module _ {s : Course} where
+  pub told-complete : {e : Upshot} {a : Answer} → ToldBy s e a → a .number ≡ 0 → e ≡ complete
+  unfolding stop
+  told-complete finished h = refl
+  told-complete misfitting h = absurd (omega arith)
+  told-complete out-of-stack h = absurd (omega arith)
+  told-complete out-of-output h = absurd (omega arith)
+
+  pub told-unfit : {e : Upshot} {a : Answer} → ToldBy s e a → a .number ≡ production → (e ≡ unfit) × (a .place ≡ s .used)
+  unfolding done stop
+  told-unfit finished h = absurd (omega arith)
+  told-unfit misfitting h = (refl, refl)
+  told-unfit out-of-stack h = absurd (omega arith)
+  told-unfit out-of-output h = absurd (omega arith)
+
+  pub told-with-room : {e : Upshot} {a : Answer} → ToldBy s e a → a .number ≢ room → WithRoom e
+  unfolding stop
+  told-with-room finished n = completes
+  told-with-room misfitting n = misfits
+  told-with-room out-of-stack n = absurd (n refl)
+  told-with-room out-of-output n = absurd (n refl)
+
+  pub told-moves : {e : Upshot} {a : Answer} → ToldBy s e a → a .steps ≡ s .moves
+  unfolding done stop
+  told-moves finished = refl
+  told-moves misfitting = refl
+  told-moves out-of-stack = refl
+  told-moves out-of-output = refl
+
+  pub told-kinds : {e : Upshot} {a : Answer} → ToldBy s e a → (a .number ≡ 0) ⊎ ((a .number ≡ room) ⊎ (a .number ≡ production))
+  unfolding done stop
+  told-kinds finished = inl refl
+  told-kinds misfitting = inr (inr refl)
+  told-kinds out-of-stack = inr (inl refl)
+  told-kinds out-of-output = inr (inl refl)

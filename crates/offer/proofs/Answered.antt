@@ -1,0 +1,68 @@
+-- The answer to each way in which a run ends, and what its number says of that.
+use mathlib.Core.Path.{_≡_, refl}
+use mathlib.Core.Logic.{_⊎_, inl, inr}
+use native.Mathlib.Omega.{arith}
+use Rattle.sets.specs.declared.Set.{Set}
+use Rattle.answers.specs.declared.Answer.{Answer}
+use Rattle.answers.specs.Answers.{done, stop, noSet}
+use Rattle.answers.specs.Refusals.{room, syntax, stackRoom, listRoom}
+use Rattle.machine.specs.Machine.{State, Reason, full-list, full-stack, wants-end, wants-token, wants-row, Offered, taken, stopped}
+use Rattle.machine.proofs.Walk.{Syntax, wanted-end, wanted-token, wanted-row, Short, short-list, short-stack, final}
+use Rattle.offer.specs.Stops.{answered}
+
+-- how a run ended, and its answer
+pub data Told (e : Reason → Set) : Offered → Answer → Type 0 where
+  served : (s : State) → Told e (taken s) (done (s .moves))
+  short-of-list : (s : State) → Told e (stopped full-list s) (stop room (s .matched) listRoom (s .moves) noSet)
+  short-of-stack : (s : State) → Told e (stopped full-stack s) (stop room (s .matched) stackRoom (s .moves) noSet)
+  blocked : {r : Reason} (s : State) → Syntax r → Told e (stopped r s) (stop syntax (s .matched) 0 (s .moves) (e r))
+
+pub told : (e : Reason → Set) (o : Offered) → Told e o (answered e o)
+unfolding answered
+told e (taken s) = served s
+told e (stopped full-list s) = short-of-list s
+told e (stopped full-stack s) = short-of-stack s
+told e (stopped wants-end s) = blocked s wanted-end
+told e (stopped (wants-token t) s) = blocked s wanted-token
+told e (stopped (wants-row A) s) = blocked s wanted-row
+
+module _ {e : Reason → Set} where
+  pub told-done : {o : Offered} {a : Answer} → Told e o a → a .number ≡ 0 → (s : State) × (o ≡ taken s)
+  unfolding stop
+  told-done (served s) h = (s, refl)
+  told-done (short-of-list s) h = absurd (omega arith)
+  told-done (short-of-stack s) h = absurd (omega arith)
+  told-done (blocked s k) h = absurd (omega arith)
+
+  pub told-room : {o : Offered} {a : Answer} → Told e o a → a .number ≡ room → (r : Reason) × (s : State) × Short r × (o ≡ stopped r s)
+  unfolding done stop
+  told-room (served s) h = absurd (omega arith)
+  told-room (short-of-list s) h = (_, s, short-list, refl)
+  told-room (short-of-stack s) h = (_, s, short-stack, refl)
+  told-room (blocked s k) h = absurd (omega arith)
+
+  pub told-syntax : {o : Offered} {a : Answer} → Told e o a → a .number ≡ syntax → (r : Reason) × (s : State) × Syntax r × (o ≡ stopped r s) × (a .place ≡ s .matched)
+  unfolding done stop
+  told-syntax (served s) h = absurd (omega arith)
+  told-syntax (short-of-list s) h = absurd (omega arith)
+  told-syntax (short-of-stack s) h = absurd (omega arith)
+  told-syntax (blocked {r = r} s k) h = (r, s, k, refl, refl)
+
+  pub told-numbers : {o : Offered} {a : Answer} → Told e o a → (a .number ≡ 0) ⊎ ((a .number ≡ room) ⊎ (a .number ≡ syntax))
+  unfolding done stop
+  told-numbers (served s) = inl refl
+  told-numbers (short-of-list s) = inr (inl refl)
+  told-numbers (short-of-stack s) = inr (inl refl)
+  told-numbers (blocked s k) = inr (inr refl)
+
+  pub told-steps : {o : Offered} {a : Answer} → Told e o a → a .steps ≡ final o .moves
+  unfolding done stop final
+  told-steps (served s) = refl
+  told-steps (short-of-list s) = refl
+  told-steps (short-of-stack s) = refl
+  told-steps (blocked s k) = refl
+
+pub short-room : (e : Reason → Set) {r : Reason} (s : State) → Short r → answered e (stopped r s) .number ≡ room
+unfolding answered stop
+short-room e s short-list = refl
+short-room e s short-stack = refl

@@ -1,0 +1,9 @@
+pub mod Answered
+pub mod Deciding
+pub mod Choosing
+pub mod Holding
+pub mod Turning
+pub mod Resumed
+pub mod Steps
+pub mod Unique
+pub mod Promise

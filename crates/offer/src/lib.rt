@@ -1,0 +1,48 @@
+// The steps of a run: one column offered to a run in progress, or a whole token string from the start symbol on.
+use grammar::Symbol;
+use stack::Ahead;
+
+mod moves;
+pub mod offering;
+pub mod strings;
+
+// A step: the symbol on top of the stack, and what it faces.
+pub(crate) struct Step {
+    pub symbol: Symbol,
+    pub ahead: Ahead,
+}
+
+// Why a run stops: list or stack is too short, or it wants the end mark, that token, or a filled column of that row.
+pub enum Cause {
+    FullList,
+    FullStack,
+    WantsEnd,
+    WantsToken(u8),
+    WantsRow(u8),
+}
+
+// How an offer ends: the end mark is taken, the token on top is matched, or the run stops.
+pub(crate) enum Ending {
+    Accept,
+    Match,
+    Stop(Cause),
+}
+
+// What is done next: a production is used, or the offer ends.
+pub(crate) enum Move {
+    Use(u8),
+    Finish(Ending),
+}
+
+// How many cells of stack and list are in use, and how many tokens are matched.
+pub struct Progress {
+    pub height: usize,
+    pub listed: usize,
+    pub matched: usize,
+}
+
+// What became of an offer: what was offered is taken, or the run stops.
+pub enum Reply {
+    Taken(Progress),
+    Stopped(Cause, Progress),
+}

@@ -1,0 +1,3 @@
+pub mod Ahead
+pub mod Sides
+pub mod Stack
