@@ -119,8 +119,8 @@ run-halts exact w = halted-decides (halts exact w)
 
 module _ {g : Grammar} {cell : ℕ → Column → Option ℕ} (exact : Exact g cell) (well : WellFormed g)
     (full : NoEmptyRight g) (room cells : ℕ) (w : List ℕ) where
-  -- where no right side is empty, a run over n tokens lists at most N × n productions, however it ends and with whatever
-  -- room
+  -- where no right side is empty, a run over n tokens, however it ends and with whatever room, lists at most N × n
+  -- productions
   pub run-lists-few : length (final (runOf g cell room cells w) .listed) ≤ listCells g (length w)
   run-lists-few = lists-few exact full (λ t x k l. leads-few well l) room cells w
 
