@@ -73,7 +73,7 @@ module _ {g : Grammar} {cell : ℕ → Column → Option ℕ} {t : ℕ} where
   leads-first : {x : Symbol} {k : ℕ} → Leads g cell t x k → (β : Form) → First g (x ∷ β) (column (token t))
   leads-first l β = let (δ, d) = leads-derives l in starts (δ ++ β) (derives-before β d)
 
-  module _ (full : NoEmptyRight g) (exact : Exact g cell) where
+  module _ (exact : Exact g cell) (full : NoEmptyRight g) where
     -- a production whose right side leads to the token stands in the token's cell
     leads-rule : {p A : ℕ} {x : Symbol} {β : Form} → Rule g p A (x ∷ β) → (k : ℕ) × Leads g cell t x k → (k : ℕ) × Leads g cell t (Nonterminal A) k
     leads-rule {x = x} {β = β} r (k, l) = (suc k, through (claims-cell exact (record { right = x ∷ β; rule = r; ahead = first (leads-first l β) })) r l)
@@ -105,10 +105,10 @@ module _ {g : Grammar} {cell : ℕ → Column → Option ℕ} {t : ℕ} where
         go c = looked (c .rule) (c .ahead)
 
 -- and the end mark's cells are vacant
-pub end-vacant : {g : Grammar} {cell : ℕ → Column → Option ℕ} → NoEmptyRight g → Exact g cell → {A p : ℕ} → cell A endmark ≢ some p
-end-vacant full exact {A} e = end-unclaimed full (claimed-by (exact .cells A endmark) e)
+pub end-vacant : {g : Grammar} {cell : ℕ → Column → Option ℕ} → Exact g cell → NoEmptyRight g → {A p : ℕ} → cell A endmark ≢ some p
+end-vacant exact full {A} e = end-unclaimed full (claimed-by (exact .cells A endmark) e)
 
--- the left sides of k productions that lead to t, each with how many it leads by
+-- the left sides of k productions that lead to t, and by how many each of them leads
 record Chain (g : Grammar) (cell : ℕ → Column → Option ℕ) (t k : ℕ) : Type 0 where
   lefts : List ℕ
   long : length lefts ≡ k

@@ -1,6 +1,6 @@
 -- The room that is always enough where no right side is empty: between two matches a bounded number of productions is listed, and each of
 -- them adds at most 15 cells to the stack.
-use mathlib.Core.Path.{_≡_, ap, sym, subst}
+use mathlib.Core.Path.{_≡_, ap, subst}
 use mathlib.Core.List.{List, [], _∷_, _++_}
 use mathlib.Core.Option.{Option, some}
 use Prim.Native.Nat.{ℕ, suc, _+_, _*_, _≤_}
@@ -19,7 +19,7 @@ use Rattle.machine.specs.Room.{rightOf}
 use Rattle.machine.specs.Stopping.{runOf}
 use Rattle.machine.proofs.Walk.{Decided, accepted, refused, wanted-end, wanted-token, wanted-row, final, Walk, here, match, expand, Halt, accepts, left-over, unmatched, vacant, list-full, stack-full, Walked}
 use Rattle.machine.proofs.Agreement.{ran}
-use Rattle.machine.proofs.Count.{Counted, begun-counted, walk-counted, halt-final}
+use Rattle.machine.proofs.Count.{begun-counted, walk-counted, halt-final}
 use Rattle.machine.proofs.Relation.{right-of, exact-rows}
 
 -- Ahead bound w s k: from the state s with w unread at most k productions are still listed, namely as many as the top symbol leads by and
@@ -43,12 +43,13 @@ module _ {g : Grammar} {cell : ℕ → Column → Option ℕ} where
       let form : rightOf g p ++ α ≡ x ∷ (β ++ α) = rw (← same, right-of r) in
       (k + bound * length w, omega arith, led form l)
 
-  module _ (full : NoEmptyRight g) (exact : Exact g cell) {bound : ℕ} (few : (t : ℕ) (x : Symbol) (k : ℕ) → Leads g cell t x k → k ≤ bound) where
+  module _ (exact : Exact g cell) (full : NoEmptyRight g) {bound : ℕ} (few : (t : ℕ) (x : Symbol) (k : ℕ) → Leads g cell t x k → k ≤ bound) where
+    -- so a production that is used is one of those ahead
     ahead-use : {p A k : ℕ} {w : List ℕ} {s : State} {α : Form} → Ahead g cell bound w s k → s .stack ≡ Nonterminal A ∷ α → cell A (front w) ≡ some p
         → (j : ℕ) × (suc j ≤ k) × Ahead g cell bound w (replaced p (rightOf g p ++ α) s) j
-    ahead-use {w = []} whatever e c = absurd (end-vacant full exact c)
+    ahead-use {w = []} whatever e c = absurd (end-vacant exact full c)
     ahead-use {A = A} {w = t ∷ w} {s = s} {α = α} whatever e c =
-        let (k, l) = leads-all full exact c in
+        let (k, l) = leads-all exact full c in
         let (j, h, a) = led-on bound w s α l c in
         (j, omega (arith, few t (Nonterminal A) k l, mul-suc bound (length w)), a)
     ahead-use {A = A} {s = s} {α = α} (led {t = t} {k = k} {w = w} {x = x} f l) e c =
@@ -91,15 +92,15 @@ module _ {g : Grammar} {cell : ℕ → Column → Option ℕ} where
     pub lists-few : length (final (runOf g cell room cells w) .listed) ≤ bound * length w
     unfolding begun
     lists-few =
-        let (j, a, h) = walk-ahead full exact few (ended .walk) whatever in
+        let (j, a, h) = walk-ahead exact full few (ended .walk) whatever in
         omega (arith, ap (λ (s : State). length (s .listed)) (halt-final (ended .halt)))
 
     -- where the cell is filled, its production is not more than that either
     one-more : {p A : ℕ} {α : Form} → ended .last .stack ≡ Nonterminal A ∷ α → cell A (front (ended .rest)) ≡ some p → suc (length (ended .last .listed)) ≤ bound * length w
     unfolding begun
     one-more e c =
-        let (j, a, m) = walk-ahead full exact few (ended .walk) whatever in
-        let (i, l, b) = ahead-use full exact few a e c in
+        let (j, a, m) = walk-ahead exact full few (ended .walk) whatever in
+        let (i, l, b) = ahead-use exact full few a e c in
         omega arith
 
     module _ (short : (p A : ℕ) (β : Form) → Rule g p A β → length β ≤ 16) where
@@ -107,6 +108,7 @@ module _ {g : Grammar} {cell : ℕ → Column → Option ℕ} where
       unfolding begun
       last-low = walk-low exact short (ended .walk) (omega arith) (omega arith)
 
+      -- and the stack holds no more than 15 cells for each of them beside the first
       pub stays-low : final (runOf g cell room cells w) .height ≤ 1 + 15 * (bound * length w)
       stays-low =
           let listed = ap (λ (s : State). length (s .listed)) (halt-final (ended .halt)) in

@@ -35,8 +35,8 @@ pub record LongestList (g : Grammar) (ps : List ℕ) (k : ℕ) : Type 0 where
   pub begun : BeginsList g (take k ps)
   pub longest : (j : ℕ) → j ≤ length ps → BeginsList g (take j ps) → j ≤ k
 
--- the room that is always enough for n tokens where no right side is empty: a list cell for each nonterminal and each
--- token, and for each list cell the 15 by which a right side of 16 symbols is longer than what it replaces
+-- the room that is always enough for n tokens where no right side is empty: for each token a list cell for every
+-- nonterminal; and a stack cell for the start symbol and 15 for each list cell, since 16 symbols may replace one
 abbrev pub listCells : Grammar → ℕ → ℕ
 listCells g n = g .nonterminals * n
 
