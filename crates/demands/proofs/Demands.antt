@@ -30,6 +30,9 @@ use Rattle.demands.proofs.Kept.{premises-exact, run-ends, run-begins, b
 use Rattle.demands.proofs.AnyTable.{ends-told, ends-steps, any-accepted}
 use Rattle.demands.proofs.RunDemands.{accepted-derived, syntax-place, served-or-short, room-short, short-room-refused, runs-back, done-had-room}
 use Rattle.demands.proofs.RunRoom.{room-place, decides-exactly}
+-- room by formula: where no right side is empty, a run of n tokens keeps within N × n list cells and 1 + 15 × N × n
+-- stack cells, and with those it is never refused for room
+pub use Rattle.demands.proofs.Formula.{run-formula}
 
 -- demand 2: sets and tables have no member missing and none added, and a conflict is found exactly if two productions
 -- claim one cell

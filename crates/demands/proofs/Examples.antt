@@ -51,7 +51,8 @@ examples-allowed =
     (each {x = exampleK} (expanding.ended house-serves (omega arith) (omega arith))
     (each {x = exampleKShort} (expanding.ended house-serves (omega arith) (omega arith)) nothing)))))))))))
 
-allowed-given : (x : Example) → Allowed x → Given x
+-- what the promise allows of a call is determined
+pub allowed-given : (x : Example) → Allowed x → Given x
 unfolding Allowed Given
 allowed-given (rows.building book first follow table r) o = λ x may.
     let same = build-outcome-unique book first follow table may o in

@@ -2,6 +2,7 @@ pub mod Kept
 pub mod AnyTable
 pub mod RunDemands
 pub mod RunRoom
+pub mod Formula
 pub mod BuildDemands
 pub mod ExpandDemands
 pub mod ExpandRoom
@@ -9,5 +10,6 @@ pub mod Demands
 pub mod Shown
 pub mod House
 pub mod Examples
+pub mod ChainExample
 pub mod Idle
 pub mod Promise

@@ -1,4 +1,6 @@
 pub mod Demands
 pub mod RoomPlace
+pub mod Formula
 pub mod Examples
+pub mod ChainExample
 pub mod Idle

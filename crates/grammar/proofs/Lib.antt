@@ -8,6 +8,8 @@ pub mod Useful
 pub mod Machine
 pub mod Place
 pub mod Halting
+pub mod Distinct
+pub mod Chains
 pub mod Theorems
 pub mod Tests
 pub mod Worked

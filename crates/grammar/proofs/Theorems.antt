@@ -28,6 +28,10 @@ pub use Rattle.grammar.proofs.Useful.{useful-start, start-useful, usefu
 pub use Rattle.grammar.proofs.Useful.{without-productions}
 -- cells are exact without conflict, and exact cells leave no conflict
 pub use Rattle.grammar.proofs.Machine.{cells-exact, exact-no-conflict}
+-- where no right side is empty, what a form derives is not shorter than it, and the end mark's cells are vacant
+pub use Rattle.grammar.proofs.Chains.{derives-longer, end-vacant}
+-- and each filled cell of a token leads to it, by productions of one number, at most that of the nonterminals
+pub use Rattle.grammar.proofs.Chains.{leads-all, leads-same, leads-few}
 -- the place of a syntax stop is determined
 pub use Rattle.grammar.proofs.Place.{place-determined}
 

@@ -1,3 +1,4 @@
+pub mod Filled
 pub mod Grammar
 pub mod House
 pub mod Machine

@@ -8,6 +8,7 @@ pub mod Peak
 pub mod Follow
 pub mod Outcome
 pub mod Enough
+pub mod RoomFormula
 pub mod RunTheorems
 pub mod RoomNeeded
 pub mod ExpandMoves

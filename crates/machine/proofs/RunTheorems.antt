@@ -6,12 +6,13 @@ use mathlib.Core.Option.{Option}
 use Prim.Native.Nat.{ℕ, _≤_, _<_}
 use native.Mathlib.Omega.{arith}
 use lib.ListN.{length}
-use Rattle.grammar.specs.Grammar.{Form, Grammar, Column, Derivable, Leftmost, Complete, WellFormed, Useful}
+use Rattle.grammar.specs.Filled.{NoEmptyRight}
+use Rattle.grammar.specs.Grammar.{Form, Grammar, Column, Rule, Derivable, Leftmost, Complete, WellFormed, Useful}
 use Rattle.grammar.specs.Machine.{Exact, Longest}
-use Rattle.grammar.proofs.Theorems.{leftmost-unique, exact-no-conflict, halts}
+use Rattle.grammar.proofs.Theorems.{leftmost-unique, exact-no-conflict, halts, leads-few}
 use Rattle.machine.specs.Machine.{State, Reason, Offered, taken, stopped, begun, runFrom}
-use Rattle.machine.specs.Room.{peak}
-use Rattle.machine.proofs.Walk.{Syntax, Short, final}
+use Rattle.machine.specs.Room.{peak, listCells, stackCells}
+use Rattle.machine.proofs.Walk.{Syntax, Short, Decided, final}
 use Rattle.machine.proofs.Count.{Counted, counted-stack, begun-counted, run-counted, run-grown}
 use Rattle.machine.proofs.Relation.{Rows, Reached, run-reached}
 use Rattle.machine.proofs.Verdict.{Derived, begun-ran, ran-derived, syntax-not-derivable, syntax-place}
@@ -30,6 +31,8 @@ pub use Rattle.machine.proofs.Relation.{exact-rows}
 pub use Rattle.machine.proofs.Peak.{peak-start}
 -- where a run stops for room, its list is a beginning of the derivation and not all of it
 pub use Rattle.machine.proofs.Outcome.{before-listed, before-fewer}
+-- the room that is always enough, over any bound on the productions by which a symbol leads to a token
+pub use Rattle.machine.proofs.RoomFormula.{lists-few, stays-low, always-enough}
 -- more room does not change what is decided
 pub use Rattle.machine.proofs.Enough.{run-more}
 
@@ -112,3 +115,21 @@ module _ {g : Grammar} {cell : ℕ → Column → Option ℕ} (exact : Exact g c
 -- for every string there is room enough that it is taken or stops by syntax
 pub run-halts : {g : Grammar} {cell : ℕ → Column → Option ℕ} → Exact g cell → (w : List ℕ) → RoomEnough g cell w
 run-halts exact w = halted-decides (halts exact w)
+
+module _ {g : Grammar} {cell : ℕ → Column → Option ℕ} (exact : Exact g cell) (well : WellFormed g)
+    (full : NoEmptyRight g) (room cells : ℕ) (w : List ℕ) where
+  -- where no right side is empty, a run over n tokens, however it ends and with whatever room, lists at most N × n
+  -- productions
+  pub run-lists-few : length (final (runOf g cell room cells w) .listed) ≤ listCells g (length w)
+  run-lists-few = lists-few exact full (λ t x k l. leads-few well l) room cells w
+
+  module _ (short : (p A : ℕ) (β : Form) → Rule g p A β → length β ≤ 16) where
+    -- and holds at most 1 + 15 × N × n stack cells, where none has more than 16 symbols
+    pub run-stays-low : final (runOf g cell room cells w) .height ≤ stackCells g (length w)
+    run-stays-low = stays-low exact full (λ t x k l. leads-few well l) room cells w short
+
+    -- so with that much room the string is taken or stops by syntax
+    pub run-always-enough : listCells g (length w) ≤ cells
+        → stackCells g (length w) ≤ room
+        → Decided (runOf g cell room cells w)
+    run-always-enough = always-enough exact full (λ t x k l. leads-few well l) room cells w short

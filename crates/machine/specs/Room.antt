@@ -1,9 +1,10 @@
--- What the machines take from a grammar, and the greatest height that the stack reaches along a derivation.
--- Document 01, "Running and expanding", and the room of demand 3.
+-- What the machines take from a grammar, the greatest height that the stack reaches along a derivation, and the room
+-- that is always enough.
+-- Document 01, "Running and expanding", and the room of demand 3; request W11.
 use mathlib.Core.Bool.{Bool, false}
 use mathlib.Core.List.{List, [], _++_}
 use mathlib.Core.Option.{some, none}
-use Prim.Native.Nat.{ℕ, suc, _≤_, max}
+use Prim.Native.Nat.{ℕ, suc, _+_, _*_, _≤_, max}
 use lib.Dec.{eqb}
 use lib.ListN.{length, take, getElem?}
 use Rattle.grammar.specs.Grammar.{Form, Grammar, Leftmost, done, shift, expand, Complete}
@@ -33,3 +34,11 @@ pub record LongestList (g : Grammar) (ps : List ℕ) (k : ℕ) : Type 0 where
   pub inside : k ≤ length ps
   pub begun : BeginsList g (take k ps)
   pub longest : (j : ℕ) → j ≤ length ps → BeginsList g (take j ps) → j ≤ k
+
+-- the room that is always enough for n tokens where no right side is empty: for each token a list cell for every
+-- nonterminal; and a stack cell for the start symbol and 15 for each list cell, since 16 symbols may replace one
+abbrev pub listCells : Grammar → ℕ → ℕ
+listCells g n = g .nonterminals * n
+
+abbrev pub stackCells : Grammar → ℕ → ℕ
+stackCells g n = 1 + 15 * (g .nonterminals * n)

@@ -1,0 +1,69 @@
+-- Where no right side of the book is empty, a run keeps within N × n list cells and 1 + 15 × N × n stack cells, and with those it never
+-- lacks room.
+use mathlib.Core.Path.{ap, subst}
+use mathlib.Core.Logic.{_≢_}
+use mathlib.Core.List.{List}
+use Prim.Native.Nat.{ℕ, _+_, _≤_}
+use native.Mathlib.Omega.{arith}
+use lib.ListN.{length}
+use Rattle.grammar.specs.Filled.{NoEmptyRight}
+use Rattle.grammar.specs.Grammar.{Form, Rule}
+use Rattle.answers.specs.declared.Answer.{Answer}
+use Rattle.answers.specs.Answers.{refusal}
+use Rattle.answers.specs.Buffers.{counted}
+use Rattle.answers.specs.Refusals.{room}
+use Rattle.book.proofs.Promise.{serves-limits, serves-well-formed}
+use Rattle.machine.specs.Machine.{State, Reason, Offered, stopped, final}
+use Rattle.machine.specs.Room.{listCells, stackCells}
+use Rattle.machine.specs.Stopping.{Short, short-list, short-stack, Decided, refused}
+use Rattle.machine.proofs.RunTheorems.{run-lists-few, run-stays-low, run-always-enough}
+use Rattle.offer.specs.Strings.{ran}
+use Rattle.offer.proofs.Promise.{told-room}
+use Rattle.demands.specs.Demands.{Ran, MayRun, Premises}
+use Rattle.demands.specs.Formula.{RunWithinFormula}
+use Rattle.demands.proofs.AnyTable.{ends-told, ends-steps}
+use Rattle.demands.proofs.Kept.{premises-exact, RunBegins, stackless, begins, run-begins}
+
+-- what stops for room is not decided
+short-undecided : {r : Reason} {s : State} → Short r → ¬ Decided (stopped r s)
+short-undecided short-list (refused q) = elim q [ ]
+short-undecided short-stack (refused q) = elim q [ ]
+
+module _ {book table tokens : List ℕ} (h : Premises book table tokens) (full : NoEmptyRight (h .built .grammar)) (stack list : List ℕ) where
+  sides-short : (p A : ℕ) (β : Form) → Rule (h .built .grammar) p A β → length β ≤ 16
+  sides-short p A β rule = serves-limits (h .built .serves) .lengths-fit rule
+
+  lists-within : length (final (ran (h .built .grammar) table tokens stack list) .listed) ≤ listCells (h .built .grammar) (length tokens)
+  unfolding ran
+  lists-within = run-lists-few (premises-exact h) (serves-well-formed (h .built .serves)) full (counted stack) (counted list) tokens
+
+  holds-within : final (ran (h .built .grammar) table tokens stack list) .height ≤ stackCells (h .built .grammar) (length tokens)
+  unfolding ran
+  holds-within =
+      run-stays-low (premises-exact h) (serves-well-formed (h .built .serves)) full (counted stack) (counted list) tokens sides-short
+
+  steps-within : {r : Ran} → RunBegins (h .built .grammar) table tokens stack list r
+      → r .answer .steps ≤ listCells (h .built .grammar) (length tokens) + final (ran (h .built .grammar) table tokens stack list) .matched
+  unfolding refusal
+  steps-within (stackless e a b c) = omega (arith, ap (λ (x : Answer). x .steps) a)
+  steps-within (begins k e) = omega (arith, ends-steps e, lists-within)
+
+  never-short : {r : Ran} → listCells (h .built .grammar) (length tokens) ≤ counted list → stackCells (h .built .grammar) (length tokens) ≤ counted stack
+      → RunBegins (h .built .grammar) table tokens stack list r → r .answer .number ≢ room
+  unfolding ran
+  never-short l k (stackless e a b c) n = omega arith
+  never-short l k (begins m e) n =
+      let (reason, s, why, stopped-at) = told-room (ends-told e) n in
+      let decided = run-always-enough (premises-exact h) (serves-well-formed (h .built .serves)) full (counted stack) (counted list) tokens sides-short l k in
+      short-undecided why (subst (λ (o : Offered). Decided o) stopped-at decided)
+
+-- a run that keeps its promise keeps within the formula
+pub run-formula : (book table tokens stack list : List ℕ) (r : Ran)
+    → MayRun book table tokens stack list r
+    → RunWithinFormula book table tokens stack list r
+run-formula book table tokens stack list r o =
+    record {
+      listed = λ h full. (lists-within h full stack list, steps-within h full stack list (run-begins book table tokens stack list r o h));
+      held = λ h full. holds-within h full stack list;
+      never-room = λ h full l k. never-short h full stack list l k (run-begins book table tokens stack list r o h);
+    }
