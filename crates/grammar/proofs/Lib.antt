@@ -18,3 +18,4 @@ pub mod WorkedUseful
 pub mod WorkedForm
 pub mod House
 pub mod Rules
+pub mod Append

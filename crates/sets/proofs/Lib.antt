@@ -8,3 +8,4 @@ pub mod Unique
 pub mod Promise
 pub mod Exactness
 pub mod Words
+pub mod Joining

@@ -10,3 +10,4 @@ pub use Rattle.sets.proofs.Unique.{value-unique, decides-unique, number
 pub use Rattle.sets.proofs.Exactness.{exactly-alike, exactly-none, exactly-added, exactly-united}
 pub use Rattle.sets.proofs.Words.{places-are, no-words, more-words, set-words, value-fits, value-words, words-value, words-length, words-fit, same-words, value-none, member-place, member-value}
 pub use Rattle.sets.proofs.Words.{united-word, united-words-length, united-words-fit, value-united, added-words-length, added-words-fit, value-added, words-past}
+pub use Rattle.sets.proofs.Joining.{joining, joined-exactly}
