@@ -9,8 +9,7 @@ use lib.ListN.{length, getD, getElem?}
 use Rattle.grammar.specs.Grammar.{Production, Grammar}
 use Rattle.reader.specs.Book.{Limits}
 use Rattle.reader.specs.Fields.{symbolAt, formIn}
-use Rattle.reader.proofs.Forms.{form-spelled}
-use Rattle.reader.proofs.Written.{read-limits}
+use Rattle.reader.proofs.Promise.{form-spelled, read-limits}
 use Rattle.book.specs.declared.Reading.{Reading}
 use Rattle.book.specs.declared.columns.Outline.{Outline}
 use Rattle.book.specs.Columns.{productionAt, productionsFrom, outlined, grammarIn, Outlines}

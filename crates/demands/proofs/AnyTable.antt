@@ -13,11 +13,8 @@ use Rattle.answers.specs.Buffers.{over, counted}
 use Rattle.table.specs.Table.{rowAt, held, cellOf}
 use Rattle.table.specs.Fitting.{Fits, vacant, filled, FitTable}
 use Rattle.machine.specs.Room.{rightOf}
-use Rattle.machine.specs.Machine.{Offered}
-use Rattle.machine.proofs.Count.{Counted}
-use Rattle.machine.proofs.Relation.{Rows, right-of}
-use Rattle.machine.proofs.Walk.{final}
-use Rattle.machine.proofs.RunTheorems.{run-steps, run-sound}
+use Rattle.machine.specs.Machine.{Offered, final}
+use Rattle.machine.proofs.Promise.{Counted, Rows, right-of, run-steps, run-sound}
 use Rattle.offer.specs.Strings.{ran}
 use Rattle.offer.specs.Stops.{expected}
 use Rattle.offer.proofs.Promise.{Told, told, told-done, told-steps}

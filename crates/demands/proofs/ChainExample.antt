@@ -23,7 +23,7 @@ use Rattle.answers.specs.Refusals.{room}
 use Rattle.reader.specs.Book.{reads, spells, marked, wanted, records, symbols, symbolOf, ending}
 use Rattle.book.specs.Judging.{AllUseful}
 use Rattle.table.specs.Table.{size, held, BuiltWithoutConflict, cellOf}
-use Rattle.table.proofs.Worked.{workedFirst, workedFollow, workedUseful, useful-tested, first-tested, follow-tested, tableTest, table-tested}
+use Rattle.table.proofs.Promise.{workedFirst, workedFollow, workedUseful, useful-tested, first-tested, follow-tested, tableTest, table-tested}
 use Rattle.machine.specs.Machine.{begun, meets, popped, replaced, used, facing, offer, runFrom, final}
 use Rattle.machine.specs.Room.{rightOf, listCells, stackCells}
 use Rattle.offer.specs.Stops.{marking, filledBelow, expected, answered}

@@ -17,7 +17,7 @@ use Rattle.book.specs.Judging.{Serves}
 use Rattle.table.specs.Table.{cellOf}
 use Rattle.machine.specs.Room.{peak, LongestList}
 use Rattle.machine.specs.Stopping.{RoomNeeded}
-use Rattle.machine.proofs.RoomNeeded.{room-needed}
+use Rattle.machine.proofs.Promise.{room-needed}
 use Rattle.offer.specs.Strings.{ran}
 use Rattle.offer.proofs.Promise.{told-numbers}
 use Rattle.run.specs.Running.{Admits}

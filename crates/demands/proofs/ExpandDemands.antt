@@ -16,8 +16,7 @@ use Rattle.book.proofs.Promise.{serves-limits}
 use Rattle.machine.specs.Expansion.{complete, unfit, ended, expansion}
 use Rattle.machine.specs.Expansion as machine
 use Rattle.machine.specs.Room.{peak, LongestList}
-use Rattle.machine.proofs.Peak.{peak-start}
-use Rattle.machine.proofs.ExpandTheorems.{expand-steps, expand-sound, expand-complete, expand-exact, expand-refuses, expand-place, expand-room}
+use Rattle.machine.proofs.Promise.{peak-start, expand-steps, expand-sound, expand-complete, expand-exact, expand-refuses, expand-place, expand-room}
 use Rattle.expand.proofs.Promise.{ToldBy, told-by, told-complete, told-unfit, told-with-room, told-moves, told-kinds, complete-done, unfit-refused}
 use Rattle.demands.specs.Demands.{Expanded}
 use Rattle.demands.proofs.Kept.{EndsExpansion, ExpansionBegins, stackless, begins}

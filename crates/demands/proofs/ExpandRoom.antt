@@ -11,8 +11,7 @@ use Rattle.answers.specs.Refusals.{room, stackRoom, outputRoom}
 use Rattle.answers.specs.Buffers.{over, counted, cleared}
 use Rattle.machine.specs.Expansion.{Course, Upshot, full-stack, full-output, ended, Expansion}
 use Rattle.machine.specs.Stopping.{Midway, Lacks, lacks-stack, lacks-output}
-use Rattle.machine.proofs.ExpandTheorems.{expand-steps}
-use Rattle.machine.proofs.ExpandRoom.{WantsRoom, wants-stack, wants-output, expand-stops}
+use Rattle.machine.proofs.Promise.{expand-steps, WantsRoom, wants-stack, wants-output, expand-stops}
 use Rattle.expand.proofs.Promise.{ToldBy, finished, misfitting, out-of-stack, out-of-output}
 use Rattle.demands.specs.Demands.{Expanded, expanded}
 use Rattle.demands.specs.RoomPlace.{ExpansionStops}

@@ -16,7 +16,7 @@ use Rattle.book.proofs.Promise.{serves-limits, serves-well-formed}
 use Rattle.machine.specs.Machine.{State, Reason, Offered, stopped, final}
 use Rattle.machine.specs.Room.{listCells, stackCells}
 use Rattle.machine.specs.Stopping.{Short, short-list, short-stack, Decided, refused}
-use Rattle.machine.proofs.RunTheorems.{run-lists-few, run-stays-low, run-always-enough}
+use Rattle.machine.proofs.Promise.{run-lists-few, run-stays-low, run-always-enough}
 use Rattle.offer.specs.Strings.{ran}
 use Rattle.offer.proofs.Promise.{told-room}
 use Rattle.demands.specs.Demands.{Ran, MayRun, Premises}

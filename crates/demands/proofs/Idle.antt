@@ -23,8 +23,8 @@ use Rattle.table.specs.Examples.{houseTable}
 use Rattle.table.proofs.Promise.{table-unique, house-table-of, house-built}
 use Rattle.machine.specs.Machine.{begun, meets, popped, replaced, used, facing, offer, runFrom, final}
 use Rattle.machine.specs.Room.{rightOf, peak}
-use Rattle.machine.proofs.RunTheorems.{run-place}
-use Rattle.machine.proofs.Walk.{Decided, refused, wanted-row}
+use Rattle.machine.specs.Stopping.{Decided, refused, wanted-row}
+use Rattle.machine.proofs.Promise.{run-place}
 use Rattle.offer.specs.Strings.{ran}
 use Rattle.run.specs.Running.{Admits}
 use Rattle.demands.specs.Demands.{Ran, Premises, RunRoom, BuildMeets2, ExpandMeets2, RunMeets2, RunMeets3, RunStepsAdd}

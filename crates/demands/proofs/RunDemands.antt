@@ -17,8 +17,7 @@ use Rattle.book.proofs.Promise.{serves-limits}
 use Rattle.table.proofs.Promise.{table-fits}
 use Rattle.machine.specs.Machine.{Offered, taken, final}
 use Rattle.machine.specs.Room.{peak}
-use Rattle.machine.proofs.Outcome.{whole}
-use Rattle.machine.proofs.RunTheorems.{run-syntax, run-place, run-complete, run-short-iff, peak-start}
+use Rattle.machine.proofs.Promise.{whole, run-syntax, run-place, run-complete, run-short-iff, peak-start}
 use Rattle.offer.specs.Strings.{ran}
 use Rattle.offer.specs.Stops.{answered, expected}
 use Rattle.offer.proofs.Promise.{told-room, told-syntax, told-numbers, short-room}

@@ -12,13 +12,10 @@ use Rattle.answers.specs.Answers.{done, refusal, stop, noSet}
 use Rattle.answers.specs.Refusals.{room, syntax, stackRoom, listRoom}
 use Rattle.answers.specs.Buffers.{over, counted, cleared}
 use Rattle.table.specs.Table.{cellOf}
-use Rattle.machine.specs.Machine.{Reason, Offered}
+use Rattle.machine.specs.Machine.{Reason, Offered, final}
 use Rattle.machine.specs.Room.{rightOf}
-use Rattle.machine.specs.Stopping.{RoomNeeded}
-use Rattle.machine.proofs.Walk.{final, Decided, accepted, refused}
-use Rattle.machine.proofs.Count.{Counted}
-use Rattle.machine.proofs.Outcome.{Outcome, enough, list-short, stack-short}
-use Rattle.machine.proofs.RunTheorems.{run-steps, run-room}
+use Rattle.machine.specs.Stopping.{RoomNeeded, Decided, accepted, refused}
+use Rattle.machine.proofs.Promise.{Counted, Outcome, enough, list-short, stack-short, run-steps, run-room}
 use Rattle.offer.specs.Strings.{ran}
 use Rattle.offer.specs.Stops.{answered, expected}
 use Rattle.offer.proofs.Promise.{Told, served, short-of-list, short-of-stack, blocked}

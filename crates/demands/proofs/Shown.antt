@@ -11,7 +11,7 @@ use Rattle.answers.specs.Answers.{done, stop}
 use Rattle.answers.specs.Buffers.{counted}
 use Rattle.table.specs.Fitting.{FitTable}
 use Rattle.machine.specs.Machine.{Offered, final}
-use Rattle.machine.proofs.RunTheorems.{run-sound}
+use Rattle.machine.proofs.Promise.{run-sound}
 use Rattle.offer.specs.Strings.{ran}
 use Rattle.offer.specs.Stops.{answered, expected}
 use Rattle.offer.proofs.Promise.{Told, told, served, short-of-list, short-of-stack, blocked, told-done}

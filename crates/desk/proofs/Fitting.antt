@@ -29,9 +29,7 @@ use Rattle.table.specs.Fitting.{Misfit, length-given, cell}
 use Rattle.machine.specs.Machine.{Reason, full-list, full-stack, wants-end, wants-token, wants-row, Offered, final}
 use Rattle.machine.specs.Expansion.{expansion, Course, Upshot}
 use Rattle.machine.specs.Room.{rightOf}
-use Rattle.machine.proofs.Count.{Counted}
-use Rattle.machine.proofs.RunTheorems.{run-steps, run-inside}
-use Rattle.machine.proofs.ExpandTheorems.{expand-steps}
+use Rattle.machine.proofs.Promise.{Counted, run-steps, run-inside, expand-steps}
 use Rattle.offer.specs.Stops.{marking, filledBelow, expected, answered}
 use Rattle.offer.specs.Strings.{ran}
 use Rattle.offer.proofs.Promise.{Told, told, served, short-of-list, short-of-stack, blocked, told-steps}

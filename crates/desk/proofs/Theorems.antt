@@ -9,7 +9,7 @@ use Rattle.grammar.specs.Machine.{Longest}
 use Rattle.answers.specs.Buffers.{counted}
 use Rattle.table.specs.Calls.{SetsOutcome, BuildOutcome, LookaheadOutcome, FirstOutcome}
 use Rattle.table.proofs.Promise.{sets-outcome-unique, build-outcome-unique, lookahead-outcome-unique, first-outcome-unique}
-use Rattle.machine.proofs.ExpandTheorems.{expand-steps}
+use Rattle.machine.proofs.Promise.{expand-steps}
 use Rattle.run.specs.Running.{RunOutcome}
 use Rattle.run.proofs.Promise.{run-outcome-unique}
 use Rattle.expand.specs.Expanding.{ExpandOutcome}

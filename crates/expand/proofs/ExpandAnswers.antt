@@ -18,7 +18,7 @@ use Rattle.book.specs.declared.Reading.{Reading}
 use Rattle.book.specs.Columns.{outlineIn, outlined}
 use Rattle.book.proofs.Promise.{judged-done, judged-refused, reading-grammar}
 use Rattle.machine.specs.Expansion.{expansion, Upshot, complete, unfit, full-stack, full-output, Expansion}
-use Rattle.machine.proofs.ExpandTheorems.{expand-steps}
+use Rattle.machine.proofs.Promise.{expand-steps}
 use Rattle.expand.specs.Expanding.{answeredBy, ExpandOutcome, refused, too-long, no-stack, ended}
 use Rattle.expand.specs.Turns.{finaleOf, unfolded, Unfolds, closing, ExpandedOn}
 use Rattle.expand.specs.declared.Finale.the-variants.{Complete}

@@ -12,7 +12,7 @@ use Rattle.book.specs.declared.columns.Outline.{Outline}
 use Rattle.book.specs.Columns.{outlined, Lefts, IsOf}
 use Rattle.book.proofs.Promise.{is-of-rule, rule-is-of}
 use Rattle.machine.specs.Room.{isOf}
-use Rattle.machine.proofs.ExpandDerivation.{fits-rule, rule-fits}
+use Rattle.machine.proofs.Promise.{fits-rule, rule-fits}
 use Rattle.stack.specs.Ahead.{aheadIn}
 use Rattle.stack.specs.declared.Ahead.the-variants.{Next, End}
 use Rattle.stack.specs.declared.Ahead.{Ahead}

@@ -15,7 +15,7 @@ use Rattle.book.specs.Columns.{outlined, Lefts, Lengths}
 use Rattle.book.specs.declared.columns.Outline.{Outline}
 use Rattle.machine.specs.Expansion.{opened, expansion, Course, Upshot, complete, unfit, full-stack, full-output, Expansion, ended, wrote, applied, expandFrom}
 use Rattle.machine.specs.Room.{rightOf, isOf}
-use Rattle.machine.proofs.ExpandMoves.{finished-is, left-over-is, too-short-is, misfit-is, no-stack-is, apply-is, no-output-is, write-is}
+use Rattle.machine.proofs.Promise.{finished-is, left-over-is, too-short-is, misfit-is, no-stack-is, apply-is, no-output-is, write-is}
 use Rattle.stack.specs.Sides.{RightSide}
 use Rattle.stack.specs.Stack.{Spelled, stackBytes, spelledBy, stacked, replacing}
 use Rattle.stack.proofs.Promise.{right-side, replacing-fits, over-more, symbols-spelled, every-append, every-rest, length-symbols, spelled-stacked, stacked-pop, stacked-replace, length-stacked, stacked-open, nonterminal-spelled, length-over}

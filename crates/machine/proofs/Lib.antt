@@ -21,3 +21,4 @@ pub mod ExpandPlace
 pub mod ExpandWhole
 pub mod ExpandTheorems
 pub mod ExpandRoom
+pub mod Promise

@@ -6,8 +6,8 @@ use Rattle.sets.specs.declared.Set.{Set}
 use Rattle.answers.specs.declared.Answer.{Answer}
 use Rattle.answers.specs.Answers.{done, stop, noSet}
 use Rattle.answers.specs.Refusals.{room, syntax, stackRoom, listRoom}
-use Rattle.machine.specs.Machine.{State, Reason, full-list, full-stack, wants-end, wants-token, wants-row, Offered, taken, stopped}
-use Rattle.machine.proofs.Walk.{Syntax, wanted-end, wanted-token, wanted-row, Short, short-list, short-stack, final}
+use Rattle.machine.specs.Machine.{State, Reason, full-list, full-stack, wants-end, wants-token, wants-row, Offered, taken, stopped, final}
+use Rattle.machine.specs.Stopping.{Syntax, wanted-end, wanted-token, wanted-row, Short, short-list, short-stack}
 use Rattle.offer.specs.Stops.{answered}
 
 -- how a run ended, and its answer

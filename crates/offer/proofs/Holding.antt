@@ -12,8 +12,7 @@ use Rattle.grammar.specs.declared.Symbol.{Symbol}
 use Rattle.answers.specs.Buffers.{counted}
 use Rattle.reader.specs.Fields.{formIn}
 use Rattle.machine.specs.Machine.{State, Reason, full-list, full-stack, wants-end, wants-token, wants-row, Offered, taken, stopped, popped, replaced, offer, final}
-use Rattle.machine.proofs.Offer.{offer-match, offer-use, offer-halt}
-use Rattle.machine.proofs.Walk.{Halt}
+use Rattle.machine.proofs.Promise.{offer-match, offer-use, offer-halt, Halt}
 use Rattle.stack.specs.Stack.{Spelled, stackBytes, spelledBy}
 use Rattle.stack.proofs.Promise.{over-more, symbols-spelled, every-append, every-rest, length-symbols, spelled-stacked, stacked-pop, stacked-replace}
 use Rattle.offer.specs.Moves.{Chosen}

@@ -14,7 +14,7 @@ use Rattle.book.proofs.Promise.{outlined-sized}
 use Rattle.table.specs.Table.{columnOf, cellOf}
 use Rattle.machine.specs.Machine.{full-list, full-stack, wants-end, wants-token, wants-row, Offered, taken, stopped, final}
 use Rattle.machine.specs.Room.{rightOf}
-use Rattle.machine.proofs.Count.{Grown, gained, offer-grown}
+use Rattle.machine.proofs.Promise.{Grown, gained, offer-grown}
 use Rattle.stack.specs.Ahead.{columnIn}
 use Rattle.stack.specs.declared.Ahead.the-variants.{Next, End}
 use Rattle.stack.specs.declared.Ahead.{Ahead}

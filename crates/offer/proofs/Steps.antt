@@ -15,11 +15,9 @@ use Rattle.reader.specs.Book.{byteOf}
 use Rattle.book.specs.Columns.{outlined}
 use Rattle.book.specs.declared.columns.Outline.{Outline}
 use Rattle.table.specs.Table.{cellOf}
-use Rattle.machine.specs.Machine.{State, Reason, Offered, taken, stopped, begun, offer, runFrom}
+use Rattle.machine.specs.Machine.{State, Reason, Offered, taken, stopped, begun, offer, runFrom, final}
 use Rattle.machine.specs.Room.{rightOf}
-use Rattle.machine.proofs.Count.{Grown, gained, offer-grown}
-use Rattle.machine.proofs.Offer.{run-taken, run-stopped}
-use Rattle.machine.proofs.Walk.{final}
+use Rattle.machine.proofs.Promise.{Grown, gained, offer-grown, run-taken, run-stopped}
 use Rattle.stack.specs.Ahead.{columnIn, aheadIn}
 use Rattle.stack.specs.declared.Ahead.{Ahead}
 use Rattle.stack.specs.Stack.{stacked}

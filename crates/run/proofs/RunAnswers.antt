@@ -18,8 +18,7 @@ use Rattle.book.proofs.Promise.{judged-done, judged-refused, reading-grammar}
 use Rattle.table.specs.Table.{cellOf}
 use Rattle.machine.specs.Machine.{State, full-stack, Offered, taken, stopped, final}
 use Rattle.machine.specs.Room.{rightOf}
-use Rattle.machine.proofs.Count.{Counted}
-use Rattle.machine.proofs.RunTheorems.{run-steps, run-inside}
+use Rattle.machine.proofs.Promise.{Counted, run-steps, run-inside}
 use Rattle.offer.specs.Strings.{ran, StringOutcome}
 use Rattle.offer.specs.Strings as strings
 use Rattle.offer.specs.Resuming.{causeOf, progressOf, reported}

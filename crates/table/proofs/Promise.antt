@@ -11,3 +11,5 @@ pub use Rattle.table.proofs.TableFits.{held-vacant, held-filled, row-fi
 pub use Rattle.table.proofs.TableFits.{table-fits, fitting-unique, cell-at-unique}
 pub use Rattle.table.proofs.Examples.{house-first-sets, house-follow-sets, house-table-of, house-build, conflicted-house-conflict, conflicted-house-build, nested-conflict, nested-build}
 unfoldable pub use Rattle.table.proofs.Examples.{house-built}
+pub use Rattle.table.proofs.Worked.{useful-tested, first-tested, follow-tested, table-tested}
+unfoldable pub use Rattle.table.proofs.Worked.{workedFirst, workedFollow, workedUseful, tableTest}
