@@ -1,4 +1,4 @@
--- The limits of document 01, each named once: "The book", and "Refusals and their numbers".
+-- The limits of document 01, each named once: "The book", and "Refusals and their numbers"; and of document 02, W3.
 use Prim.Native.Nat.{ℕ}
 
 -- T, N and P of a book, the symbols of a right side or of a symbol string, and the bytes of the longest book
@@ -27,3 +27,10 @@ longestList = 65535
 -- how many cells of a lent stack, list or output count
 abbrev pub mostCells : ℕ
 mostCells = 65535
+
+-- the patterns that cut a line, and their bytes and classes, all patterns together
+abbrev pub mostPatterns : ℕ
+mostPatterns = 62
+
+abbrev pub mostPositions : ℕ
+mostPositions = 256

@@ -40,6 +40,15 @@ syntax = 11
 abbrev pub production : ℕ
 production = 12
 
+abbrev pub pattern : ℕ
+pattern = 14
+
+abbrev pub noToken : ℕ
+noToken = 15
+
+abbrev pub states : ℕ
+states = 16
+
 abbrev pub stackRoom : ℕ
 stackRoom = 1
 

@@ -1,4 +1,4 @@
-// The limits of document 01, each named once.
+// The limits of document 01, each named once, and those of patterns (02, W3).
 
 // T, N and P of a book, the symbols of a right side or of a symbol string, and the bytes of the longest book.
 pub const MOST_TOKENS: u8 = 62;
@@ -18,3 +18,8 @@ pub const LONGEST_LIST: usize = 65535;
 
 // How many cells of a lent stack, list or output count.
 pub const MOST_CELLS: usize = 65535;
+
+// The patterns that cut a line, and their bytes and classes, all patterns together.
+pub const MOST_PATTERNS: usize = 62;
+
+pub const MOST_POSITIONS: usize = 256;

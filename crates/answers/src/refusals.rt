@@ -25,6 +25,12 @@ pub const SYNTAX: u32 = 11;
 
 pub const PRODUCTION: u32 = 12;
 
+pub const PATTERN: u32 = 14;
+
+pub const NO_TOKEN: u32 = 15;
+
+pub const STATES: u32 = 16;
+
 pub const STACK_ROOM: u64 = 1;
 
 pub const LIST_ROOM: u64 = 2;

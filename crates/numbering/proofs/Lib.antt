@@ -9,3 +9,4 @@ pub mod Deciding
 pub mod Exchange
 pub mod Example
 pub mod Theorems
+pub mod Promise

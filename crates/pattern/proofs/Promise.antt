@@ -19,3 +19,6 @@ pub use Rattle.pattern.proofs.Says.{says-kind, says-no-kind, says-settl
 -- and by the byte: what reading on, plain bytes and signs come to
 pub use Rattle.pattern.proofs.Steps.{read-after, move-plain, move-special}
 pub use Rattle.pattern.proofs.ByteKinds.{plain-kind, sign-kind, outside-kind}
+-- every byte has one kind, and which
+pub use Rattle.pattern.proofs.ByteKinds.{KindIs, plain-is, dash-is, backslash-is, close-class-is, open-class-is}
+pub use Rattle.pattern.proofs.ByteKinds.{open-group-is, close-group-is, bar-is, sign-is, kind-is, impossible}

@@ -1,0 +1,13 @@
+pub mod Marks
+pub mod ClassLetters
+pub mod Outside
+pub mod ClassReading
+pub mod Growth
+pub mod Spans
+pub mod Spreading
+pub mod ClassParts
+pub mod Falling
+pub mod LeadingOn
+pub mod PositionSets
+pub mod Singles
+pub mod Promise

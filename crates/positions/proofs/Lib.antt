@@ -1,0 +1,4 @@
+pub mod Tellings
+pub mod Repetitions
+pub mod Groups
+pub mod Sequences

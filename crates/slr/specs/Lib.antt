@@ -1,0 +1,11 @@
+pub mod Rightmost
+pub mod Items
+pub mod States
+pub mod Actions
+pub mod Machine
+pub mod RoomMachine
+pub mod Ends
+pub mod Cells
+pub mod Examples
+pub mod Runs
+pub mod Built
