@@ -1,5 +1,5 @@
--- What building answers makes the listing: a refusal or a conflict its only line, sets and a table all lines. With buffers for 64 sets
--- and 4,032 cells there is always room.
+-- What building answers makes the listing: a refusal or a conflict its only line, sets and a table all lines. With
+-- buffers for the sets and the table of every book there is always room.
 use mathlib.Core.Path.{_≡_, refl, ap}
 use mathlib.Core.Logic.{_≢_}
 use mathlib.Core.List.{List, _++_}
@@ -12,19 +12,26 @@ use Rattle.grammar.specs.Grammar.{Grammar}
 use Rattle.answers.specs.declared.Answer.{Answer}
 use Rattle.answers.specs.Answers.{done, refusal}
 use Rattle.answers.specs.Buffers.{over}
+use Rattle.answers.specs.Limits.{mostTokens, mostNonterminals}
 use Rattle.reader.specs.Book.{Limits}
-use Rattle.book.specs.declared.Reading.{Reading}
-use Rattle.book.specs.Judging.{indexOf, Serves, Judged, serves}
-use Rattle.book.proofs.Promise.{refuses-some, serves-limits, judged-unique}
+use Rattle.book.specs.Judging.{Serves}
+use Rattle.book.proofs.Promise.{refuses-some, serves-limits}
 use Rattle.table.specs.Table.{size}
 use Rattle.table.specs.Calls.{SetsRoom, no-first, no-follow, BuildOutcome}
 use Rattle.table.specs.Calls as calls
-use Rattle.listing.specs.Listing.{refusedLine, rowLine, rowLines, servedText, Listing, refused, conflicted, served}
+use Rattle.showing.specs.Lines.{rowLine, rowLines}
+use Rattle.listing.specs.Writing.{headerIn, HeaderOf}
+use Rattle.listing.specs.Listing.{refusedLine, servedText, Listing, refused, conflicted, served}
+use Rattle.listing.proofs.Spelled.{serves-header}
 
--- a grammar that a book can hold has at most 4,032 cells
-pub size-fits : {g : Grammar} → Limits g → size g ≤ 4032
+-- a row for each nonterminal, and a column for each token and the end mark
+abbrev mostTable : ℕ
+mostTable = mostNonterminals * (mostTokens + 1)
+
+-- no grammar that a book can hold has more cells
+pub size-fits : {g : Grammar} → Limits g → size g ≤ mostTable
 size-fits {g} limits =
-    let columns : g .tokens + 1 ≤ 63 = omega (arith, limits .tokens-fit) in
+    let columns : g .tokens + 1 ≤ mostTokens + 1 = omega (arith, limits .tokens-fit) in
     mul-le-mul (limits .nonterminals-fit) columns
 
 over-front : (xs buffer : List ℕ) (n : ℕ) → length xs ≡ n → take n (over xs buffer) ≡ xs
@@ -45,26 +52,25 @@ rows-of columns A (suc rows) cells more fits =
     (ap (λ (text : List ℕ). rowLine A (take columns cells) ++ text) (rows-of columns (suc A) rows (drop columns cells) more deep))
 
 -- the buffers of building that is done hold what is listed of the grammar
-pub record Filled (book : List ℕ) (reading : Reading) (first follow table : List ℕ) : Type 0 where
+pub record Filled (book first follow table : List ℕ) : Type 0 where
   pub grammar : Grammar
-  pub index : reading ≡ indexOf grammar
+  pub header : HeaderOf grammar (headerIn book)
   pub first-fits : grammar .nonterminals ≤ length first
   pub follow-fits : grammar .nonterminals ≤ length follow
-  pub table-fits : size grammar ≤ length table
   pub listing : Listing book (servedText grammar (take (grammar .nonterminals) first) (take (grammar .nonterminals) follow) table)
 
 -- room for the sets and the table of every book, as in the local arrays of `list`
 pub record Enough (first follow table : List ℕ) : Type 0 where
-  pub first-room : 64 ≤ length first
-  pub follow-room : 64 ≤ length follow
-  pub table-room : 4032 ≤ length table
+  pub first-room : mostNonterminals ≤ length first
+  pub follow-room : mostNonterminals ≤ length follow
+  pub table-room : mostTable ≤ length table
 
-pub enough : Enough (replicate 64 0) (replicate 64 0) (replicate 4032 0)
+pub enough : Enough (replicate mostNonterminals 0) (replicate mostNonterminals 0) (replicate mostTable 0)
 enough =
     record {
-      first-room = omega (arith, length-replicate {A = ℕ} 64 0);
-      follow-room = omega (arith, length-replicate {A = ℕ} 64 0);
-      table-room = omega (arith, length-replicate {A = ℕ} 4032 0);
+      first-room = omega (arith, length-replicate {A = ℕ} mostNonterminals 0);
+      follow-room = omega (arith, length-replicate {A = ℕ} mostNonterminals 0);
+      table-room = omega (arith, length-replicate {A = ℕ} mostTable 0);
     }
 
 no-room-left : {book first follow table : List ℕ} → Enough first follow table → {g : Grammar} {a : Answer} → Serves book g → SetsRoom g first follow a → ⊥
@@ -82,19 +88,21 @@ module _ {book first follow table : List ℕ} (enough : Enough first follow tabl
   listing-refused (calls.served s fit room firsts follows cells) other = absurd (other refl)
 
   -- and what is done as all lines
-  pub listing-filled : {a : Answer} {f w t : List ℕ} {reading : Reading} → BuildOutcome book first follow table a f w t → a .number ≡ 0 → Judged book reading → Filled book reading f w t
+  pub listing-filled : {a : Answer} {f w t : List ℕ}
+      → BuildOutcome book first follow table a f w t
+      → a .number ≡ 0
+      → Filled book f w t
   unfolding refusal servedText
-  listing-filled (calls.refused r) none j = absurd (omega (arith, refuses-some r))
-  listing-filled (calls.no-room s short) none j = absurd (no-room-left enough s short)
-  listing-filled (calls.no-table s fit short) none j = absurd (omega arith)
-  listing-filled (calls.conflict s fit room c) none j = absurd (omega arith)
-  listing-filled (calls.served {g = g} {xs = xs} {ys = ys} {cells = cells} s fit room firsts follows table-of) none j =
+  listing-filled (calls.refused r) none = absurd (omega (arith, refuses-some r))
+  listing-filled (calls.no-room s short) none = absurd (no-room-left enough s short)
+  listing-filled (calls.no-table s fit short) none = absurd (omega arith)
+  listing-filled (calls.conflict s fit room c) none = absurd (omega arith)
+  listing-filled (calls.served {g = g} {xs = xs} {ys = ys} {cells = cells} s fit room firsts follows table-of) none =
       record {
         grammar = g;
-        index = judged-unique j (serves s);
+        header = serves-header book s;
         first-fits = omega (arith, over-length xs first (omega (arith, firsts .size, fit .first-fits)), fit .first-fits);
         follow-fits = omega (arith, over-length ys follow (omega (arith, follows .size, fit .follow-fits)), fit .follow-fits);
-        table-fits = omega (arith, over-length cells table (omega (arith, table-of .sized)));
         listing =
             rw (
               over-front xs first (g .nonterminals) (firsts .size),

@@ -23,12 +23,14 @@ use Rattle.book.specs.Judging.{Refuses, misread, useless-one}
 use Rattle.book.proofs.Promise.{refuses-number, serves-limits}
 use Rattle.table.specs.Numbers.{FirstSets, FollowSets}
 use Rattle.table.specs.Table.{size, held, TableOf, FirstConflict}
-use Rattle.listing.specs.Listing.{space, newline, dash, refusedWord, grammarWord, firstWord, followWord, rowWord, numbered, numbersLine, refusedLine, grammarLine, setLine, setLines, cellText, cellsText, rowLine, rowLines, servedText, Listing, refused, conflicted, served}
+use Rattle.showing.specs.Words.{space, newline, each, numbered, numberText, setText}
+use Rattle.showing.specs.Lines.{numbersLine, setLine, setLines, dash, cellText, cellsText, rowWord, rowLine, rowLines}
+use Rattle.listing.specs.Listing.{refusedWord, grammarWord, firstWord, followWord, refusedLine, grammarLine, servedText, Listing, refused, conflicted, served}
 use Rattle.listing.specs.Calls.{mostListed}
 use Rattle.listing.proofs.Built.{size-fits}
 
 pub numbered-length : (n : ℕ) (numbers : List ℕ) → length (numbered (n ∷ numbers)) ≡ suc (length (decimal n)) + length (numbered numbers)
-unfolding numbered
+unfolding each numberText
 numbered-length n numbers = length-append (space ∷ decimal n) (numbered numbers)
 
 line-length : (word numbers : List ℕ) → length (numbersLine word numbers) ≡ length word + length (numbered numbers) + 1
@@ -36,7 +38,7 @@ unfolding numbersLine
 line-length word numbers = omega (arith, length-append word (numbered numbers ++ (newline ∷ [])), length-append (numbered numbers) (newline ∷ []))
 
 one-number : (n : ℕ) → length (numbered (n ∷ [])) ≡ suc (length (decimal n))
-unfolding numbered
+unfolding each
 one-number n = omega (arith, numbered-length n [])
 
 two-digits : (n : ℕ) → n < 100 → length (decimal n) ≤ 2
@@ -77,7 +79,7 @@ grammar-length {g} limits =
     )
 
 set-length : (word : List ℕ) (A x : ℕ) → A < 100 → length (setLine word A x) ≤ length word + 21
-unfolding setLine
+unfolding setLine setText
 set-length word A x small =
     let set : List ℕ = (space ∷ hexadecimal x) ++ (newline ∷ []) in
     omega (
@@ -106,22 +108,22 @@ sets-length word A (x ∷ xs) small =
 abbrev Short : List ℕ → Type 0
 Short cells = (i : ℕ) → getD cells i 255 < 1000
 
-cell-length : (c : ℕ) → c < 1000 → length (cellText c) ≤ 3
+cell-length : (c : ℕ) → c < 1000 → length (cellText c) ≤ 4
 unfolding cellText
 cell-length c small = by-test (eqb c 255)
   where
-    by-test : (vacant : Bool) → length {A = ℕ} (elim vacant [ true ↦ dash ∷ [] | false ↦ decimal c ]) ≤ 3
+    by-test : (vacant : Bool) → length {A = ℕ} (space ∷ elim vacant [ true ↦ dash ∷ [] | false ↦ decimal c ]) ≤ 4
     by-test true = omega arith
-    by-test false = three-digits c small
+    by-test false = omega (arith, three-digits c small)
 
 cells-length : (columns : ℕ) (cells : List ℕ) → Short cells → length (cellsText (take columns cells)) ≤ columns * 4
-unfolding cellsText
+unfolding each
 cells-length zero cells short = omega arith
 cells-length (suc columns) [] short = omega arith
 cells-length (suc columns) (c ∷ cells) short =
     omega (
       arith,
-      length-append (space ∷ cellText c) (cellsText (take columns cells)),
+      length-append (cellText c) (cellsText (take columns cells)),
       cell-length c (short 0),
       cells-length columns cells (λ i. short (suc i)),
     )

@@ -1,4 +1,4 @@
-pub mod Parts
+pub mod Spelled
 pub mod Built
 pub mod Unique
 pub mod Beginning

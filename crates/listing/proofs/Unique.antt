@@ -1,10 +1,11 @@
 -- A book has one listing, and listing it allows one outcome.
-use mathlib.Core.Path.{_≡_, refl, sym, _∙_}
+use mathlib.Core.Path.{_≡_, refl, sym, _∙_, ap}
 use mathlib.Core.Logic.{_⊎_, inl, inr}
 use mathlib.Core.List.{List}
 use Prim.Native.Nat.{ℕ, _+_, _*_}
+use native.Mathlib.Omega.{arith}
+use lib.ListN.{length}
 use Rattle.grammar.specs.Grammar.{Grammar}
-use Rattle.text.proofs.Promise.{put-unique}
 use Rattle.answers.specs.declared.Answer.{Answer}
 use Rattle.answers.specs.Answers.{refusal}
 use Rattle.answers.specs.Refusals.{conflict}
@@ -13,8 +14,9 @@ use Rattle.book.proofs.Promise.{serves-limits}
 use Rattle.table.specs.Numbers.{FirstSets, FollowSets}
 use Rattle.table.specs.Table.{TableOf, FirstConflict}
 use Rattle.table.proofs.Promise.{sets-unique, table-unique, first-conflict-unique, table-no-conflict, first-is-conflict, Unique, OfBook, of-refusal, of-grammar, of-book-unique}
+use Rattle.listing.specs.declared.TextAnswer.{TextAnswer}
 use Rattle.listing.specs.Listing.{refusedLine, servedText, Listing, refused, conflicted, served}
-use Rattle.listing.specs.Calls.{Listed}
+use Rattle.listing.specs.Calls.{Listed, listed, no-room}
 
 -- the text is the line of the grammar's first conflict
 record ConflictLine (g : Grammar) (text : List ℕ) : Type 0 where
@@ -71,7 +73,11 @@ pub listing-unique : {book one other : List ℕ} → Listing book one → Listin
 listing-unique {one = one} {other = other} a b = of-book-unique refusal-unique grammar-unique one other (of-listing a) (of-listing b)
 
 -- listing a book into a buffer has one outcome
-pub listed-unique : {book before after after′ : List ℕ} {written written′ : ℕ}
-    → Listed book before after written → Listed book before after′ written′ → (after ≡ after′) × (written ≡ written′)
-listed-unique {before = before} {after′ = after′} {written′ = written′} a b =
-    put-unique (a .put) (rw (listing-unique (b .listing) (a .listing)) at (b .put))
+pub listed-unique : {book before after after′ : List ℕ} {r r′ : TextAnswer}
+    → Listed book before r after
+    → Listed book before r′ after′
+    → (r ≡ r′) × (after ≡ after′)
+listed-unique {before = before} (listed a fits) (listed b fits′) = rw (listing-unique a b) (refl, refl)
+listed-unique (listed a fits) (no-room b short) = absurd (omega (arith, ap length (listing-unique a b)))
+listed-unique (no-room a short) (listed b fits) = absurd (omega (arith, ap length (listing-unique a b)))
+listed-unique (no-room a short) (no-room b short′) = rw (listing-unique a b) (refl, refl)

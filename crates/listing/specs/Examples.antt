@@ -2,7 +2,7 @@
 -- Document 01, "The lister and the examples".
 use mathlib.Core.List.{List, _++_}
 use Prim.Native.Nat.{ℕ}
-use Rattle.listing.specs.Listing.{codes}
+use Rattle.showing.specs.Words.{codes}
 
 unfoldable pub houseText : List ℕ
 houseText =

@@ -1,7 +1,9 @@
 -- `lister::show` meets its contract: the input is listed by its beginning, and the whole listing has room.
 use borrow.Author.Needs.{needs}
+use Prim.Native.Nat.{_<_}
 use native.Mathlib.Omega.{arith}
 use lib.ListN.{length, length-take}
+use Rattle.answers.specs.Limits.{longestBook}
 use Rattle.listing.proofs.Promise.{listed-within, beginning-listed}
 use Rattle.lister.proofs.show.Statement.{statement}
 use Rattle.lister.proofs.show.Tie as tie
@@ -20,12 +22,12 @@ same-length c = search needs
 returns : tie.Need-returns
 returns c =
     let start = c .before .before .before .before .before .before .before in
-    let list = c .before .before .list in
-    let listed = list .ensures in
+    let listed = c .before .before .list .ensures in
+    let past : longestBook < length (start .args .book .now) = start .pre .beginning in
     record {
       within = listed-within listed;
       listing = λ input same.
-          beginning-listed (length (start .args .book .now)) (omega (arith, start .pre .beginning)) input (rw (← same) at listed) (start .pre .room);
+          beginning-listed (length (start .args .book .now)) past input (start .pre .room) (rw (← same) at listed);
     }
 
 pub show-spec : {M : Type 1} → statement M

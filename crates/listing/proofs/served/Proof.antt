@@ -5,8 +5,8 @@ use Prim.Native.Nat.{_+_}
 use native.Mathlib.Omega.{arith}
 use lib.ListN.{take, length-take}
 use Rattle.text.proofs.Promise.{put-then}
-use Rattle.book.specs.Judging.{indexOf}
-use Rattle.listing.specs.Listing.{firstWord, followWord, grammarLine, setLines, rowLines, servedText}
+use Rattle.showing.specs.Lines.{setLines, rowLines}
+use Rattle.listing.specs.Listing.{firstWord, followWord, grammarLine, servedText}
 use Rattle.listing.proofs.served.Statement.{statement}
 use Rattle.listing.proofs.served.Tie as tie
 
@@ -47,19 +47,23 @@ same-length : tie.Need-same-length
 same-length c = search needs
 
 returns : tie.Need-returns
-unfolding servedText indexOf
-returns c g index =
-    let args = c .before .before .before .before .before .before .before .before .before .before .before .before .before .before .before .before .before .before .before .before .before .before .before .before .before .before .args in
-    let grammar-line = c .before .before .before .before .before .before .before .before .before .before .before .before .before .before .before .before .before .before .before .grammar-line in
-    let set-lines = c .before .before .before .before .before .before .before .before .before .before .before .before .before .set-lines in
-    let set-lines2 = c .before .before .before .before .before .before .before .set-lines2 in
-    let row-lines = c .before .before .row-lines in
-    let firsts = setLines firstWord 0 (take (g .nonterminals) (args .first .now)) in
-    let follows = setLines followWord 0 (take (g .nonterminals) (args .follow .now)) in
-    let rows = rowLines (g .tokens + 1) 0 (g .nonterminals) (args .table .now) in
-    put-then (grammarLine g) (firsts ++ (follows ++ rows)) (grammar-line .ensures g index)
-    (put-then firsts (follows ++ rows) (rw index at (set-lines .ensures))
-    (put-then follows rows (rw index at (set-lines2 .ensures)) (rw index at (row-lines .ensures))))
+unfolding servedText
+returns c =
+    let at-rows = c .before .before in
+    let at-follows = at-rows .before .before .before .before .before in
+    let at-firsts = at-follows .before .before .before .before .before .before in
+    let at-grammar = at-firsts .before .before .before .before .before .before in
+    let args = at-grammar .before .before .before .before .before .before .before .args in
+    record {
+      put = λ {g} header.
+          let firsts = setLines firstWord 0 (take (g .nonterminals) (args .first .now)) in
+          let follows = setLines followWord 0 (take (g .nonterminals) (args .follow .now)) in
+          let rows = rowLines (g .tokens + 1) 0 (g .nonterminals) (args .table .now) in
+          put-then (grammarLine g) (firsts ++ (follows ++ rows)) (at-grammar .grammar-line .ensures .put header)
+          (put-then firsts (follows ++ rows) (rw (header .nonterminals) at (at-firsts .set-lines .ensures))
+          (put-then follows rows (rw (header .nonterminals) at (at-follows .set-lines2 .ensures))
+          (rw (header .tokens, header .nonterminals) at (at-rows .row-lines .ensures))));
+    }
 
 pub served-spec : {M : Type 1} → statement M
 served-spec =

@@ -1,7 +1,6 @@
 -- `listing::lines::grammar_line` meets its contract.
 use borrow.Author.Needs.{needs}
 use Rattle.text.proofs.Promise.{put-length}
-use Rattle.book.specs.Judging.{indexOf}
 use Rattle.listing.specs.Listing.{grammarLine}
 use Rattle.listing.proofs.lines.grammar_line.Statement.{statement}
 use Rattle.listing.proofs.lines.grammar_line.Tie as tie
@@ -31,8 +30,10 @@ same-length : tie.Need-same-length
 same-length c = put-length (c .before .before .numbers-line .ensures)
 
 returns : tie.Need-returns
-unfolding grammarLine indexOf
-returns c g index = rw index at (c .before .before .numbers-line .ensures)
+unfolding grammarLine
+returns c =
+    let line = c .before .before .numbers-line .ensures in
+    record { put = λ h. rw (h .tokens, h .nonterminals, h .start, h .productions) at line }
 
 pub grammar-line-spec : {M : Type 1} → statement M
 grammar-line-spec =

@@ -1,0 +1,59 @@
+-- `showing::words::each_set` meets its contract: the sets that are left, written from here on, make the whole.
+use borrow.Author.Needs.{needs}
+use Prim.Native.Nat.{_-_}
+use lib.ListN.{length}
+use Rattle.text.proofs.Promise.{put-length}
+use Rattle.showing.specs.Words.{setText}
+use Rattle.showing.proofs.Parts.{Shown, shown-start, shown-more, shown-all}
+use Rattle.showing.proofs.words.each_set.Statement.{statement}
+use Rattle.showing.proofs.words.each_set.Tie as tie
+
+abbrev Inv-loop : tie.InvT-loop
+Inv-loop out₀ at family place₀ n₀ out place n = Shown setText family out₀ at out place n
+
+abbrev μ-loop : tie.MeasureT-loop
+μ-loop out₀ at family place₀ n₀ out place n = length family - n
+
+loop-holds : tie.Need-loop-holds Inv-loop μ-loop
+loop-holds c = shown-start
+
+load-requires : tie.Need-load-requires Inv-loop μ-loop
+load-requires c κs = search needs
+
+set-behind-requires : tie.Need-set-behind-requires Inv-loop μ-loop
+set-behind-requires c κs = search needs
+
+add-n : tie.Need-add-n Inv-loop μ-loop
+add-n c = search needs
+
+loop-less : tie.Need-loop-less Inv-loop μ-loop
+loop-less c = search needs
+
+loop-again : tie.Need-loop-again Inv-loop μ-loop
+loop-again c =
+    let loop = c .before .before .before .before .before .before .loop in
+    let loop-test = c .before .before .before .before .before .loop-test in
+    let load = c .before .before .before .load in
+    let set-behind = c .before .before .set-behind in
+    shown-more (loop .inv) (loop-test .taken) (rw (load .ensures .loaded) at (set-behind .ensures))
+
+returns : tie.Need-returns Inv-loop μ-loop
+returns c = shown-all (c .before .loop .inv) (c .loop-test .left)
+
+same-length : tie.Need-same-length Inv-loop μ-loop
+same-length c = put-length (returns c)
+
+pub each-set-spec : {M : Type 1} → statement M
+each-set-spec =
+    tie.close
+    (tie.spec
+    Inv-loop
+    μ-loop
+    loop-holds
+    load-requires
+    set-behind-requires
+    add-n
+    loop-less
+    loop-again
+    same-length
+    returns)
