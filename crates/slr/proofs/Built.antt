@@ -1,10 +1,10 @@
 -- Tables built from books: what every theorem promises of them, and two that were.
 use mathlib.Core.Path.{_≡_, refl, subst}
 use mathlib.Core.List.{List}
-use Prim.Native.Nat.{ℕ}
+use Prim.Native.Nat.{ℕ, _<_}
 use native.Mathlib.Omega.{arith}
 use lib.Dec.{lit≤}
-use Rattle.grammar.specs.Grammar.{Grammar, WellFormed}
+use Rattle.grammar.specs.Grammar.{Grammar, Useful, WellFormed}
 use Rattle.grammar.specs.House.{house}
 use Rattle.reader.specs.Book.{reads, spells, marked, wanted, records, symbols, symbolOf, ending}
 use Rattle.book.specs.Examples.{houseBook}
@@ -25,7 +25,7 @@ module _ {book table : List ℕ} (built : SlrBuilt book table) where
   slr-built-formed = serves-limits (built .serves) .well-formed
 
   -- what a built table says is exact
-  pub slr-built-exact : ExactActions (built .grammar) (built .paths) (actionIn (built .grammar) table) (moveIn (built .grammar) table)
+  pub slr-built-exact : let g = built .grammar in ExactActions g (built .paths) (actionIn g table) (moveIn g table)
   slr-built-exact =
       table-exact slr-built-formed (omega (arith, built .few))
       (omega (arith, serves-limits (built .serves) .productions-fit)) (built .table-of)
@@ -44,14 +44,16 @@ left-reads : spells leftBook ≡ reads leftGrammar
 unfolding spells marked wanted records symbols symbolOf ending leftBook leftGrammar
 left-reads = refl
 
+left-useful : (A : ℕ) → A < leftGrammar .nonterminals → Useful leftGrammar A
+left-useful = worked-useful leftGrammar 3 leftPaths leftTable left-worked
+
 -- the textbook's table is built from its book
 pub left-built : SlrBuilt leftBook leftTable
 unfolding leftPaths
 left-built =
     record {
       grammar = leftGrammar;
-      serves =
-          record { read = left-reads; useful = record { useful = worked-useful leftGrammar 3 leftPaths leftTable left-worked } };
+      serves = record { read = left-reads; useful = record { useful = left-useful } };
       paths = leftPaths;
       numbered = left-numbered;
       few = lit≤ tt;

@@ -138,7 +138,9 @@ module _ (g : Grammar) (table : List ℕ) where
       go : Dec (t < g .tokens) → (n : ℕ) × ActionColumn g (token t) n
       go (yes h) = (t, under-token h)
       go (no h) =
-          let nothing : actionIn g table s (token t) ≡ none = rw (below-false {m = t} {n = g .tokens} (omega arith), actionIn) in absurd (Option·none-ne-some a (sym nothing ∙ e))
+          let past : g .tokens ≤ t = omega arith in
+          let nothing : actionIn g table s (token t) ≡ none = rw (below-false past, actionIn) in
+          absurd (Option·none-ne-some a (sym nothing ∙ e))
   action-column s endmark e = (g .tokens, under-end)
 
   move-number : (s A : ℕ) → A < g .nonterminals → moveIn g table s A ≡ moveOf (numberIn g table s (g .tokens + 1 + A))
@@ -152,7 +154,9 @@ module _ (g : Grammar) (table : List ℕ) where
       go : Dec (A < g .nonterminals) → A < g .nonterminals
       go (yes h) = h
       go (no h) =
-          let nothing : moveIn g table s A ≡ none = rw (below-false {m = A} {n = g .nonterminals} (omega arith), moveIn) in absurd (Option·none-ne-some j (sym nothing ∙ e))
+          let past : g .nonterminals ≤ A = omega arith in
+          let nothing : moveIn g table s A ≡ none = rw (below-false past, moveIn) in
+          absurd (Option·none-ne-some j (sym nothing ∙ e))
 
 action-filled : {v : ℕ} {a : Action} → actionOf v ≡ some a → v ≢ emptyCell
 unfolding actionOf
@@ -162,8 +166,8 @@ move-filled : {v j : ℕ} → moveOf v ≡ some j → v ≢ emptyCell
 unfolding moveOf
 move-filled {j = j} e f = Option·none-ne-some j (rw f at e)
 
-module _ {g : Grammar} (well : WellFormed g) {paths : List Form} (few : length paths ≤ 512) (short : length (g .productions) ≤ 511)
-    {table : List ℕ} (made : SlrTableOf g paths table) where
+module _ {g : Grammar} (well : WellFormed g) {paths : List Form} (few : length paths ≤ 512)
+    (short : length (g .productions) ≤ 511) {table : List ℕ} (made : SlrTableOf g paths table) where
   -- a cell that is filled is of a row
   row-filled : (s n : ℕ) → numberIn g table s n ≢ emptyCell → s < length paths
   row-filled s n filled = go (decLt s (length paths))

@@ -42,11 +42,15 @@ pub data Coded : Action → Type 0 where
 pub code-action : {a : Action} → Coded a → actionOf (codeOf a) ≡ some a
 unfolding actionOf codeOf
 code-action (coded-shift {j = j} h) =
-    rw (equal-false {m = j} {n = 65535} (omega arith), equal-false {m = j} {n = 1023} (omega arith), is-false {b = leb 512 j} (lt→nleb 512 j h), actionOf)
+    let filled : eqb j 65535 ≡ false = equal-false (λ (e : j ≡ 65535). omega arith) in
+    let other : eqb j 1023 ≡ false = equal-false (λ (e : j ≡ 1023). omega arith) in
+    rw (filled, other, is-false {b = leb 512 j} (lt→nleb 512 j h), actionOf)
 code-action (coded-reduce {p = p} h) =
-    let less : 512 + p - 512 ≡ p = omega arith in
+    let filled : eqb (512 + p) 65535 ≡ false = equal-false (λ (e : 512 + p ≡ 65535). omega arith) in
+    let other : eqb (512 + p) 1023 ≡ false = equal-false (λ (e : 512 + p ≡ 1023). omega arith) in
     let from : 512 ≤ 512 + p = omega arith in
-    rw (equal-false {m = 512 + p} {n = 65535} (omega arith), equal-false {m = 512 + p} {n = 1023} (omega arith), is-true {b = leb 512 (512 + p)} (le→leb 512 (512 + p) from), less, actionOf)
+    let less : 512 + p - 512 ≡ p = omega arith in
+    rw (filled, other, is-true {b = leb 512 (512 + p)} (le→leb 512 (512 + p) from), less, actionOf)
 code-action coded-accept = refl
 
 pub code-move : {j : ℕ} → j < 512 → moveOf j ≡ some j

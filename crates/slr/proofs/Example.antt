@@ -71,5 +71,6 @@ unfolding statesHeld left-derivation three-as two-as one-a
 left-held = refl
 
 -- it is accepted with the list that the textbook prints
-pub slr-example : SlrAccepts leftGrammar (actionIn leftGrammar leftTable) (moveIn leftGrammar leftTable) (0 ∷ 0 ∷ 0 ∷ []) (3 ∷ 2 ∷ 2 ∷ 0 ∷ [])
+pub slr-example : let g = leftGrammar in
+    SlrAccepts g (actionIn g leftTable) (moveIn g leftTable) (0 ∷ 0 ∷ 0 ∷ []) (3 ∷ 2 ∷ 2 ∷ 0 ∷ [])
 slr-example = reduces-runs left-formed left-numbered left-exact left-derivation .run

@@ -15,6 +15,7 @@ pub mod Cells
 pub mod TableUnique
 pub mod Choosing
 pub mod WorkedItems
+pub mod WorkedSets
 pub mod WorkedStates
 pub mod WorkedTable
 pub mod Worked

@@ -1,186 +1,36 @@
--- The states of a small grammar worked out: given paths and cells are its numbering wherever a test passes that computes.
-use mathlib.Core.Path.{_≡_, refl, sym, _∙_, subst}
-use mathlib.Core.Bool.{Bool, true, false, _&&_, _||_, not}
+-- The states of a small grammar worked out: given paths and cells are its numbering wherever a test passes that
+-- computes.
+use mathlib.Core.Path.{_≡_, refl, sym, _∙_}
+use mathlib.Core.Bool.{Bool, _&&_, _||_, not}
 use mathlib.Core.List.{List, [], _∷_}
 use mathlib.Core.Option.{Option, some, none, Option·none-ne-some, Option·some-injective}
-use Prim.Native.Nat.{ℕ, zero, suc, _+_, _-_, _*_, _/_, _%_, _≤_, _<_}
+use Prim.Native.Nat.{ℕ, _*_, _/_, _%_, _<_}
 use native.Mathlib.Decide.{decLt}
 use native.Mathlib.Nat.{div-lt-iff-lt-mul}
 use native.Mathlib.Omega.{arith}
-use lib.Dec.{T, eqb, ltb, eqb→eq, ltb→lt, T-not}
+use lib.Dec.{T, eqb, eqb→eq, T-not}
 use lib.ListN.{length, getElem?}
 use Rattle.grammar.specs.declared.Symbol.{Symbol}
-use Rattle.grammar.specs.declared.Symbol.the-variants.{Token, Nonterminal}
-use Rattle.grammar.specs.Grammar.{Form, Grammar, Every, nothing, each}
-use Rattle.grammar.proofs.Every.{every-at, every-map}
-use Rattle.grammar.proofs.Tests.{and-left, and-right, and-both, or-elim, all, any, all-every, below, below-each}
+use Rattle.grammar.specs.Grammar.{Form, Grammar}
+use Rattle.grammar.proofs.Every.{every-at}
+use Rattle.grammar.proofs.Tests.{and-left, and-right, or-elim, all, all-every, below, below-each}
 use Rattle.numbering.specs.Numbering.{Names, IsState, Follows, FoundAll}
 use Rattle.numbering.proofs.Promise.{inside}
-use Rattle.slr.specs.Items.{Item, Along}
-use Rattle.slr.specs.States.{columnsOf, SameState, GoesTo, SymbolColumn, column-token, column-nonterminal, collection}
+use Rattle.slr.specs.Items.{Along}
+use Rattle.slr.specs.States.{columnsOf, SameState, GoesTo, MovesTo, collection}
 use Rattle.slr.proofs.Items.{same-itself, same-back, same-trans}
-use Rattle.slr.proofs.Codes.{below-true, below-false}
-use Rattle.slr.proofs.WorkedItems.{hasItem, has-every, itemsAlong, alongTest, items-sound, items-complete}
-
-every-all : {A : Type 0} (f : A → Bool) {xs : List A} → Every (λ x. T (f x)) xs → T (all f xs)
-unfolding all
-every-all f nothing = tt
-every-all f (each {x = x} {xs = xs} p h) = and-both (f x) (all f xs) p (every-all f h)
-
--- the test holds of some number below n
-unfoldable pub someBelow : ℕ → (ℕ → Bool) → Bool
-someBelow zero f = false
-someBelow (suc n) f = f n || someBelow n f
-
-some-below : (n : ℕ) (f : ℕ → Bool) → T (someBelow n f) → (k : ℕ) × (k < n) × T (f k)
-unfolding someBelow
-some-below zero f t = absurd t
-some-below (suc n) f t =
-    or-elim (f n) (someBelow n f) (λ h. (n, omega arith, h))
-    (λ h. let (k, low, here) = some-below n f h in (k, omega arith, here)) t
-
-unfoldable pub isEmpty : {A : Type 0} → List A → Bool
-isEmpty [] = true
-isEmpty (x ∷ xs) = false
-
--- the items of the first list are in the second
-unfoldable pub within : List Item → List Item → Bool
-unfolding all hasItem
-within xs ys = all (hasItem ys) xs
-
--- the same items
-unfoldable pub sameSet : List Item → List Item → Bool
-unfolding within
-sameSet xs ys = within xs ys && within ys xs
-
--- the symbol of a column
-unfoldable pub symbolIn : Grammar → ℕ → Option Symbol
-symbolIn g c =
-    elim (ltb c (g .tokens)) [
-      | true ↦ some (Token c)
-      | false ↦
-          elim (ltb (g .tokens) c && ltb c (columnsOf g)) [ true ↦ some (Nonterminal (c - (g .tokens + 1))) | false ↦ none ]
-    ]
-
-symbol-column : (g : Grammar) (c : ℕ) (x : Symbol) → symbolIn g c ≡ some x → SymbolColumn g x c
-unfolding symbolIn
-symbol-column g c x e = tokens-say (ltb c (g .tokens)) (ltb→lt c (g .tokens)) e
-  where
-    others-say : (b : Bool)
-        → (T b → T (ltb (g .tokens) c && ltb c (columnsOf g)))
-        → elim b [ true ↦ some (Nonterminal (c - (g .tokens + 1))) | false ↦ none ] ≡ some x
-        → SymbolColumn g x c
-    others-say true f h =
-        let above : g .tokens < c = ltb→lt (g .tokens) c (and-left (ltb (g .tokens) c) (ltb c (columnsOf g)) (f tt)) in
-        let under : c < columnsOf g =
-        ltb→lt c (columnsOf g) (and-right (ltb (g .tokens) c) (ltb c (columnsOf g)) (f tt)) in
-        let fits : c - (g .tokens + 1) < g .nonterminals = omega arith in
-        let same : g .tokens + 1 + (c - (g .tokens + 1)) ≡ c = omega arith in
-        subst (λ (y : Symbol). SymbolColumn g y c) (Option·some-injective (Nonterminal (c - (g .tokens + 1))) x h)
-        (subst (SymbolColumn g (Nonterminal (c - (g .tokens + 1)))) same (column-nonterminal fits))
-    others-say false f h = absurd (Option·none-ne-some x h)
-
-    tokens-say : (b : Bool) → (T b → c < g .tokens)
-        → elim b [ true ↦ some (Token c) | false ↦ elim (ltb (g .tokens) c && ltb c (columnsOf g)) [ true ↦ some (Nonterminal (c - (g .tokens + 1))) | false ↦ none ] ] ≡ some x
-        → SymbolColumn g x c
-    tokens-say true f h =
-        subst (λ (y : Symbol). SymbolColumn g y c) (Option·some-injective (Token c) x h) (column-token (f tt))
-    tokens-say false f h = others-say (ltb (g .tokens) c && ltb c (columnsOf g)) (λ t. t) h
-
-column-symbol-in : {g : Grammar} {c : ℕ} {x : Symbol} → SymbolColumn g x c → symbolIn g c ≡ some x
-unfolding symbolIn
-column-symbol-in (column-token h) = rw (below-true h, symbolIn)
-column-symbol-in {g} (column-nonterminal {A = A} h) =
-    let c : ℕ = g .tokens + 1 + A in
-    let low : g .tokens ≤ c = omega arith in
-    let above : g .tokens < c = omega arith in
-    let under : c < columnsOf g = omega arith in
-    let less : c - (g .tokens + 1) ≡ A = omega arith in
-    rw (below-false low, below-true above, below-true under, less, symbolIn)
-
-module _ (g : Grammar) (n : ℕ) where
-  within-state : (γ δ : Form)
-      → T (alongTest g n γ)
-      → T (within (itemsAlong g n γ) (itemsAlong g n δ))
-      → (i : Item)
-      → Along g γ i
-      → Along g δ i
-  unfolding within
-  within-state γ δ a s i h =
-      has-every (Along g δ) (items-sound g n δ) i
-      (has-every (λ j. T (hasItem (itemsAlong g n δ) j)) (all-every (hasItem (itemsAlong g n δ)) (itemsAlong g n γ) s) i (items-complete g n γ a i h))
-
-  state-within : (γ δ : Form)
-      → T (alongTest g n δ)
-      → ((i : Item) → Along g γ i → Along g δ i)
-      → T (within (itemsAlong g n γ) (itemsAlong g n δ))
-  unfolding within
-  state-within γ δ b f =
-      every-all (hasItem (itemsAlong g n δ)) (every-map (λ i h. items-complete g n δ b i (f i h)) (items-sound g n γ))
-
-  same-set-state : (γ δ : Form)
-      → T (alongTest g n γ)
-      → T (alongTest g n δ)
-      → T (sameSet (itemsAlong g n γ) (itemsAlong g n δ))
-      → SameState g γ δ
-  unfolding sameSet
-  same-set-state γ δ a b t =
-      let into : Bool = within (itemsAlong g n γ) (itemsAlong g n δ) in
-      let back : Bool = within (itemsAlong g n δ) (itemsAlong g n γ) in
-      record { into = within-state γ δ a (and-left into back t); back = within-state δ γ b (and-right into back t) }
-
-  state-same-set : (γ δ : Form)
-      → T (alongTest g n γ)
-      → T (alongTest g n δ)
-      → SameState g γ δ
-      → T (sameSet (itemsAlong g n γ) (itemsAlong g n δ))
-  unfolding sameSet
-  state-same-set γ δ a b s =
-      and-both (within (itemsAlong g n γ) (itemsAlong g n δ)) (within (itemsAlong g n δ) (itemsAlong g n γ))
-      (state-within γ δ b (s .into))
-      (state-within δ γ a (s .back))
-
--- there is a value, and the test holds of it
-unfoldable pub holdsOf : {A : Type 0} → Option A → (A → Bool) → Bool
-holdsOf none f = false
-holdsOf (some x) f = f x
-
-holds-of : {A : Type 0} (o : Option A) (f : A → Bool) → T (holdsOf o f) → (x : A) × (o ≡ some x) × T (f x)
-unfolding holdsOf
-holds-of none f t = absurd t
-holds-of (some x) f t = (x, refl, t)
-
-holds-at : {A : Type 0} (o : Option A) (f : A → Bool) {x : A} → o ≡ some x → T (holdsOf o f) → T (f x)
-unfolding holdsOf
-holds-at o f e t = rw e at t
-
-unfoldable pub isNone : {A : Type 0} → Option A → Bool
-isNone none = true
-isNone (some x) = false
-
-none-there : (xs : List Item) (i : Item) → T (isEmpty xs) → T (hasItem xs i) → ⊥
-unfolding isEmpty hasItem any
-none-there [] i t h = h
-none-there (j ∷ xs) i t h = t
-
-empty-is : {A : Type 0} (xs : List A) → T (isEmpty xs) → xs ≡ []
-unfolding isEmpty
-empty-is [] t = refl
-empty-is (x ∷ xs) t = absurd t
-
-not-empty : {P : Item → Type 0} (xs : List Item) → Every P xs → T (not (isEmpty xs)) → (i : Item) × P i
-unfolding isEmpty
-not-empty [] h t = absurd t
-not-empty (i ∷ xs) (each p h) t = (i, p)
+use Rattle.slr.proofs.WorkedItems.{itemsAlong, alongTest, items-sound, items-complete}
+use Rattle.slr.proofs.WorkedSets.{someBelow, some-below, isEmpty, within, sameSet, symbolIn, symbol-column, column-symbol-in, same-set-state, state-same-set, holdsOf, holds-of, holds-at, isNone, none-there, empty-is, not-empty}
 
 module _ (g : Grammar) (n : ℕ) (paths : List Form) (cells : List (Option ℕ)) where
   -- over x the set is not empty, and is that of state j
   unfoldable pub leadsTest : Form → Symbol → ℕ → Bool
   unfolding isEmpty holdsOf sameSet itemsAlong
   leadsTest γ x j =
-      not (isEmpty (itemsAlong g n (x ∷ γ))) && holdsOf (getElem? paths j) (λ δ. sameSet (itemsAlong g n (x ∷ γ)) (itemsAlong g n δ))
+      not (isEmpty (itemsAlong g n (x ∷ γ)))
+      && holdsOf (getElem? paths j) (λ δ. sameSet (itemsAlong g n (x ∷ γ)) (itemsAlong g n δ))
 
-  -- a cell names the state that its row's state goes to over its column's symbol, and is none where there is no such state
+  -- a cell names the state that its row's state goes to over its column's symbol, and is none where there is none
   unfoldable pub moveTest : Form → Option Symbol → Option ℕ → Bool
   unfolding isNone isEmpty alongTest itemsAlong leadsTest
   moveTest γ none o = isNone o
@@ -244,7 +94,9 @@ module _ (g : Grammar) (n : ℕ) (paths : List Form) (cells : List (Option ℕ))
     met t j h test =
         or-elim (eqb j 0) (someBelow t (λ s. namesTest s j))
         (λ z. absurd (omega (arith, eqb→eq j 0 z)))
-        (λ some-cell. let (s, low, named) = some-below t (λ s. namesTest s j) some-cell in (s, low, names-tested s j named))
+        (λ there.
+        let (s, low, named) = some-below t (λ s. namesTest s j) there in
+        (s, low, names-tested s j named))
         test
 
     -- what the test of a cell says
@@ -268,7 +120,10 @@ module _ (g : Grammar) (n : ℕ) (paths : List Form) (cells : List (Option ℕ))
         let (i, h) =
         not-empty (itemsAlong g n (x ∷ γ)) (items-sound g n (x ∷ γ))
         (and-left (not (isEmpty (itemsAlong g n (x ∷ γ)))) _ test) in
-        (record { item = i; inside = h; same = same-itself (Along g (x ∷ γ)) }, record { state = δ; at = at; same = same-set-state g n (x ∷ γ) δ closed (path-closed j at) same })
+        let sets : SameState g (x ∷ γ) δ = same-set-state g n (x ∷ γ) δ closed (path-closed j at) same in (
+          record { item = i; inside = h; same = same-itself (Along g (x ∷ γ)) },
+          record { state = δ; at = at; same = sets },
+        )
 
     cell-filled : (t j : ℕ)
         → Names cells t j
@@ -288,7 +143,9 @@ module _ (g : Grammar) (n : ℕ) (paths : List Form) (cells : List (Option ℕ))
             let (goes, is) =
             leads-there γ x j (and-left (alongTest g n (x ∷ γ)) (leadsTest γ x j) test)
             (and-right (alongTest g n (x ∷ γ)) (leadsTest γ x j) test) in
-            (x ∷ γ, record { state = γ; row = row; moves = record { symbol = x; column = symbol-column g (t % columnsOf g) x e; goes = goes } }, is)
+            let moves : MovesTo g γ (t % columnsOf g) (x ∷ γ) =
+            record { symbol = x; column = symbol-column g (t % columnsOf g) x e; goes = goes } in
+            (x ∷ γ, record { state = γ; row = row; moves = moves }, is)
 
     cell-empty : (t : ℕ) → getElem? cells t ≡ some none → (y : Form) → ¬ Follows (collection g) paths t y
     unfolding moveTest
@@ -338,9 +195,11 @@ module _ (g : Grammar) (n : ℕ) (paths : List Form) (cells : List (Option ℕ))
       where
         go : Dec (i < j) → Dec (j < i) → i ≡ j
         go (yes low) d =
-            absurd (apart-states j i (k .state) (h .state) (k .at) (h .at) low (same-trans (same-back (k .same)) (h .same)))
+            let same : SameState g (k .state) (h .state) = same-trans (same-back (k .same)) (h .same) in
+            absurd (apart-states j i (k .state) (h .state) (k .at) (h .at) low same)
         go (no n) (yes low) =
-            absurd (apart-states i j (h .state) (k .state) (h .at) (k .at) low (same-trans (same-back (h .same)) (k .same)))
+            let same : SameState g (h .state) (k .state) = same-trans (same-back (h .same)) (k .same) in
+            absurd (apart-states i j (h .state) (k .state) (h .at) (k .at) low same)
         go (no n) (no m) = omega arith
 
     state-born : (j : ℕ) → 0 < j → j < length paths → (t : ℕ) × (t / columnsOf g < j) × Names cells t j
@@ -361,11 +220,8 @@ module _ (g : Grammar) (n : ℕ) (paths : List Form) (cells : List (Option ℕ))
     start-is : IsState (collection g) paths 0 []
     unfolding startTest
     start-is =
-        let (γ, at, empty) = holds-of (getElem? paths 0) isEmpty (tested .starts) in record {
-          state = γ;
-          at = at;
-          same = rw (empty-is γ empty) (same-itself (Along g []));
-        }
+        let (γ, at, empty) = holds-of (getElem? paths 0) isEmpty (tested .starts) in
+        record { state = γ; at = at; same = rw (empty-is γ empty) (same-itself (Along g [])) }
 
     -- paths and cells that pass are the grammar's numbering
     pub tested-numbering : FoundAll (collection g) paths cells

@@ -30,34 +30,41 @@ use Rattle.slr.proofs.Choosing.{choosing, Chosen, choosing-sound, choos
 use Rattle.slr.proofs.WorkedItems.{hasItem, has-every, itemsAlong, alongTest, items-sound, items-complete}
 
 -- the column of a number
+unfoldable pub endIn : Grammar → ℕ → Option Column
+endIn g n = elim (eqb n (g .tokens)) [ true ↦ some endmark | false ↦ none ]
+
 unfoldable pub columnIn : Grammar → ℕ → Option Column
-columnIn g n =
-    elim (ltb n (g .tokens)) [ true ↦ some (token n) | false ↦ elim (eqb n (g .tokens)) [ true ↦ some endmark | false ↦ none ] ]
+unfolding endIn
+columnIn g n = elim (ltb n (g .tokens)) [ true ↦ some (token n) | false ↦ endIn g n ]
+
+end-is : (g : Grammar) (n : ℕ) (c : Column) → endIn g n ≡ some c → ActionColumn g c n
+unfolding endIn
+end-is g n c e = go (eqb n (g .tokens)) (eqb→eq n (g .tokens)) e
+  where
+    go : (b : Bool)
+        → (T b → n ≡ g .tokens)
+        → elim b [ true ↦ some endmark | false ↦ none ] ≡ some c
+        → ActionColumn g c n
+    go true f h = rw (f tt, ← Option·some-injective endmark c h) under-end
+    go false f h = absurd (Option·none-ne-some c h)
 
 column-is : (g : Grammar) (n : ℕ) (c : Column) → columnIn g n ≡ some c → ActionColumn g c n
 unfolding columnIn
 column-is g n c e = go (ltb n (g .tokens)) (ltb→lt n (g .tokens)) e
   where
-    last : (b : Bool)
-        → (T b → n ≡ g .tokens)
-        → elim b [ true ↦ some endmark | false ↦ none ] ≡ some c
-        → ActionColumn g c n
-    last true f h = rw (f tt, ← Option·some-injective endmark c h) under-end
-    last false f h = absurd (Option·none-ne-some c h)
-
     go : (b : Bool)
         → (T b → n < g .tokens)
-        → elim b [ true ↦ some (token n) | false ↦ elim (eqb n (g .tokens)) [ true ↦ some endmark | false ↦ none ] ] ≡ some c
+        → elim b [ true ↦ some (token n) | false ↦ endIn g n ] ≡ some c
         → ActionColumn g c n
     go true f h = rw (← Option·some-injective (token n) c h) (under-token (f tt))
-    go false f h = last (eqb n (g .tokens)) (eqb→eq n (g .tokens)) h
+    go false f h = end-is g n c h
 
 is-column : {g : Grammar} {n : ℕ} {c : Column} → ActionColumn g c n → columnIn g n ≡ some c
-unfolding columnIn
+unfolding columnIn endIn
 is-column (under-token h) = rw (below-true h, columnIn)
 is-column {g} under-end =
     let past : g .tokens ≤ g .tokens = omega arith in
-    rw (below-false past, is-true {b = eqb (g .tokens) (g .tokens)} (eqb-refl (g .tokens)), columnIn)
+    rw (below-false past, is-true {b = eqb (g .tokens) (g .tokens)} (eqb-refl (g .tokens)), columnIn, endIn)
 
 first-of : {P : ℕ → Type 0} {x : ℕ} {xs : List ℕ} → Every P (x ∷ xs) → P x
 first-of (each p h) = p
@@ -92,18 +99,20 @@ module _ (g : Grammar) (n : ℕ) (paths : List Form) (cells : List (Option ℕ))
   acceptsOf (token t) xs = []
   acceptsOf endmark xs = elim (hasItem xs finish) [ true ↦ acceptCell ∷ [] | false ↦ [] ]
 
+  -- the reductions and the acceptance of a state under a column
+  unfoldable pub endsOf : Option Column → Option Form → List ℕ
+  unfolding reductionsOf acceptsOf itemsAlong
+  endsOf none q = []
+  endsOf (some c) none = []
+  endsOf (some c) (some γ) = reductionsOf c (itemsAlong g n γ) ++ acceptsOf c (itemsAlong g n γ)
+
   -- the numbers that claim a cell
   unfoldable pub claimsAt : ℕ → List ℕ
-  unfolding movesAt reductionsOf acceptsOf columnIn itemsAlong
-  claimsAt i =
-      movesAt i
-      ++ elim (columnIn g (i % columnsOf g)) [
-        | none ↦ []
-        | some c ↦ elim
-            (getElem? paths (i / columnsOf g)) [ none ↦ [] | some γ ↦ reductionsOf c (itemsAlong g n γ) ++ acceptsOf c (itemsAlong g n γ) ]
-      ]
+  unfolding movesAt endsOf columnIn
+  claimsAt i = movesAt i ++ endsOf (columnIn g (i % columnsOf g)) (getElem? paths (i / columnsOf g))
 
-  module _ (found : FoundAll (collection g) paths cells) (closed : T (all (alongTest g n) paths)) (W-exact : (A : ℕ) (c : Column) → In W A c ↔ FollowOf g A c) where
+  module _ (found : FoundAll (collection g) paths cells) (closed : T (all (alongTest g n) paths))
+      (W-exact : (A : ℕ) (c : Column) → In W A c ↔ FollowOf g A c) where
     -- a shift or a move
     leads-claim : (i : ℕ) {x : Symbol} {c j : ℕ}
         → SymbolColumn g x c
@@ -157,7 +166,8 @@ module _ (g : Grammar) (n : ℕ) (paths : List Form) (cells : List (Option ℕ))
     unfolding movesAt any
     moves-all i j names = rw (names, movesAt) (or-left (eqb j j) false (eqb-refl j))
 
-    module _ (i : ℕ) {c : Column} {γ : Form} (column : ActionColumn g c (i % columnsOf g)) (row : getElem? paths (i / columnsOf g) ≡ some γ) where
+    module _ (i : ℕ) {c : Column} {γ : Form} (column : ActionColumn g c (i % columnsOf g))
+        (row : getElem? paths (i / columnsOf g) ≡ some γ) where
       in-row : {x : Item} → Along g γ x → InState g paths (i / columnsOf g) x
       in-row h = record { path = γ; at = row; inside = h }
 
@@ -167,8 +177,11 @@ module _ (g : Grammar) (n : ℕ) (paths : List Form) (cells : List (Option ℕ))
           let r : Production = k .production in
           let ends : Bool = hasItem (itemsAlong g n γ) (dotted p (length (r .right))) in
           let follows : Bool = any (is (r .left) c) W in
-          claims-action {a = reduce p} column
-          (reduces (k .rule) (in-row (has-every (Along g γ) (items-sound g n γ) (dotted p (length (r .right))) (and-left ends follows (k .holds)))) (W-exact (r .left) c .0 (and-right ends follows (k .holds))))
+          let item : Along g γ (dotted p (length (r .right))) =
+          has-every (Along g γ) (items-sound g n γ) (dotted p (length (r .right)))
+          (and-left ends follows (k .holds)) in
+          let follow : FollowOf g (r .left) c = W-exact (r .left) c .0 (and-right ends follows (k .holds)) in
+          claims-action {a = reduce p} column (reduces (k .rule) (in-row item) follow)
 
       reductions-sound : Every (SlrClaims g paths i) (reductionsOf c (itemsAlong g n γ))
       unfolding reductionsOf
@@ -190,24 +203,25 @@ module _ (g : Grammar) (n : ℕ) (paths : List Form) (cells : List (Option ℕ))
         go true h = each (claims-action {a = accept} column (accepts (in-row i column row (h tt)))) nothing
         go false h = nothing
 
+    ends-sound : (i : ℕ) (o : Option Column) (q : Option Form)
+        → columnIn g (i % columnsOf g) ≡ o
+        → getElem? paths (i / columnsOf g) ≡ q
+        → Every (SlrClaims g paths i) (endsOf o q)
+    unfolding endsOf
+    ends-sound i none q e row = nothing
+    ends-sound i (some c) none e row = nothing
+    ends-sound i (some c) (some γ) e row =
+        let column : ActionColumn g c (i % columnsOf g) = column-is g (i % columnsOf g) c e in
+        every-append (reductionsOf c (itemsAlong g n γ)) (acceptsOf c (itemsAlong g n γ))
+        (reductions-sound i column row)
+        (accepts-sound i c column row)
+
     claims-sound : (i : ℕ) → Every (SlrClaims g paths i) (claimsAt i)
     unfolding claimsAt
     claims-sound i =
-        every-append (movesAt i) _ (moves-sound i)
-        (go (columnIn g (i % columnsOf g)) refl (getElem? paths (i / columnsOf g)) refl)
-      where
-        go : (o : Option Column)
-            → columnIn g (i % columnsOf g) ≡ o
-            → (q : Option Form)
-            → getElem? paths (i / columnsOf g) ≡ q
-            → Every (SlrClaims g paths i)
-            (elim o [ none ↦ [] | some c ↦ elim q [ none ↦ [] | some γ ↦ reductionsOf c (itemsAlong g n γ) ++ acceptsOf c (itemsAlong g n γ) ] ])
-        go none e q row = nothing
-        go (some c) e none row = nothing
-        go (some c) e (some γ) row =
-            let column : ActionColumn g c (i % columnsOf g) = column-is g (i % columnsOf g) c e in
-            every-append (reductionsOf c (itemsAlong g n γ)) (acceptsOf c (itemsAlong g n γ))
-            (reductions-sound i column row) (accepts-sound i c column row)
+        every-append (movesAt i) (endsOf (columnIn g (i % columnsOf g)) (getElem? paths (i / columnsOf g)))
+        (moves-sound i)
+        (ends-sound i (columnIn g (i % columnsOf g)) (getElem? paths (i / columnsOf g)) refl refl)
 
     -- an action but a shift stands behind the moves
     behind-moves : (i v : ℕ) {c : Column} {γ : Form}
@@ -215,8 +229,10 @@ module _ (g : Grammar) (n : ℕ) (paths : List Form) (cells : List (Option ℕ))
         → getElem? paths (i / columnsOf g) ≡ some γ
         → T (any (eqb v) (reductionsOf c (itemsAlong g n γ) ++ acceptsOf c (itemsAlong g n γ)))
         → T (any (eqb v) (claimsAt i))
-    unfolding claimsAt
-    behind-moves i v column row t = any-append-right (eqb v) (movesAt i) _ (rw (is-column column, row) t)
+    unfolding claimsAt endsOf
+    behind-moves i v column row t =
+        any-append-right (eqb v) (movesAt i) (endsOf (columnIn g (i % columnsOf g)) (getElem? paths (i / columnsOf g)))
+        (rw (is-column column, row) t)
 
     closed-at : (s : ℕ) {γ : Form} → getElem? paths s ≡ some γ → T (alongTest g n γ)
     closed-at s {γ} e = every-at (all-every (alongTest g n) paths closed) s γ e
@@ -226,7 +242,9 @@ module _ (g : Grammar) (n : ℕ) (paths : List Form) (cells : List (Option ℕ))
         → LeadsTo g paths (i / columnsOf g) x j
         → T (any (eqb j) (claimsAt i))
     unfolding claimsAt
-    moves-there i {j = j} column l = any-append-left (eqb j) (movesAt i) _ (moves-all i j (claim-names i column l))
+    moves-there i {j = j} column l =
+        any-append-left (eqb j) (movesAt i) (endsOf (columnIn g (i % columnsOf g)) (getElem? paths (i / columnsOf g)))
+        (moves-all i j (claim-names i column l))
 
     reductions-there : (i : ℕ) {c : Column} {p A : ℕ} {β γ : Form}
         → getElem? paths (i / columnsOf g) ≡ some γ
@@ -236,11 +254,15 @@ module _ (g : Grammar) (n : ℕ) (paths : List Form) (cells : List (Option ℕ))
         → T (any (eqb (reduceFrom + p)) (reductionsOf c (itemsAlong g n γ)))
     unfolding reductionsOf reducesTest
     reductions-there i {c} {p} {A} {β} {γ} row r h f =
+        let test : ℕ → Production → Bool = reducesTest c (itemsAlong g n γ) in
+        let item : T (hasItem (itemsAlong g n γ) (dotted p (length β))) =
+        items-complete g n γ (closed-at (i / columnsOf g) row) (dotted p (length β)) h in
+        let passes : T (test p (record { left = A; right = β })) =
+        and-both (hasItem (itemsAlong g n γ) (dotted p (length β))) (any (is A c) W) item (W-exact A c .1 f) in
         any-map (eqb p) (eqb (reduceFrom + p)) (λ q. reduceFrom + q)
         (λ q t. subst (λ (o : ℕ). T (eqb (reduceFrom + p) (reduceFrom + o))) (eqb→eq p q t) (eqb-refl (reduceFrom + p)))
-        (choosing (reducesTest c (itemsAlong g n γ)) 0 (g .productions))
-        (choosing-all g (reducesTest c (itemsAlong g n γ)) r
-        (and-both (hasItem (itemsAlong g n γ) (dotted p (length β))) (any (is A c) W) (items-complete g n γ (closed-at (i / columnsOf g) row) (dotted p (length β)) h) (W-exact A c .1 f)))
+        (choosing test 0 (g .productions))
+        (choosing-all g test r passes)
 
     accepts-there : (i : ℕ) {γ : Form}
         → getElem? paths (i / columnsOf g) ≡ some γ
@@ -263,11 +285,13 @@ module _ (g : Grammar) (n : ℕ) (paths : List Form) (cells : List (Option ℕ))
     acts-there i {c} column (reduces {p = p} r h f) =
         let items : List Item = itemsAlong g n (h .path) in
         behind-moves i (reduceFrom + p) column (h .at)
-        (any-append-left (eqb (reduceFrom + p)) (reductionsOf c items) (acceptsOf c items) (reductions-there i (h .at) r (h .inside) f))
+        (any-append-left (eqb (reduceFrom + p)) (reductionsOf c items) (acceptsOf c items)
+        (reductions-there i (h .at) r (h .inside) f))
     acts-there i column (accepts h) =
         let items : List Item = itemsAlong g n (h .path) in
         behind-moves i acceptCell column (h .at)
-        (any-append-right (eqb acceptCell) (reductionsOf endmark items) (acceptsOf endmark items) (accepts-there i (h .at) (h .inside)))
+        (any-append-right (eqb acceptCell) (reductionsOf endmark items) (acceptsOf endmark items)
+        (accepts-there i (h .at) (h .inside)))
 
     claims-there : (i : ℕ) {v : ℕ} → SlrClaims g paths i v → T (any (eqb v) (claimsAt i))
     claims-there i (claims-action column acts) = acts-there i column acts
@@ -286,9 +310,12 @@ module _ (g : Grammar) (n : ℕ) (paths : List Form) (cells : List (Option ℕ))
     tested-table table size test =
         record {
           sized = eqb→eq (length table) (columnsOf g * length paths) size;
-          holds = λ i h. go i (claimsAt i) refl (getD table i emptyCell) (below-each (length table) (λ i. heldTest (claimsAt i) (getD table i emptyCell)) test i h);
+          holds = λ i h. go i (claimsAt i) refl (getD table i emptyCell) (below-each (length table) right test i h);
         }
       where
+        right : ℕ → Bool
+        right i = heldTest (claimsAt i) (getD table i emptyCell)
+
         none-claims : (i : ℕ) → claimsAt i ≡ [] → (u : ℕ) → ¬ SlrClaims g paths i u
         none-claims i e u k = subst (λ (us : List ℕ). T (any (eqb u) us)) e (claims-there i k)
 
