@@ -44,6 +44,15 @@ extern "C" {
 /* How many cells the table of a book has that desk_judge finds done: N x (T+1). */
 #define DESK_TABLE_CELLS(book) ((size_t)(book)[3] * ((book)[2] + 1u))
 
+/* Room by formula: how many list and stack cells are enough for a run over that many tokens, before any string is
+   seen. Let no right side of the book be empty, the table be the one of desk_build, and the tokens be at most 4,096,
+   each below T, derivable or not. The run then lists at most N x tokens productions and holds at most
+   1 + 15 x N x tokens stack cells, however it ends; so where both are lent, and neither is above 65,535, the answer
+   is never DESK_ROOM. They say nothing of a book with an empty right side, of another table, or where one of the two
+   is above 65,535. */
+#define DESK_LIST_ROOM(nonterminals, tokens) ((size_t)(nonterminals) * (size_t)(tokens))
+#define DESK_STACK_ROOM(nonterminals, tokens) (1 + 15 * DESK_LIST_ROOM(nonterminals, tokens))
+
 #define DESK_NONTERMINAL 128
 #define DESK_NO_PRODUCTION 255
 

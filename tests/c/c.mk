@@ -5,9 +5,9 @@ BISON ?= $(shell command -v bison)
 C_OUT := target/c
 C_FLAGS := -std=c11 -O2 -Wall -Wextra -Wpedantic -Iinclude -Itests/c -Ibench
 C_EXAMPLES := tests/c/lent.c $(addprefix tests/c/examples/,main.c check.c books.c calls.c refused.c sets.c runs.c \
-              expansions.c rooms.c trees.c)
+              expansions.c rooms.c trees.c formula.c)
 C_DIFFERENTIAL := tests/c/lent.c tests/c/plain.c $(addprefix tests/c/differential/,main.c pick.c shape.c inputs.c \
-                  strings.c needs.c compare.c counts.c)
+                  strings.c needs.c compare.c laws.c counts.c)
 C_HEADERS := include/desk.h bench/source.h $(wildcard tests/c/*.h tests/c/*/*.h)
 C_COMPILE = $(CC) $(C_FLAGS) $(1) -o $@ $(filter %.c,$^) $(LIB)
 
@@ -18,13 +18,14 @@ endif
 
 .PHONY: c-test restore bench stack
 
-c-test: $(C_OUT)/examples $(C_OUT)/differential $(C_OUT)/examples-checked $(C_OUT)/differential-checked $(C_OUT)/restore
+c-test: $(addprefix $(C_OUT)/,examples differential examples-checked differential-checked restore stack)
 	$(C_OUT)/examples
 	$(C_OUT)/differential
 	$(C_OUT)/examples-checked
 	$(C_OUT)/differential-checked 100000
 	printf '\0\1\2\1\3\1' > $(C_OUT)/line
 	$(C_OUT)/restore books/house.book - $(C_OUT)/line | diff - tests/c/restore.stdout
+	$(C_OUT)/stack
 
 restore: $(C_OUT)/restore
 

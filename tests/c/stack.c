@@ -4,6 +4,7 @@
 #include "desk.h"
 #include "house.h"
 
+#include <stdbool.h>
 #include <stdio.h>
 #include <stdlib.h>
 #include <string.h>
@@ -77,6 +78,29 @@ static void call_expand(void)
                          answer, sizeof answer);
 }
 
+/* A function, and the most bytes that it may take on x86-64. */
+struct function {
+    const char *name;
+    void (*call)(void);
+    size_t most;
+};
+
+static const struct function judge = { "desk_judge", call_judge, 3400 };
+static const struct function sets = { "desk_sets", call_sets, 4700 };
+static const struct function build = { "desk_build", call_build, 9900 };
+static const struct function lookahead = { "desk_lookahead", call_lookahead, 4700 };
+static const struct function first_of = { "desk_first_of", call_first_of, 4100 };
+static const struct function run = { "desk_run", call_run, 4400 };
+static const struct function expand = { "desk_expand", call_expand, 4600 };
+
+#ifdef __x86_64__
+static const bool bounded = true;
+#else
+static const bool bounded = false;
+#endif
+
+static unsigned exceeded;
+
 static void enter(void)
 {
     measured();
@@ -119,22 +143,28 @@ static size_t depth_of(void (*call)(void))
     return (words - untouched) * sizeof *painted;
 }
 
-/* Measures a call after it was made once, so that the loader has done its part, and takes off what no call takes. */
-static void print_depth(const char *name, const char *input, void (*call)(void))
+/* Measures a call after it was made once, so that the loader has done its part, takes off what no call takes, and
+   counts a function that takes more than it may. */
+static void print_depth(const struct function *function, const char *input)
 {
-    call();
-    size_t depth = depth_of(call);
+    function->call();
+    size_t depth = depth_of(function->call);
     uint32_t answered = number;
-    printf("%-15s %-36s %8zu bytes, number %u\n", name, input, depth - depth_of(call_nothing), (unsigned)answered);
+    depth -= depth_of(call_nothing);
+    printf("%-15s %-36s %8zu bytes, number %u\n", function->name, input, depth, (unsigned)answered);
+    if (bounded && depth > function->most) {
+        printf("%s takes more than %zu bytes\n", function->name, function->most);
+        exceeded++;
+    }
 }
 
 static void print_book_depths(const char *input)
 {
-    print_depth("desk_judge", input, call_judge);
-    print_depth("desk_sets", input, call_sets);
-    print_depth("desk_build", input, call_build);
-    print_depth("desk_lookahead", input, call_lookahead);
-    print_depth("desk_first_of", input, call_first_of);
+    print_depth(&judge, input);
+    print_depth(&sets, input);
+    print_depth(&build, input);
+    print_depth(&lookahead, input);
+    print_depth(&first_of, input);
 }
 
 static void set_book(const uint8_t *bytes, size_t length)
@@ -187,26 +217,26 @@ static void print_run_depths(void)
     call_build();
     memcpy(tokens, order, sizeof order);
     tokens_length = sizeof order;
-    print_depth("desk_run", "house, 6 tokens", call_run);
+    print_depth(&run, "house, 6 tokens");
     memcpy(list, list_of_order, sizeof list_of_order);
     list_length = sizeof list_of_order;
-    print_depth("desk_expand", "house, 7 productions", call_expand);
+    print_depth(&expand, "house, 7 productions");
     for (size_t i = 0; i < DESK_MOST_TOKENS; i += 2) {
         tokens[i] = i == 0 ? 0 : 3;
         tokens[i + 1] = 1;
     }
     tokens_length = DESK_MOST_TOKENS;
-    print_depth("desk_run", "house, 4096 tokens", call_run);
+    print_depth(&run, "house, 4096 tokens");
     set_tree();
     call_build();
     tokens_length = 0;
-    print_depth("desk_run", "tree, 65535 productions", call_run);
+    print_depth(&run, "tree, 65535 productions");
     list_length = DESK_MOST_CELLS;
-    print_depth("desk_expand", "tree, 65535 productions", call_expand);
+    print_depth(&expand, "tree, 65535 productions");
     set_book(growing, sizeof growing);
     memset(list, 0, sizeof list);
     list[sizeof list - 1] = 1;
-    print_depth("desk_expand", "65535 productions, stack and tokens", call_expand);
+    print_depth(&expand, "65535 productions, stack and tokens");
 }
 
 int main(void)
@@ -217,5 +247,5 @@ int main(void)
     set_longest();
     print_book_depths("longest book");
     print_run_depths();
-    return 0;
+    return exceeded == 0 ? 0 : 1;
 }

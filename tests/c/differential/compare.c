@@ -2,6 +2,7 @@
 
 #include "counts.h"
 #include "inputs.h"
+#include "laws.h"
 #include "lent.h"
 #include "needs.h"
 #include "plain.h"
@@ -88,6 +89,8 @@ static void compare_runs(void)
                                lent_bytes(&lent[1]), stack_size, lent_bytes(&lent[2]), list_size,
                                lent_bytes(&lent[0]), size);
     compare(RUN, number, wanted, lent, 3);
+    if (!formula_is_enough())
+        show_difference(RUN, number, wanted, "room by formula");
 }
 
 static void compare_expansions(void)
@@ -174,6 +177,8 @@ static void compare_firsts_of(void)
     uint32_t number = desk_first_of(book(), in.book_length, string(), in.string_length, lent_words(&lent[1]),
                                     cells, lent_bytes(&lent[0]), size);
     compare(FIRST_OF, number, wanted, lent, 2);
+    if (!parts_join())
+        show_difference(FIRST_OF, number, wanted, "first of two parts");
 }
 
 void compare_case(unsigned long number)

@@ -1,5 +1,6 @@
 #include "compare.h"
 #include "counts.h"
+#include "laws.h"
 
 #include <stdio.h>
 #include <stdlib.h>
@@ -13,7 +14,7 @@ int main(int argc, char **argv)
     unsigned long first_case = argc > 2 ? strtoul(argv[2], NULL, 10) : 0;
     for (unsigned long number = first_case; number < first_case + cases; number++)
         compare_case(number);
-    unsigned missing = print_counts();
+    unsigned missing = print_counts() + print_laws();
     if (missing > 0)
         printf("%u of these never met\n", missing);
     printf("%lu cases, %lu differences\n", cases, differences);

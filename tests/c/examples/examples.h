@@ -9,6 +9,7 @@ void check_runs(void);
 void check_expansions(void);
 void check_rooms(void);
 void check_trees(void);
+void check_formula(void);
 
 struct grammar;
 

@@ -17,5 +17,6 @@ int main(void)
     check_expansions();
     check_rooms();
     check_trees();
+    check_formula();
     return report();
 }

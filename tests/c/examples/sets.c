@@ -101,6 +101,11 @@ static const struct {
     { "vanishing then a token", BYTES(N(2), N(3), 1), DONE, 0xe },
     { "not past a token", BYTES(N(2), 0, N(3)), DONE, 0x5 },
     { "vanishing twice", BYTES(N(3), N(3)), DONE, EMPTY | 0x8 },
+    { "in", BYTES(N(2)), DONE, EMPTY | 0x4 },
+    { "and", BYTES(N(3)), DONE, EMPTY | 0x8 },
+    { "two vanish, a token, one more", BYTES(N(2), N(3), 0, N(2)), DONE, 0xd },
+    { "one vanishes, a token, one more", BYTES(N(3), 0, N(2)), DONE, 0x9 },
+    { "a token, one more", BYTES(0, N(2)), DONE, 0x1 },
     { "sixteen", BYTES(N(2), N(2), N(2), N(2), N(2), N(2), N(2), N(2), N(2), N(2), N(2), N(2), N(2), N(2), N(2), 1),
       DONE, 0x6 },
     { "seventeen", { zeros, 17 }, { 4, 16, 0, 0, 0 }, 0 },
@@ -111,6 +116,28 @@ static const struct {
     { "no symbol", BYTES(127), { 5, 0, 0, 0, 0 }, 0 },
     { "no symbol at the end", BYTES(0, 0, 0, 0, 0, 0, 0, 0, 0, 0, 0, 0, 0, 0, 0, 255), { 5, 15, 0, 0, 0 }, 0 },
 };
+
+/* FIRST of part of a string of the house grammar. */
+static uint64_t first_of_part(const char *name, struct slice symbols)
+{
+    uint8_t answer[DESK_ANSWER_SIZE];
+    uint64_t set = 0;
+    check(name, "part served", desk_first_of(house.book.bytes, house.book.length, symbols.bytes, symbols.length,
+                                             &set, 1, answer, sizeof answer) == DESK_DONE);
+    return set;
+}
+
+/* Checks that FIRST of a string is the join of FIRST of its two parts, wherever it is split. */
+static void check_splits(const char *name, struct slice symbols, uint64_t set)
+{
+    for (size_t cut = 0; cut <= symbols.length; cut++) {
+        uint64_t left = first_of_part(name, (struct slice){ symbols.bytes, cut });
+        uint64_t right = cut == symbols.length
+                       ? first_of_part(name, (struct slice)NONE)
+                       : first_of_part(name, (struct slice){ symbols.bytes + cut, symbols.length - cut });
+        check(name, "join of two parts", ((left & ~EMPTY) | (left & EMPTY ? right : 0)) == set);
+    }
+}
 
 /* Lookaheads of books that have a conflict and so no table to read them from. */
 static const struct {
@@ -129,8 +156,11 @@ void check_sets_and_tables(void)
 {
     for (size_t i = 0; i < COUNT(grammars); i++)
         check_grammar(grammars[i]);
-    for (size_t i = 0; i < COUNT(strings); i++)
+    for (size_t i = 0; i < COUNT(strings); i++) {
         check_first_of(strings[i].name, house.book, strings[i].symbols, strings[i].wanted, strings[i].set);
+        if (strings[i].wanted.number == DESK_DONE)
+            check_splits(strings[i].name, strings[i].symbols, strings[i].set);
+    }
     for (size_t i = 0; i < COUNT(lookaheads); i++)
         check_lookahead(lookaheads[i].name, lookaheads[i].grammar->book, lookaheads[i].production,
                         (struct wanted)DONE, lookaheads[i].set);
