@@ -4,22 +4,6 @@
 #include "plain/sets.h"
 #include "plain/steps.h"
 
-static void write_word(uint8_t *bytes, uint64_t word)
-{
-    for (size_t i = 0; i < 8; i++)
-        bytes[i] = (uint8_t)(word >> (8 * i));
-}
-
-/* Writes the four words of an answer into the lent buffer and returns its number. */
-static uint32_t give(const struct answer *answer, uint8_t *buffer)
-{
-    write_word(buffer, answer->place);
-    write_word(buffer + 8, answer->detail);
-    write_word(buffer + 16, answer->steps);
-    write_word(buffer + 24, answer->expected);
-    return answer->number;
-}
-
 /* Whether steps can begin, which takes one cell for the start symbol. */
 static bool stack_has_cell(size_t stack_len, struct answer *answer)
 {
