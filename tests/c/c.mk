@@ -6,8 +6,8 @@ C_OUT := target/c
 C_FLAGS := -std=c11 -O2 -Wall -Wextra -Wpedantic -Iinclude -Itests/c -Ibench
 C_EXAMPLES := tests/c/lent.c $(addprefix tests/c/examples/,main.c check.c books.c calls.c refused.c sets.c runs.c \
               expansions.c rooms.c trees.c formula.c)
-C_DIFFERENTIAL := tests/c/lent.c tests/c/plain.c $(addprefix tests/c/differential/,main.c pick.c shape.c inputs.c \
-                  strings.c needs.c compare.c laws.c counts.c)
+C_DIFFERENTIAL := tests/c/lent.c tests/c/plain.c tests/c/cases.c $(addprefix tests/c/differential/,pick.c shape.c \
+                  inputs.c strings.c needs.c compare.c laws.c counts.c)
 C_HEADERS := include/desk.h bench/source.h $(wildcard tests/c/*.h tests/c/*/*.h)
 C_COMPILE = $(CC) $(C_FLAGS) $(1) -o $@ $(filter %.c,$^) $(LIB)
 

@@ -1,4 +1,4 @@
-#include "compare.h"
+#include "cases.h"
 
 #include "counts.h"
 #include "inputs.h"
@@ -204,4 +204,9 @@ void compare_case(unsigned long number)
         compare_lookaheads();
     else
         compare_firsts_of();
+}
+
+unsigned print_counts(void)
+{
+    return print_numbers() + print_laws();
 }

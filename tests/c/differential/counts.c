@@ -60,7 +60,7 @@ static void print_sums(const struct counts *counts)
     printf("\n");
 }
 
-unsigned print_counts(void)
+unsigned print_numbers(void)
 {
     unsigned missing = print_functions(&numbers);
     print_sums(&numbers);

@@ -12,6 +12,6 @@ void count_number(enum function function, uint32_t number);
 void count_detail(enum function function, uint64_t detail);
 
 /* Prints how often each function met each number and each detail, and gives how many possible ones were never met. */
-unsigned print_counts(void);
+unsigned print_numbers(void);
 
 #endif
