@@ -1,0 +1,16 @@
+pub mod Walks
+pub mod Best
+pub mod Looking
+pub mod Moving
+pub mod Written
+pub mod Progress
+pub mod Unique
+pub mod Exact
+pub mod Laying
+pub mod Standing
+pub mod Matching
+pub mod Deciding
+pub mod Beginning
+pub mod Examples
+pub mod Theorems
+pub mod Promise

@@ -1,0 +1,19 @@
+-- How two meanings of patterns can be related, and when a meaning decides a line. Definitions only.
+use mathlib.Core.List.{List}
+use mathlib.Core.Logic.{_↔_, _⊎_}
+use Prim.Native.Nat.{ℕ, _<_}
+use Rattle.pieces.specs.Cut.{TokenAt, NoTokenAt}
+
+-- the two say the same of every string
+abbrev pub Agree : (M N : ℕ → List ℕ → Type 0) → Type 0
+Agree M N = (k : ℕ) (u : List ℕ) → M k u ↔ N k u
+
+-- of every string N says the lowest pattern that matches it by M, and nothing where none does
+pub record Picks (N M : ℕ → List ℕ → Type 0) : Type 0 where
+  pub matches : (k : ℕ) (u : List ℕ) → N k u → M k u
+  pub lowest : (j k : ℕ) (u : List ℕ) → N k u → j < k → M j u → ⊥
+  pub some : (j : ℕ) (u : List ℕ) → M j u → (k : ℕ) × N k u
+
+-- a string begins with a token or with none
+abbrev pub Decided : (M : ℕ → List ℕ → Type 0) → List ℕ → Type 0
+Decided M w = ((k : ℕ) × (n : ℕ) × TokenAt M w k n) ⊎ NoTokenAt M w
