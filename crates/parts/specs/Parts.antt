@@ -10,15 +10,9 @@ use Rattle.points.specs.Points.{pointsAt}
 use Rattle.answers.specs.Limits.{mostPositions}
 use Rattle.pattern.specs.Pattern.{Expression}
 use Rattle.pattern.specs.Positions.{size, Null, FirstPosition, LastPosition, FollowPosition, Reads}
+pub use Rattle.parts.specs.Widths.{positionWords, pointWords}
 use Rattle.parts.specs.declared.Part.{Part}
 use Rattle.parts.specs.Rows.{Rows}
-
--- the words of a set of positions, and of a set of points: 256 positions, then the ends of 62 patterns
-abbrev pub positionWords : ℕ
-positionWords = 4
-
-abbrev pub pointWords : ℕ
-pointWords = 5
 
 -- the set of positions that four words are
 abbrev pub positionsIn : List ℕ → ℕ

@@ -1,2 +1,3 @@
-// Patterns read into the tables of their positions, or refused at the byte where a text stops being a pattern.
+// One pattern read into the tables of its positions, or refused at the byte where the text stops being a pattern.
 mod reading;
+pub mod whole;

@@ -1,4 +1,4 @@
-// One pattern: alternation, sequence, repetition and group call each other, and each call takes bytes or a group's depth.
+// One pattern: alternation, sequence, repetition and group call each other; each call takes bytes or a group's depth.
 ghost use mathlib.Core.Path.{_≡_};
 ghost use lib.ListN.{getD};
 ghost use Rattle.pattern.specs.Marks.{openGroup};
@@ -24,7 +24,9 @@ pub(crate) fn alternation(
     readers: &mut [u64],
     follow: &mut [u64],
 ) -> Part
-    ensures { λ r. ⌜ AlternationRead (now (pattern .entry)) depth at count (now (readers .entry)) (now (follow .entry)) r (now (readers .exit)) (now (follow .exit)) ⌝ }
+    ensures { λ r. ⌜ AlternationRead (now (pattern .entry)) depth at count
+        (now (readers .entry)) (now (follow .entry))
+        r (now (readers .exit)) (now (follow .exit)) ⌝ }
 {
     let mut whole = sequence(pattern, at, depth, count, readers, follow);
     while divides(pattern, whole.good, whole.at) {
@@ -46,7 +48,8 @@ fn sequence(
     readers: &mut [u64],
     follow: &mut [u64],
 ) -> Part
-    ensures { λ r. ⌜ SequenceRead (now (pattern .entry)) depth at count (now (readers .entry)) (now (follow .entry)) r (now (readers .exit)) (now (follow .exit)) ⌝ }
+    ensures { λ r. ⌜ SequenceRead (now (pattern .entry)) depth at count (now (readers .entry)) (now (follow .entry))
+        r (now (readers .exit)) (now (follow .exit)) ⌝ }
 {
     let mut whole = repetition(pattern, at, depth, count, readers, follow);
     while goes_on(pattern, whole.good, whole.at) {
@@ -68,7 +71,8 @@ fn repetition(
     readers: &mut [u64],
     follow: &mut [u64],
 ) -> Part
-    ensures { λ r. ⌜ RepetitionRead (now (pattern .entry)) depth at count (now (readers .entry)) (now (follow .entry)) r (now (readers .exit)) (now (follow .exit)) ⌝ }
+    ensures { λ r. ⌜ RepetitionRead (now (pattern .entry)) depth at count (now (readers .entry)) (now (follow .entry))
+        r (now (readers .exit)) (now (follow .exit)) ⌝ }
 {
     if byte_at(pattern, at) == OPEN_GROUP {
         let item = group(pattern, at, depth, count, readers, follow);
@@ -88,7 +92,8 @@ fn group(
     follow: &mut [u64],
 ) -> Part
     requires { ⌜ getD (now pattern) at 0 ≡ openGroup ⌝ }
-    ensures { λ r. ⌜ ItemRead (now (pattern .entry)) depth at count (now (readers .entry)) (now (follow .entry)) r (now (readers .exit)) (now (follow .exit)) ⌝ }
+    ensures { λ r. ⌜ ItemRead (now (pattern .entry)) depth at count (now (readers .entry)) (now (follow .entry))
+        r (now (readers .exit)) (now (follow .exit)) ⌝ }
 {
     if depth == 0 {
         return refused(at);

@@ -1,0 +1,11 @@
+pub mod Pointing
+pub mod Texts
+pub mod Finishing
+pub mod Gathered
+pub mod Cleared
+pub mod Outcomes
+pub mod Unique
+pub mod Promise
+pub mod Judging
+pub mod Worked
+pub mod Theorems

@@ -1,0 +1,4 @@
+pub mod Calls
+pub mod Promised
+pub mod Examples
+pub mod Gathering
