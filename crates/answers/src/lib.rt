@@ -5,6 +5,7 @@ use crate::refusals::DONE;
 use sets::Set;
 use sets::none;
 
+pub mod buffers;
 pub mod limits;
 pub mod refusals;
 

@@ -1,0 +1,67 @@
+-- What FIRST promises, one page: each theorem under the sentence that it proves.
+use mathlib.Core.Path.{_≡_}
+use mathlib.Core.List.{List}
+use Prim.Native.Nat.{ℕ, _^_, _≤_, _<_}
+use lib.ListN.{length, take, getD}
+use Rattle.grammar.specs.Grammar.{Form, Grammar, Member, Every, Known, Rule, First}
+use Rattle.sets.specs.Sets.{width, emptyString, only, united}
+use Rattle.sets.specs.Calls.{setAt, stored}
+use Rattle.reader.specs.Book.{Limits}
+use Rattle.book.specs.declared.Reading.{Reading}
+use Rattle.first.specs.declared.SetAnswer.{SetAnswer}
+use Rattle.first.specs.Numbers.{IsSet, Sets, FirstSets, FamilyOf}
+use Rattle.first.specs.Trail.{trail, FirstSound, FirstClosed}
+use Rattle.first.specs.Calls.{FirstWorkedOut, FirstResult, FirstOutcome}
+use Rattle.first.proofs.Additions as additions
+use Rattle.first.proofs.Closed as closed
+use Rattle.first.proofs.Unique as unique
+use Rattle.first.proofs.SetAnswers as answers
+
+module _ {g : Grammar} (limits : Limits g) where
+  -- each single addition to FIRST is sound
+  pub first-addition-sound : {fs : List ℕ}
+      → FirstSound g fs
+      → {p A : ℕ} {β : Form}
+      → Rule g p A β
+      → FirstSound g (stored fs A (united (setAt fs A) (trail fs (only emptyString) β)))
+  first-addition-sound sound = additions.first-addition-sound limits sound
+
+  -- FIRST: what is sound and closed is exact
+  pub first-sets : {fs : List ℕ}
+      → g .nonterminals ≤ length fs
+      → ((A : ℕ) → A < g .nonterminals → getD fs A 0 < 2 ^ width)
+      → FirstSound g fs
+      → FirstClosed g fs
+      → FirstSets g (take (g .nonterminals) fs)
+  first-sets room fits sound c = closed.at-taken room (closed.first-words-exact limits fits sound c)
+
+  -- FIRST of a form is its trail that ends with the empty string
+  pub first-is : {xs : List ℕ}
+      → FirstSets g xs
+      → {α : Form}
+      → Every (Known g) α
+      → IsSet (trail xs (only emptyString) α) (First g α)
+  first-is first = closed.first-is limits (closed.sets-at first)
+
+module _ {g : Grammar} {P : ℕ → Member → Type 0} {xs ys : List ℕ} where
+  -- the sets of a grammar are determined, in a list of their own
+  pub sets-unique : Sets g P xs → Sets g P ys → xs ≡ ys
+  sets-unique = unique.sets-unique xs ys
+
+  -- and in a family with cells beyond them
+  pub family-unique : FamilyOf g P xs → FamilyOf g P ys → xs ≡ ys
+  family-unique = unique.family-unique xs ys
+
+-- any two outcomes that a promise allows of the same inputs are equal: of FIRST of a symbol string
+pub first-outcome-unique : {book symbols : List ℕ} {r s : SetAnswer}
+    → FirstOutcome book symbols r
+    → FirstOutcome book symbols s
+    → r ≡ s
+first-outcome-unique {book} {symbols} = answers.first-outcome-unique book symbols
+
+-- and of FIRST of each nonterminal
+pub first-worked-out-unique : {book : List ℕ} {r s : Reading} {x y : List ℕ}
+    → FirstWorkedOut book r x
+    → FirstWorkedOut book s y
+    → _≡_ {A = FirstResult} (r, x) (s, y)
+first-worked-out-unique = answers.first-worked-out-unique

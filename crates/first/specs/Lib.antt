@@ -1,0 +1,7 @@
+pub mod Numbers
+pub mod Calls
+pub mod Trail
+pub mod Forms
+pub mod Steps
+pub mod Checks
+pub mod Examples
