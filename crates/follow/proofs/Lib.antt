@@ -1,0 +1,12 @@
+pub mod Halting
+pub mod Additions
+pub mod Closed
+pub mod Unique
+pub mod Outcomes
+pub mod Walking
+pub mod Following
+pub mod Lookaheads
+pub mod Served
+pub mod Examples
+pub mod Theorems
+pub mod Promise
