@@ -11,7 +11,8 @@ pub use Rattle.first.proofs.Members.{at-column, first-proper, first-rea
 pub use Rattle.first.proofs.Rounds.{Fits, Refines, Round, fits-none, round-last, round-nearer, round-next, stored-fits}
 pub use Rattle.first.proofs.Rounds.{united-at-fits}
 pub use Rattle.first.proofs.Joins.{Covers, Reason, Reasons, only-one, only-there, trail-reasons}
-pub use Rattle.first.proofs.Known.{end-mark}
+pub use Rattle.first.proofs.Known.{Proper, below, end-mark, proper-token, first-known, follow-known}
+pub use Rattle.first.proofs.Known.{lookahead-proper, claims-row, claims-proper}
 pub use Rattle.first.proofs.OfBook.{OfBook, of-book-unique, of-grammar, of-refusal}
 pub use Rattle.first.proofs.Unique.{family-unique, sets-unique}
 pub use Rattle.first.proofs.Spelled.{indexes-limits, left-is, right-is, rule-at, tail-is, right-part}

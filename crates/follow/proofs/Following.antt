@@ -30,7 +30,7 @@ use Rattle.first.specs.Trail.{trail, Inside, FirstSound, FirstAt, Grown}
 use Rattle.first.specs.Steps.{Made, passed}
 use Rattle.first.proofs.Promise.{only-there, sets-sound, no-member, Ends, ends-none, ends-stored, grown-same, Expands, expands-united}
 use Rattle.first.proofs.Promise.{expands-then, united-there, made-then, passed-keeps, passed-expands, passed-fires, passed-nothing}
-use Rattle.first.proofs.Promise.{every-symbol-fits, trail-fits, Fits, fits-none, stored-fits, united-at-fits, Refines, Round}
+use Rattle.first.proofs.Promise.{every-symbol-fits, trail-fits, Fits, fits-none, stored-fits, united-at-fits, Refines, Round, round-next, round-last}
 use Rattle.first.proofs.Promise.{indexes-limits, left-is, tail-is, rule-at}
 use Rattle.follow.specs.Families.{FollowFamily}
 use Rattle.follow.specs.Walks.{Halts, FollowSound, FollowClosed, spread, walked, followStep, followSteps, Walkable, WalkableFrom}
@@ -369,3 +369,14 @@ module _ (book places : List ℕ) (count start : ℕ) (fs : List ℕ) where
           let s = round .so-far g index started exact-first in
           let exact = follow-words-exact (indexes-limits index) exact-first (λ A a. round .fits .each A) (s .sound) (follow-closed from index started tails (round .sized) s same) in
           record { sized = round .sized; each = exact .each; beyond = s .ends .beyond }
+
+  -- so they are after a pass that changed nothing
+  pub follow-settled : Fits fs
+      → {from before after : List ℕ} {r : Bool}
+      → Tails book places count fs from
+      → Round FollowSoFar before
+      → Made (followPass from) before after r
+      → r ≡ true
+      → FollowFound book places count start fs after
+  follow-settled firsts {from} tails round made told =
+      follow-found tails (round-next (follow-refines from firsts) round made) (round-last made told)

@@ -20,18 +20,19 @@ module _ {book places fs ys : List ℕ} where
   pub ahead-none : AheadFilled book places fs ys 0 (replicate mostProductions 0)
   ahead-none = record { sized = refl; each = λ p none. absurd (omega arith); beyond = λ p past. no-member mostProductions p }
 
-  pub ahead-next : {n x : ℕ} {cells : List ℕ}
+  pub ahead-next : {n x y : ℕ} {cells : List ℕ}
       → n < mostProductions
       → AheadFilled book places fs ys n cells
-      → x ≡ lookaheadOf book places fs ys n
+      → x ≡ y
+      → y ≡ lookaheadOf book places fs ys n
       → AheadFilled book places fs ys (n + 1) (set cells n x)
-  ahead-next {n} {x} {cells} inside filled is =
+  ahead-next {n} {x} {cells = cells} inside filled is looks =
       record {
         sized = rw length-set (filled .sized);
         each =
             below-more _ n
             (λ p below. rw (getD-set-other cells n p x 0 (λ same. omega arith)) (filled .each p below))
-            (rw (getD-set-same cells n x 0 (omega (arith, filled .sized))) is);
+            (rw (getD-set-same cells n x 0 (omega (arith, filled .sized))) (is ∙ looks));
         beyond = λ p past. rw (getD-set-other cells n p x 0 (λ same. omega arith)) (filled .beyond p (omega arith));
       }
 

@@ -1,5 +1,5 @@
 -- From what the functions find to the outcomes that they promise: the sets, a lookahead, and all that is worked out of a book.
-use mathlib.Core.Path.{_≡_, refl, ap}
+use mathlib.Core.Path.{_≡_, refl, ap, subst}
 use mathlib.Core.Logic.{_≢_}
 use mathlib.Core.List.{List}
 use Prim.Native.Nat.{ℕ, _≤_, _<_}
@@ -11,21 +11,23 @@ use Rattle.sets.specs.declared.Set.{Set}
 use Rattle.sets.specs.Calls.{number}
 use Rattle.answers.specs.declared.Answer.{Answer}
 use Rattle.answers.specs.Answers.{done, refusal}
-use Rattle.answers.specs.Limits.{mostNonterminals}
+use Rattle.answers.specs.Limits.{mostNonterminals, mostProductions}
 use Rattle.answers.specs.Checks.{because, first-stops, next-stops}
 use Rattle.answers.specs.Buffers.{over, written}
 use Rattle.answers.proofs.Promise.{Unique, Refusing, checked-unique, because-refusing, lacking-refusing, either-refusing, written-all}
 use Rattle.book.specs.declared.Reading.{Reading}
 use Rattle.reader.specs.Book.{Limits}
 use Rattle.book.specs.Judging.{refusing, indexOf, Judged}
-use Rattle.book.proofs.Promise.{judged-refused}
+use Rattle.book.specs.Judging as judging
+use Rattle.book.proofs.Promise.{judged-refused, refuses-not-serves, serves-unique}
 use Rattle.first.specs.declared.SetAnswer.{SetAnswer}
-use Rattle.first.specs.Numbers.{FamilyOf}
+use Rattle.first.specs.Numbers.{FamilyOf, FirstFamily}
 use Rattle.first.specs.Forms.{Given}
 use Rattle.first.specs.Calls.{NoSet, FirstWorkedOut}
 use Rattle.first.proofs.Promise.{family-at, family-taken, left-is, right-is, rule-at, given-served, given-limits, given-indexes}
 use Rattle.first.proofs.Promise.{judged-given, Ready, CheckedBook, refuses, stopped, ready, judged-checked, checked-ready, ready-number}
 use Rattle.first.proofs.Promise.{first-judged, first-sized, first-given, first-none}
+use Rattle.follow.specs.Families.{FollowFamily, Lookaheads}
 use Rattle.follow.specs.Walks.{lookaheadOf, FollowFound, AheadFilled, SetsFound}
 use Rattle.follow.specs.Checks.{SetsLacking, SetsRoomed, Unnumbered, Numbered}
 use Rattle.follow.specs.Calls.{SetsRoom, no-first, no-follow, SetsFit, SetsOutcome, LookaheadOutcome}
@@ -150,6 +152,29 @@ found-worked-out {book} {reading} {fs} {ys} {ahead} found filled = go (ℕ-discr
         let (first, follow) = found .no-sets d in
         let none : reading .productions ≡ 0 = ap (λ (r : Reading). r .productions) same in
         rw (same, first, follow, ahead-empty ahead (rw none at filled)) (worked.refused refusal)
+
+-- what is worked out of a book, taken apart
+module _ {book : List ℕ} where
+  pub worked-judged : {reading : Reading} {fs ys ahead : List ℕ} → WorkedOut book reading fs ys ahead → Judged book reading
+  worked-judged (worked.refused r) = judging.refuses r
+  worked-judged (worked.served s first follow looks) = judging.serves s
+
+  pub worked-sized : {reading : Reading} {fs ys ahead : List ℕ}
+      → WorkedOut book reading fs ys ahead
+      → (length fs ≡ mostNonterminals) × (length ys ≡ mostNonterminals) × (length ahead ≡ mostProductions)
+  worked-sized (worked.refused r) =
+      let sets = length-replicate {A = ℕ} mostNonterminals 0 in
+      (sets, sets, length-replicate {A = ℕ} mostProductions 0)
+  worked-sized (worked.served s first follow looks) = (first .sized, follow .sized, looks .sized)
+
+  pub worked-given : {reading : Reading} {fs ys ahead : List ℕ}
+      → WorkedOut book reading fs ys ahead
+      → (given : Given book reading)
+      → FirstFamily (given .grammar) fs × FollowFamily (given .grammar) ys × Lookaheads (given .grammar) ahead
+  worked-given (worked.refused r) given = absurd (refuses-not-serves r (given .serves))
+  worked-given {fs = fs} {ys = ys} {ahead = ahead} (worked.served s first follow looks) given =
+      subst (λ (g : Grammar). FirstFamily g fs × FollowFamily g ys × Lookaheads g ahead) (serves-unique s (given .serves))
+      (first, follow, looks)
 
 module _ {book : List ℕ} {reading : Reading} {production : ℕ} {a : Answer} (judged : Judged book reading) (checked : Numbered (reading .answer) production (reading .productions) a) where
   pub numbered-ready : a .number ≡ 0 → Ready book reading (production < reading .productions) a

@@ -16,7 +16,8 @@ use Rattle.reader.specs.Book.{Limits}
 use Rattle.book.specs.Judging.{Serves}
 use Rattle.book.proofs.Promise.{serves-unique, serves-limits, refuses-number}
 use Rattle.table.specs.Table.{size, rowAt, columnAt, TableOf, FirstConflict, BuiltWithoutConflict}
-use Rattle.table.specs.Calls.{no-first, no-follow, SetsFit, BuildOutcome, refused, no-room, no-table, conflict, served, BuildResult, ReportsConflict}
+use Rattle.follow.specs.Calls.{no-first, no-follow, SetsFit}
+use Rattle.table.specs.Calls.{BuildOutcome, refused, no-room, no-table, conflict, served, BuildResult, ReportsConflict}
 use Rattle.table.proofs.Cells.{table-exact}
 use Rattle.table.proofs.Unique.{table-unique, conflict-no-table}
 use Rattle.table.proofs.Outcomes.{Built, WithTable, build-with-room}
@@ -32,7 +33,12 @@ module _ {g : Grammar} where
 
 module _ {book first follow table : List ℕ} where
   -- the answer's number is 8 exactly if two productions claim one cell
-  pub conflict-iff : {g : Grammar} {a : Answer} {f w t : List ℕ} → Serves book g → SetsFit g first follow → size g ≤ length table → BuildOutcome book first follow table a f w t → (a .number ≡ 8) ↔ Conflict g
+  pub conflict-iff : {g : Grammar} {a : Answer} {f w t : List ℕ}
+      → Serves book g
+      → SetsFit g first follow
+      → size g ≤ length table
+      → BuildOutcome book first follow table a f w t
+      → (a .number ≡ 8) ↔ Conflict g
   unfolding done refusal
   conflict-iff {g} {a} {f} {w} {t} s fit room o = (found (build-with-room book first follow table s fit room o), told (build-with-room book first follow table s fit room o))
     where
@@ -45,7 +51,10 @@ module _ {book first follow table : List ℕ} where
       told (inr b) k = absurd (table-no-conflict (serves-limits s) (b .built) k)
 
   -- the conflict reported is the first in cell order, with the two lowest claimants
-  pub conflict-first : {a : Answer} {f w t : List ℕ} → BuildOutcome book first follow table a f w t → a .number ≡ 8 → ReportsConflict book first follow table (a, f, w, t)
+  pub conflict-first : {a : Answer} {f w t : List ℕ}
+      → BuildOutcome book first follow table a f w t
+      → a .number ≡ 8
+      → ReportsConflict book first follow table (a, f, w, t)
   unfolding done refusal
   conflict-first (refused r) e = absurd (omega (arith, refuses-number r))
   conflict-first (no-room s (no-first l)) e = absurd (omega arith)
@@ -54,7 +63,10 @@ module _ {book first follow table : List ℕ} where
   conflict-first (conflict {g = g} {i = i} {p = p} {q = q} s fit l c) e = record { grammar = g; serves = s; cell = i; lowest = p; next = q; first-conflict = c; is = refl }
   conflict-first (served s fit l h k t) e = absurd (omega arith)
 
-  done-built : {a : Answer} {f w t : List ℕ} → BuildOutcome book first follow table a f w t → a .number ≡ 0 → (g : Grammar) × Serves book g × Built book first follow table g (a, f, w, t)
+  done-built : {a : Answer} {f w t : List ℕ}
+      → BuildOutcome book first follow table a f w t
+      → a .number ≡ 0
+      → (g : Grammar) × Serves book g × Built book first follow table g (a, f, w, t)
   unfolding done refusal
   done-built (refused r) e = absurd (omega (arith, refuses-number r))
   done-built (no-room s (no-first l)) e = absurd (omega arith)
@@ -65,7 +77,10 @@ module _ {book first follow table : List ℕ} where
       (g, s, record { fit = fit; room = l; xs = xs; ys = ys; cells = cells; firsts = h; follows = k; built = t; is = refl })
 
   -- building that is done gives a table built without conflict
-  pub build-built : {a : Answer} {f w t : List ℕ} → BuildOutcome book first follow table a f w t → a .number ≡ 0 → (g : Grammar) × Serves book g × BuiltWithoutConflict book (take (size g) t)
+  pub build-built : {a : Answer} {f w t : List ℕ}
+      → BuildOutcome book first follow table a f w t
+      → a .number ≡ 0
+      → (g : Grammar) × Serves book g × BuiltWithoutConflict book (take (size g) t)
   build-built {t = t} o e =
       let (g, s, b) = done-built o e in
       let there : take (size g) t ≡ b .cells = ap (λ (x : BuildResult). take (size g) (x .3)) (b .is) ∙ take-at (b .cells) (drop (length (b .cells)) table) (size g) (b .built .sized) in
@@ -80,7 +95,11 @@ module _ {book first follow table : List ℕ} where
         ap (λ (x : BuildResult). x .3) (made .is) ∙ ap (λ (x : List ℕ). over x table) same
 
     -- and with room for all, building is done
-    pub built-done : {a : Answer} {f w t : List ℕ} → SetsFit (b .grammar) first follow → size (b .grammar) ≤ length table → BuildOutcome book first follow table a f w t → a ≡ done 0
+    pub built-done : {a : Answer} {f w t : List ℕ}
+        → SetsFit (b .grammar) first follow
+        → size (b .grammar) ≤ length table
+        → BuildOutcome book first follow table a f w t
+        → a ≡ done 0
     built-done {a} {f} {w} {t} fit room o = go (build-with-room book first follow table (b .serves) fit room o)
       where
         go : WithTable book first follow table (b .grammar) (a, f, w, t) → a ≡ done 0

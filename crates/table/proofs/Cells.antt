@@ -19,11 +19,10 @@ use Rattle.grammar.proofs.Sets.{lookahead-not-empty}
 use Rattle.sets.specs.Sets.{endMark, member, columnPlace}
 use Rattle.reader.specs.Book.{Limits}
 use Rattle.reader.proofs.Promise.{read-limits}
-use Rattle.table.specs.Numbers.{placeOf, IsSet}
+use Rattle.first.specs.Numbers.{placeOf, IsSet}
 use Rattle.table.specs.Table.{size, columnOf, rowAt, columnAt, ClaimsCell, held, TableOf, BuiltWithoutConflict, cellOf, ContestedCell}
-use Rattle.table.proofs.Known.{Proper, below, end-mark, proper-token, lookahead-proper, claims-row, claims-proper}
-use Rattle.table.proofs.Joins.{Reason}
-use Rattle.table.proofs.Members.{at-column}
+use Rattle.first.proofs.Promise.{Proper, below, end-mark, proper-token, lookahead-proper, claims-row, claims-proper}
+use Rattle.first.proofs.Promise.{Reason, at-column}
 
 -- the number of a column: column T is the end mark
 pub columnNumber : Grammar → Column → ℕ

@@ -8,18 +8,15 @@ use Prim.Native.Nat.{ℕ, zero, suc, _≤_, _<_}
 use native.Mathlib.Omega.{arith}
 use lib.ListN.{length, getD}
 use borrow.Author.Tests.{ne-eqb}
-use Rattle.grammar.specs.Grammar.{Form, Grammar, Rule, Lookahead, Cell, only, vacant as empty}
+use Rattle.grammar.specs.Grammar.{Grammar, Cell, only, vacant as empty}
 use Rattle.grammar.proofs.Rules.{below-rule}
 use Rattle.table.specs.declared.claims.Contest.{Contest}
-use Rattle.table.specs.Numbers.{IsSet}
+use Rattle.follow.specs.Families.{Lookaheads}
 use Rattle.table.specs.Table.{size, rowAt, columnAt, ClaimsCell, held, TableOf, FirstConflict}
-use Rattle.table.specs.Forms.{Indexes}
-use Rattle.table.specs.Trail.{FirstAt, FollowAt}
-use Rattle.table.specs.Steps.{lookaheadOf}
+use Rattle.first.specs.Forms.{Indexes}
 use Rattle.table.specs.Claims.{bookClaims, Laid, Holds, lowest, vacant, Ledger}
-use Rattle.table.proofs.Closed.{lookahead-is}
 use Rattle.table.proofs.Cells.{claims-exactly}
-use Rattle.table.proofs.Spelled.{indexes-limits, left-is, right-is, rule-at}
+use Rattle.first.proofs.Promise.{indexes-limits, left-is, rule-at}
 
 -- within a list the default does not matter
 pub getD-inside : (l : List ℕ) (i d e : ℕ) → i < length l → getD l i d ≡ getD l i e
@@ -35,13 +32,10 @@ held-none : held 255 ≡ none
 unfolding held
 held-none = refl
 
-module _ {g : Grammar} {book places fs ys : List ℕ} {count T : ℕ} (index : Indexes book places count g) (same : T ≡ g .tokens) (first : FirstAt g fs) (follow : FollowAt g ys) where
-  -- the number of a production's lookahead is its lookahead
-  ahead-is : {p A : ℕ} {α : Form} → Rule g p A α → IsSet (lookaheadOf book places fs ys p) (Lookahead g A α)
-  ahead-is rule = rw (left-is index rule, right-is index rule) (lookahead-is (indexes-limits index) first follow rule)
-
+module _ {g : Grammar} {book places ahead : List ℕ} {count T : ℕ} (index : Indexes book places count g) (same : T ≡ g .tokens)
+    (looks : Lookaheads g ahead) where
   -- the claims by number are those by derivation
-  claim-derived : (i p : ℕ) → Laid (bookClaims book places fs ys T) count 0 i p → (p < count) × ClaimsCell g i p
+  claim-derived : (i p : ℕ) → Laid (bookClaims book places ahead T) count 0 i p → (p < count) × ClaimsCell g i p
   claim-derived i p laid = (below, derived)
     where
       before : (p < count) ⊎ ((p ≡ count) × (i < 0)) → p < count
@@ -54,24 +48,26 @@ module _ {g : Grammar} {book places fs ys : List ℕ} {count T : ℕ} (index : I
       derived : ClaimsCell g i p
       derived =
           let (A, α, rule) = rule-at index p below in
-          let here : bookClaims book places fs ys (g .tokens) i p = subst (λ (t : ℕ). bookClaims book places fs ys t i p) same (laid .claim) in
-          claims-exactly (indexes-limits index) rule (ahead-is rule) i .1 (sym (left-is index rule) ∙ here .of-row, here .has-bit)
+          let here : bookClaims book places ahead (g .tokens) i p = subst (λ (t : ℕ). bookClaims book places ahead t i p) same (laid .claim) in
+          claims-exactly (indexes-limits index) rule (looks .each rule) i .1 (sym (left-is index rule) ∙ here .of-row, here .has-bit)
 
-  derived-claim : (i p : ℕ) → ClaimsCell g i p → Laid (bookClaims book places fs ys T) count 0 i p
+  derived-claim : (i p : ℕ) → ClaimsCell g i p → Laid (bookClaims book places ahead T) count 0 i p
   derived-claim i p k =
-      let (row, bit) = claims-exactly (indexes-limits index) (k .rule) (ahead-is (k .rule)) i .0 k in
-      let here : bookClaims book places fs ys (g .tokens) i p = record { of-row = left-is index (k .rule) ∙ row; has-bit = bit } in
+      let (row, bit) = claims-exactly (indexes-limits index) (k .rule) (looks .each (k .rule)) i .0 k in
+      let here : bookClaims book places ahead (g .tokens) i p = record { of-row = left-is index (k .rule) ∙ row; has-bit = bit } in
       record {
-        claim = subst (λ (t : ℕ). bookClaims book places fs ys t i p) (sym same) here;
+        claim = subst (λ (t : ℕ). bookClaims book places ahead t i p) (sym same) here;
         turn = inl (omega (arith, index .counted, below-rule (k .rule)));
       }
 
-  module _ {table : List ℕ} {contest : Contest} (ledger : Ledger (Laid (bookClaims book places fs ys T) count 0) table contest) where
+  module _ {table : List ℕ} {contest : Contest} (ledger : Ledger (Laid (bookClaims book places ahead T) count 0) table contest) where
     unrivalled : (j : ℕ) → j < contest .cell → (r s : ℕ) → ClaimsCell g j r → ClaimsCell g j s → r ≡ s
     unrivalled j h r s k l = ledger .earlier j h r s (derived-claim j r k) (derived-claim j s l)
 
     -- the contest is the first conflict
-    pub contest-conflict : length table ≡ size g → contest .cell < size g → FirstConflict g (contest .cell) (contest .lowest) (contest .next)
+    pub contest-conflict : length table ≡ size g
+        → contest .cell < size g
+        → FirstConflict g (contest .cell) (contest .lowest) (contest .next)
     contest-conflict sized inside =
         let k = ledger .rivals (omega arith) in
         record {
@@ -87,7 +83,11 @@ module _ {g : Grammar} {book places fs ys : List ℕ} {count T : ℕ} (index : I
     pub ledger-table : length table ≡ size g → size g ≤ contest .cell → TableOf g table
     ledger-table sized past = record { sized = sized; cells = λ i h. rw (getD-inside table i 255 0 (omega arith)) (cell i h (ledger .held i (omega arith))) }
       where
-        cell : (i : ℕ) → i < size g → {byte : ℕ} → Holds (Laid (bookClaims book places fs ys T) count 0 i) byte → Cell g (rowAt g i) (columnAt g i) (held byte)
+        cell : (i : ℕ)
+            → i < size g
+            → {byte : ℕ}
+            → Holds (Laid (bookClaims book places ahead T) count 0 i) byte
+            → Cell g (rowAt g i) (columnAt g i) (held byte)
         cell i h (lowest {p = p} c fewer) =
             let (below, k) = claim-derived i p c in
             rw (held-number p (omega (arith, index .counted, indexes-limits index .productions-fit))) (only k (λ q l. unrivalled i (omega arith) q p l k))

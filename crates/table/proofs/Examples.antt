@@ -19,23 +19,19 @@ use Rattle.reader.specs.Book.{wanted, marked, symbolOf, symbols, records, endin
 use Rattle.book.specs.Judging.{Serves}
 use Rattle.book.specs.Examples.{houseBook}
 use Rattle.book.proofs.Promise.{house-serves}
-use Rattle.table.specs.Numbers.{FirstSets, FollowSets}
+use Rattle.first.specs.Numbers.{FirstSets}
+use Rattle.follow.specs.Families.{FollowSets}
 use Rattle.table.specs.Table.{TableOf, FirstConflict, BuiltWithoutConflict}
 use Rattle.table.specs.Calls.{BuildOutcome, conflict, served}
-use Rattle.table.specs.Examples.{houseFirstSets, houseFollowSets, houseTable, conflictedHouseBook, conflictedHouse, nestedBook, nestedGrammar}
-use Rattle.table.proofs.Members.{at-merged, at-column}
-use Rattle.table.proofs.Worked.{placesTest, rowsTest, sets-tested, tableTest, table-tested, claimTest, othersTest, earlierTest, workedFirst, workedFollow, workedUseful, useful-tested, conflict-tested}
+use Rattle.first.specs.Examples.{houseFirstSets}
+use Rattle.follow.specs.Examples.{houseFollowSets}
+use Rattle.table.specs.Examples.{houseTable, conflictedHouseBook, conflictedHouse, nestedBook, nestedGrammar}
+use Rattle.first.proofs.Promise.{house-first-sets}
+use Rattle.follow.proofs.Promise.{house-follow-sets}
+use Rattle.table.proofs.Worked.{tableTest, table-tested, claimTest, othersTest, earlierTest, workedFirst, workedFollow}
+use Rattle.table.proofs.Worked.{workedUseful, useful-tested, conflict-tested}
 
--- its FIRST and FOLLOW are those that 01 lists
-pub house-first-sets : FirstSets house houseFirstSets
-unfolding house houseFirst houseFirstSets placesTest rowsTest
-house-first-sets = sets-tested merged house houseFirst house-first-exact (λ A k a. at-merged (First house (Nonterminal A ∷ [])) first-not-end a) houseFirstSets refl tt tt
-
-pub house-follow-sets : FollowSets house houseFollowSets
-unfolding house houseFirst houseFollow houseFollowSets placesTest rowsTest
-house-follow-sets = sets-tested column house houseFollow house-follow-exact (λ A k a. at-column (Follow house A) follow-not-empty a) houseFollowSets refl tt tt
-
--- and so is its table
+-- the house's table is the one that 01 lists
 pub house-table-of : TableOf house houseTable
 unfolding house houseCell houseTable tableTest
 house-table-of = table-tested house house-exact houseTable refl tt

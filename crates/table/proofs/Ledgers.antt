@@ -12,8 +12,11 @@ use lib.Seq.{getD-set-same, getD-set-other}
 use Rattle.answers.specs.declared.Answer.{Answer}
 use Rattle.answers.specs.Answers.{done, refusal}
 use Rattle.answers.specs.Buffers.{over}
+use Rattle.answers.specs.Buffers as buffers
+use Rattle.answers.proofs.Promise.{written-all}
 use Rattle.table.specs.declared.claims.Contest.{Contest}
-use Rattle.table.specs.Claims.{Rivals, AtMostOne, Holds, lowest, vacant, Ledger, Vacancy, Claimed, enters, contests, follows, Settled, contested, uncontested, Tabulated, disputed, written}
+use Rattle.table.specs.Claims.{Rivals, AtMostOne, Holds, lowest, vacant, Ledger, Vacancy, Claimed, enters, contests, follows}
+use Rattle.table.specs.Claims.{Settled, contested, uncontested, Tabulated, disputed, written}
 
 -- the claims D are the claims C, and that of p on a cell
 pub record Adds (C D : ℕ → ℕ → Type 0) (cell p : ℕ) : Type 0 where
@@ -27,7 +30,10 @@ all-vacant n = record { sized = length-replicate {A = ℕ} n 255; blank = λ i h
 
 -- the same claims, with every cell vacant, or told in another way
 module _ {C D : ℕ → ℕ → Type 0} {table : List ℕ} {known : Contest} where
-  pub ledger-same : ((i q : ℕ) → C i q → D i q) → ((i q : ℕ) → i < length table → D i q → C i q) → Ledger C table known → Ledger D table known
+  pub ledger-same : ((i q : ℕ) → C i q → D i q)
+      → ((i q : ℕ) → i < length table → D i q → C i q)
+      → Ledger C table known
+      → Ledger D table known
   ledger-same there back l =
       record {
         held = λ i h. holds i h (l .held i h);
@@ -40,7 +46,11 @@ module _ {C D : ℕ → ℕ → Type 0} {table : List ℕ} {known : Contest} whe
       holds i h (lowest {p = p} c none) = lowest (there i p c) (λ q b d. none q b (back i q h d))
       holds i h (vacant none) = vacant (λ q d. none q (back i q h d))
 
-pub ledger-none : {C : ℕ → ℕ → Type 0} {table : List ℕ} {known : Contest} → ((i q : ℕ) → ¬ C i q) → ((i : ℕ) → i < length table → getD table i 0 ≡ 255) → known .cell ≡ length table → Ledger C table known
+pub ledger-none : {C : ℕ → ℕ → Type 0} {table : List ℕ} {known : Contest}
+    → ((i q : ℕ) → ¬ C i q)
+    → ((i : ℕ) → i < length table → getD table i 0 ≡ 255)
+    → known .cell ≡ length table
+    → Ledger C table known
 ledger-none none blank e =
     record {
       held = λ i h. rw (blank i h) (vacant (none i));
@@ -166,9 +176,13 @@ module _ {C : ℕ → ℕ → Type 0} {n : ℕ} {cells table : List ℕ} {contes
       go (contested h) d = disputed sized l (omega arith)
       go (uncontested h) d = absurd (d refl)
 
-  pub tabulated-written : {table′ : List ℕ} → a .number ≡ 0 → table′ ≡ over cells table → Tabulated C n table a table′
+  pub tabulated-written : {table′ : List ℕ}
+      → a .number ≡ 0
+      → n ≤ length table
+      → table′ ≡ buffers.written cells table
+      → Tabulated C n table a table′
   unfolding refusal
-  tabulated-written e after = rw after (go settled e)
+  tabulated-written e room after = rw (after, written-all cells table (omega (arith, sized))) (go settled e)
     where
       go : {b : Answer} → Settled contest (length cells) b → b .number ≡ 0 → Tabulated C n table b (over cells table)
       go (contested h) e = absurd (omega arith)

@@ -39,7 +39,11 @@ module _ {C : ℕ → ℕ → Type 0} {p : ℕ} where
 
   module _ {table : List ℕ} {known : Contest} where
     -- cells that p does not claim are passed by
-    pub laid-skip : {f f′ : ℕ} → f ≤ f′ → ((i : ℕ) → f ≤ i → i < f′ → ¬ C i p) → Ledger (Laid C p f) table known → Ledger (Laid C p f′) table known
+    pub laid-skip : {f f′ : ℕ}
+        → f ≤ f′
+        → ((i : ℕ) → f ≤ i → i < f′ → ¬ C i p)
+        → Ledger (Laid C p f) table known
+        → Ledger (Laid C p f′) table known
     laid-skip {f} {f′} further none = ledger-same (λ i q l. record { claim = l .claim; turn = longer i q (l .turn) }) (λ i q h l. record { claim = l .claim; turn = shorter i q (l .claim) (l .turn) })
       where
         longer : (i q : ℕ) → (q < p) ⊎ ((q ≡ p) × (i < f)) → (q < p) ⊎ ((q ≡ p) × (i < f′))
@@ -68,7 +72,11 @@ module _ {C : ℕ → ℕ → Type 0} {p : ℕ} where
         back i q h (inr e) (no n) = absurd (omega (arith, e .1))
 
   -- before the first production nothing is claimed
-  pub laid-none : {table : List ℕ} {known : Contest} → p ≡ 0 → ((i : ℕ) → i < length table → getD table i 0 ≡ 255) → known .cell ≡ length table → Ledger (Laid C p 0) table known
+  pub laid-none : {table : List ℕ} {known : Contest}
+      → p ≡ 0
+      → ((i : ℕ) → i < length table → getD table i 0 ≡ 255)
+      → known .cell ≡ length table
+      → Ledger (Laid C p 0) table known
   laid-none first = ledger-none (λ i q l. go i q (l .turn))
     where
       go : (i q : ℕ) → (q < p) ⊎ ((q ≡ p) × (i < 0)) → ⊥
@@ -101,17 +109,29 @@ module _ {row ahead tokens p : ℕ} {table : List ℕ} {known : Contest} where
   row-begun = record { laid = λ left look sided looks. laid-skip (omega arith) (λ i from before k. omega (arith, claims-inside tokens left look sided looks k .0)) }
 
   module _ {column : ℕ} {table′ : List ℕ} {known′ : Contest} (so-far : RowSoFar row ahead tokens p table known column table′ known′) where
-    row-skip : column < tokens + 1 → member (columnPlace column tokens) ahead ≡ false → RowSoFar row ahead tokens p table known (column + 1) table′ known′
+    row-skip : column < tokens + 1
+        → member (columnPlace column tokens) ahead ≡ false
+        → RowSoFar row ahead tokens p table known (column + 1) table′ known′
     row-skip inside none = record { laid = λ left look sided looks begun. laid-skip (omega arith) (here left look sided looks) (so-far .laid left look sided looks begun) }
       where
-        here : (left look : ℕ → ℕ) → left p ≡ row → look p ≡ ahead → (i : ℕ) → row * (tokens + 1) + column ≤ i → i < row * (tokens + 1) + (column + 1) → ¬ claims left look tokens i p
+        here : (left look : ℕ → ℕ)
+            → left p ≡ row
+            → look p ≡ ahead
+            → (i : ℕ)
+            → row * (tokens + 1) + column ≤ i
+            → i < row * (tokens + 1) + (column + 1)
+            → ¬ claims left look tokens i p
         here left look sided looks i from before k =
             let there : i ≡ row * (tokens + 1) + column = omega arith in
             false≢true (sym none ∙ column-claimed tokens left look sided looks inside (rw there at k))
 
     -- one column more, claimed or not
-    pub row-next : column < tokens + 1 → row * (tokens + 1) + column < length table′ → p < 255
-        → {b : Bool} {table″ : List ℕ} {known″ : Contest} → Claimed table′ (row * (tokens + 1) + column) p known′ b known″ table″ → member (columnPlace column tokens) ahead ≡ b
+    pub row-next : column < tokens + 1
+        → row * (tokens + 1) + column < length table′
+        → p < 255
+        → {b : Bool} {table″ : List ℕ} {known″ : Contest}
+        → Claimed table′ (row * (tokens + 1) + column) p known′ b known″ table″
+        → member (columnPlace column tokens) ahead ≡ b
         → RowSoFar row ahead tokens p table known (column + 1) table″ known″
     row-next inside there small {b = false} passes bit = row-skip inside bit
     row-next inside there small {b = true} claimed bit =

@@ -18,7 +18,8 @@ use Rattle.book.specs.Columns.{outlined, Outlines, Lefts, IsOf}
 use Rattle.book.proofs.Promise.{is-of-rule, rule-is-of}
 use Rattle.table.specs.declared.fitting.Fitting.{Fitting}
 use Rattle.table.specs.declared.fitting.Fitting.the-variants.{Fit, MisfitAt}
-use Rattle.table.specs.Fitting.{Fits, vacant, filled, FitTable, Misfit, length-given, cell, TableFitting, fit, misfit, CellFits, FirstMisfit}
+use Rattle.table.specs.Fitting.{Fits, vacant, filled, FitTable, Misfit, length-given, cell, TableFitting, fit, misfit, CellFits}
+use Rattle.table.specs.Fitting.{FirstMisfit}
 use Rattle.table.specs.Table.{size, rowAt, columnAt, held, TableOf}
 
 pub held-vacant : {p : ℕ} {q : Option ℕ} → held p ≡ q → p ≡ 255 → q ≡ none

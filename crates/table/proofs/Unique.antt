@@ -1,4 +1,4 @@
--- No statement of the crate allows a second outcome: the sets, the table and the first conflict of a grammar.
+-- No statement of the crate allows a second outcome: the table and the first conflict of a grammar.
 use mathlib.Core.Path.{_≡_, refl, sym, ap, _∙_, subst}
 use mathlib.Core.Bool.{Bool, true, false}
 use mathlib.Core.Logic.{_⊎_, inl, inr}
@@ -11,17 +11,10 @@ use borrow.Author.Tests.{eqb-true}
 use lib.Dec.{eqb}
 use lib.ListN.{getD}
 use lib.Seq.{ext-getD}
-use Rattle.grammar.specs.Grammar.{Grammar, Column, Member, Cell, only, vacant}
-use Rattle.sets.proofs.Promise.{exactly-unique}
-use Rattle.table.specs.Numbers.{Sets}
+use Rattle.grammar.specs.Grammar.{Grammar, Column, Cell, only, vacant}
 use Rattle.table.specs.Table.{size, rowAt, columnAt, held, TableOf, FirstConflict}
 
 module _ {g : Grammar} where
-  pub sets-unique : {P : ℕ → Member → Type 0} (xs ys : List ℕ) → Sets g P xs → Sets g P ys → xs ≡ ys
-  sets-unique xs ys s t =
-      ext-getD 0 xs ys (s .size ∙ sym (t .size))
-      (λ A h. let a : A < g .nonterminals = omega (arith, s .size) in exactly-unique (getD xs A 0) (getD ys A 0) (s .each A a) (t .each A a))
-
   pub cell-unique : {A : ℕ} {c : Column} {o o′ : Option ℕ} → Cell g A c o → Cell g A c o′ → o ≡ o′
   cell-unique (only {p = p} k one) (only {p = q} l other) = ap some (other p k)
   cell-unique (only {p = p} k one) (vacant none-claims) = absurd (none-claims p k)

@@ -1,4 +1,4 @@
--- A small grammar worked out as numbers: its sets, its table and its first conflict, right wherever a test passes that computes.
+-- A small grammar worked out: its table and its first conflict, right wherever a test passes that computes.
 use mathlib.Core.Path.{_≡_, refl, sym, ap, _∙_, subst}
 use mathlib.Core.Bool.{Bool, true, false, _||_, false≢true}
 use mathlib.Core.Logic.{_↔_, _⊎_, inl, inr, ⊎-elim}
@@ -12,82 +12,16 @@ use Rattle.grammar.specs.Grammar.{Production, Grammar, Column, Member, Every, n
 use Rattle.grammar.specs.Machine.{Exact}
 use Rattle.grammar.proofs.Sets.{FirstOf, FollowOf, first-exact, follow-exact}
 use Rattle.grammar.proofs.Tests.{or-left, or-right, or-elim, all, any, all-every, any-of, below, below-each}
-use Rattle.grammar.proofs.Worked.{Entry, same, same-is, same-self, In, Among, rowOf, row-every, in-every, in-row, in-self, ruled, firstSets, followSets, firstTest, followTest, first-sets-sound, first-test-closed, follow-sets-sound, follow-test-closed}
+use Rattle.grammar.proofs.Worked.{Entry, same, same-is, same-self, In, Among, rowOf, row-every, in-every, in-row, in-self, ruled}
+use Rattle.grammar.proofs.Worked.{firstSets, followSets, firstTest, followTest, first-sets-sound, first-test-closed, follow-sets-sound}
+use Rattle.grammar.proofs.Worked.{follow-test-closed}
 use Rattle.grammar.proofs.WorkedForm.{formTest, form-tested}
 use Rattle.grammar.proofs.WorkedUseful.{productives, usefuls, productives-sound, usefuls-sound, has, has-every}
 use Rattle.grammar.proofs.WorkedCells.{claiming, claimants, single, claims-found, found-claims}
 use Rattle.grammar.proofs.Every.{every-map}
 use Rattle.grammar.proofs.Useful.{useful-reachable}
-use Rattle.sets.specs.Sets.{width, Exactly, member, only, united, added}
-use Rattle.sets.proofs.Promise.{member-none, added-new, added-keep, added-cases, added-fits}
 use Rattle.book.specs.Judging.{AllUseful}
-use Rattle.table.specs.Numbers.{placeOf, At, Sets}
 use Rattle.table.specs.Table.{size, columnOf, rowAt, columnAt, ClaimsCell, held, TableOf, FirstConflict}
-use Rattle.table.proofs.Joins.{Reason}
-
-module _ (mark : Column → Member) where
-  -- the number of a list of columns
-  unfoldable pub numberOf : List Column → ℕ
-  unfolding added united only
-  numberOf [] = 0
-  numberOf (c ∷ cs) = added (placeOf (mark c)) (numberOf cs)
-
-  number-has : (cs : List Column) (c : Column) → Among cs c → member (placeOf (mark c)) (numberOf cs) ≡ true
-  unfolding numberOf any
-  number-has [] c h = absurd h
-  number-has (d ∷ cs) c h =
-      or-elim (same d c) (any (λ e. same e c) cs)
-      (λ s. subst (λ (e : Column). member (placeOf (mark e)) (added (placeOf (mark d)) (numberOf cs)) ≡ true) (same-is d c s) (added-new (placeOf (mark d)) (numberOf cs)))
-      (λ s. added-keep (placeOf (mark c)) (placeOf (mark d)) (numberOf cs) (number-has cs c s))
-      h
-
-  number-reason : (cs : List Column) (k : ℕ) → member k (numberOf cs) ≡ true → Reason mark (Among cs) k
-  unfolding numberOf any
-  number-reason [] k m = absurd (false≢true (sym (member-none k) ∙ m))
-  number-reason (d ∷ cs) k m =
-      ⊎-elim (λ l. let r = number-reason cs k l in record { column = r .column; place = r .place; holds = or-right (same d (r .column)) _ (r .holds) })
-      (λ e. record { column = d; place = sym e; holds = or-left (same d d) _ (same-self d) })
-      (added-cases k (placeOf (mark d)) (numberOf cs) m)
-
-  number-fits : {cs : List Column} → Every (λ c. placeOf (mark c) < width) cs → numberOf cs < 2 ^ width
-  unfolding numberOf
-  number-fits nothing = omega arith
-  number-fits (each {x = c} {xs = cs} p h) = added-fits width (placeOf (mark c)) (numberOf cs) p (number-fits h)
-
-  -- every place of a family lies within the width
-  unfoldable pub placesTest : List Entry → Bool
-  unfolding all
-  placesTest fam = all (λ e. ltb (placeOf (mark (e .col))) width) fam
-
-  -- the first n cells are the numbers of the rows of a family
-  unfoldable pub rowsTest : List Entry → ℕ → List ℕ → Bool
-  unfolding below rowOf numberOf
-  rowsTest fam n cells = below n (λ A. eqb (getD cells A 0) (numberOf (rowOf A fam)))
-
-  row-among : (fam : List Entry) (A : ℕ) (c : Column) → Among (rowOf A fam) c → In fam A c
-  row-among fam A c h = any-of (λ d. same d c) (row-every (In fam) A fam (in-self fam)) (λ d i s. subst (In fam A) (same-is d c s) i) h
-
-  module _ (g : Grammar) (fam : List Entry) {P : ℕ → Member → Type 0}
-      (exact : (A : ℕ) (c : Column) → In fam A c ↔ P A (mark c)) (as-column : (A k : ℕ) → At (P A) k → Reason mark (λ c. P A (mark c)) k) where
-    row-number-set : (A : ℕ) → Every (λ (e : Entry). placeOf (mark (e .col)) < width) fam → Exactly width (numberOf (rowOf A fam)) (At (P A))
-    row-number-set A within =
-        record {
-          fits = number-fits (row-every (λ B c. placeOf (mark c) < width) A fam within);
-          sound = λ k m.
-              let r = number-reason (rowOf A fam) k m in
-              record { member = mark (r .column); place = r .place; in-set = exact A (r .column) .0 (row-among fam A (r .column) (r .holds)) };
-          complete = λ k i.
-              let r = as-column A k i in
-              subst (λ (j : ℕ). member j (numberOf (rowOf A fam)) ≡ true) (r .place) (number-has (rowOf A fam) (r .column) (in-row A (r .column) fam (exact A (r .column) .1 (r .holds))));
-        }
-
-    -- the sets of the nonterminals, by the tests
-    pub sets-tested : (cells : List ℕ) → length cells ≡ g .nonterminals → T (placesTest fam) → T (rowsTest fam (g .nonterminals) cells) → Sets g P cells
-    unfolding placesTest rowsTest
-    sets-tested cells e places rows =
-        let within : Every (λ (e : Entry). placeOf (mark (e .col)) < width) fam = every-map (λ e h. ltb→lt (placeOf (mark (e .col))) width h) (all-every (λ (e : Entry). ltb (placeOf (mark (e .col))) width) fam places) in
-        let row : ℕ → Bool = λ A. eqb (getD cells A 0) (numberOf (rowOf A fam)) in
-        record { size = e; each = λ A a. rw (eqb→eq (getD cells A 0) (numberOf (rowOf A fam)) (below-each (g .nonterminals) row rows A a)) (row-number-set A within) }
 
 unfoldable pub sameHeld : Option ℕ → Option ℕ → Bool
 sameHeld none none = true
@@ -109,7 +43,12 @@ module _ (g : Grammar) where
   tableTest cell table = below (size g) (λ i. sameHeld (cell (rowAt g i) (columnAt g i)) (held (getD table i 255)))
 
   -- the table, by the test
-  pub table-tested : {cell : ℕ → Column → Option ℕ} → Exact g cell → (table : List ℕ) → length table ≡ size g → T (tableTest cell table) → TableOf g table
+  pub table-tested : {cell : ℕ → Column → Option ℕ}
+      → Exact g cell
+      → (table : List ℕ)
+      → length table ≡ size g
+      → T (tableTest cell table)
+      → TableOf g table
   unfolding tableTest
   table-tested {cell} exact table e t =
       record {
@@ -152,7 +91,10 @@ module _ (g : Grammar) (fam W : List Entry) where
     unfolding claimTest
     claim-tested i p t = go (getElem? (g .productions) p) refl t
       where
-        go : (o : Option Production) → getElem? (g .productions) p ≡ o → T (elim o [ none ↦ false | some r ↦ claiming g fam W (rowAt g i) (columnAt g i) r ]) → ClaimsCell g i p
+        go : (o : Option Production)
+            → getElem? (g .productions) p ≡ o
+            → T (elim o [ none ↦ false | some r ↦ claiming g fam W (rowAt g i) (columnAt g i) r ])
+            → ClaimsCell g i p
         go none e t = absurd t
         go (some r) e t = found-claims g fam W F-exact W-exact (record { production = r; at = e; holds = t })
 
@@ -160,7 +102,14 @@ module _ (g : Grammar) (fam W : List Entry) where
     claimed-any i r k = claims-found g fam W F-exact W-exact k
 
     -- the first conflict, by the tests
-    pub first-conflict-tested : (i p q : ℕ) → i < size g → p < q → T (claimTest i p) → T (claimTest i q) → T (othersTest i p q) → T (earlierTest i) → FirstConflict g i p q
+    pub first-conflict-tested : (i p q : ℕ)
+        → i < size g
+        → p < q
+        → T (claimTest i p)
+        → T (claimTest i q)
+        → T (othersTest i p q)
+        → T (earlierTest i)
+        → FirstConflict g i p q
     unfolding othersTest earlierTest
     first-conflict-tested i p q inside order one other others earlier =
         record {
@@ -199,7 +148,12 @@ module _ (g : Grammar) (n : ℕ) where
   unfolding workedFirst
   first-tested t = first-exact (λ A c. in-every (FirstOf g) A c (first-sets-sound g n)) (first-test-closed g workedFirst t)
 
-  pub follow-tested : WellFormed g → AllUseful g → T (firstTest g workedFirst) → T (followTest g workedFirst workedFollow) → (A : ℕ) (c : Column) → In workedFollow A c ↔ FollowOf g A c
+  pub follow-tested : WellFormed g
+      → AllUseful g
+      → T (firstTest g workedFirst)
+      → T (followTest g workedFirst workedFollow)
+      → (A : ℕ) (c : Column)
+      → In workedFollow A c ↔ FollowOf g A c
   unfolding workedFirst workedFollow
   follow-tested well useful t u =
       follow-exact (first-test-closed g workedFirst t) (λ A c. in-every (FollowOf g) A c (follow-sets-sound g (first-sets-sound g n) reachable n)) (follow-test-closed g workedFirst workedFollow u)
@@ -208,8 +162,18 @@ module _ (g : Grammar) (n : ℕ) where
       reachable = every-map (λ r q. useful-reachable (useful .useful (r .left) (well .left-known (q .rule)))) (ruled g)
 
   -- the first conflict of a grammar that is worked out
-  pub conflict-tested : T (formTest g) → T (has (productives g n) (g .start)) → T (below (g .nonterminals) (has workedUseful)) → T (firstTest g workedFirst) → T (followTest g workedFirst workedFollow)
-      → (i p q : ℕ) → i < size g → p < q → T (claimTest g workedFirst workedFollow i p) → T (claimTest g workedFirst workedFollow i q)
-      → T (othersTest g workedFirst workedFollow i p q) → T (earlierTest g workedFirst workedFollow i) → FirstConflict g i p q
+  pub conflict-tested : T (formTest g)
+      → T (has (productives g n) (g .start))
+      → T (below (g .nonterminals) (has workedUseful))
+      → T (firstTest g workedFirst)
+      → T (followTest g workedFirst workedFollow)
+      → (i p q : ℕ)
+      → i < size g
+      → p < q
+      → T (claimTest g workedFirst workedFollow i p)
+      → T (claimTest g workedFirst workedFollow i q)
+      → T (othersTest g workedFirst workedFollow i p q)
+      → T (earlierTest g workedFirst workedFollow i)
+      → FirstConflict g i p q
   conflict-tested form start useful f w =
       first-conflict-tested g workedFirst workedFollow (first-tested f) (follow-tested (form-tested g form) (useful-tested start useful) f w)

@@ -1,4 +1,4 @@
--- The sets and the table of the house book as 01 lists them, and the books H1 and J with their grammars.
+-- The table of the house book as 01 lists it, and the books H1 and J with their grammars.
 -- Document 01, "The lister and the examples".
 use mathlib.Core.List.{List, [], _∷_, _++_}
 use Prim.Native.Nat.{ℕ}
@@ -6,13 +6,7 @@ use Rattle.grammar.specs.declared.Symbol.the-variants.{Token, Nonterminal}
 use Rattle.grammar.specs.Grammar.{Grammar}
 use Rattle.book.specs.Examples.{GR, PR, production, houseWith}
 
--- FIRST and FOLLOW of H, and its table, as 01 lists them
-unfoldable pub houseFirstSets : List ℕ
-houseFirstSets = 0x0000000000000001 ∷ 0x0000000000000002 ∷ 0x8000000000000004 ∷ 0x8000000000000008 ∷ []
-
-unfoldable pub houseFollowSets : List ℕ
-houseFollowSets = 0x4000000000000000 ∷ 0x4000000000000000 ∷ 0x4000000000000008 ∷ 0x4000000000000000 ∷ []
-
+-- the table of H, as 01 lists it
 unfoldable pub houseTable : List ℕ
 houseTable =
     (0 ∷ 255 ∷ 255 ∷ 255 ∷ 255 ∷ [])

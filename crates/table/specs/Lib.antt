@@ -1,11 +1,6 @@
 pub mod Calls
-pub mod Checks
 pub mod Claims
 pub mod Examples
 pub mod Filling
 pub mod Fitting
-pub mod Forms
-pub mod Numbers
-pub mod Steps
 pub mod Table
-pub mod Trail

@@ -67,5 +67,13 @@ pub record BuiltWithoutConflict (book table : List ℕ) : Type 0 where
 
 -- what a table says to the machine: the production in the cell of row A and that column
 unfoldable pub cellOf : Grammar → List ℕ → ℕ → Column → Option ℕ
-cellOf g table A (token t) = elim (ltb A (g .nonterminals) && ltb t (g .tokens)) [ true ↦ held (getD table (A * (g .tokens + 1) + t) 255) | false ↦ none ]
-cellOf g table A endmark = elim (ltb A (g .nonterminals)) [ true ↦ held (getD table (A * (g .tokens + 1) + g .tokens) 255) | false ↦ none ]
+cellOf g table A (token t) =
+    elim (ltb A (g .nonterminals) && ltb t (g .tokens)) [
+      | true ↦ held (getD table (A * (g .tokens + 1) + t) 255)
+      | false ↦ none
+    ]
+cellOf g table A endmark =
+    elim (ltb A (g .nonterminals)) [
+      | true ↦ held (getD table (A * (g .tokens + 1) + g .tokens) 255)
+      | false ↦ none
+    ]

@@ -1,16 +1,16 @@
-ghost use mathlib.Core.Path.{_≡_};
+// The claims of the productions on the cells, laid one after the other: the table, or the first conflict.
 ghost use Prim.Native.Nat.{_+_, _*_, _≤_, _<_};
 ghost use lib.ListN.{length};
 ghost use Rattle.grammar.specs.Grammar.{Grammar};
 ghost use Rattle.sets.specs.Sets.{member};
 ghost use Rattle.sets.specs.Calls.{number};
 ghost use Rattle.book.specs.Judging.{Serves};
-ghost use Rattle.answers.specs.Buffers.{over};
-ghost use Rattle.table.specs.Claims.{bookClaims, Laid, Ledger, Vacancy, Claimed, RowClaimed, Claimable, Settled, Tabulated};
+ghost use Rattle.table.specs.Claims.{bookClaims, Laid, Ledger, Vacancy, Claimed, RowClaimed};
+ghost use Rattle.table.specs.Claims.{Claimable, Settled, Tabulated};
 ghost use Rattle.table.specs.Filling.{Enterable, Entered};
 use crate::VACANT;
-use crate::ahead::lookahead_at;
 use answers::Answer;
+use answers::buffers::write_bytes;
 use answers::done;
 use answers::refusal;
 use answers::refusals::CONFLICT;
@@ -21,6 +21,7 @@ use reader::fields::place_at;
 use sets::END_MARK;
 use sets::Set;
 use sets::has;
+use sets::load;
 
 // The most cells that a small table has: for it only so many are made vacant.
 const FEW: usize = 512;
@@ -28,7 +29,8 @@ const FEW: usize = 512;
 // The cells of the largest table, 64 rows of 63 columns.
 const MOST: usize = 4032;
 
-// The first cell known to have two claimants, in cell order, and its two lowest; past the last cell where none is known.
+// The first cell known to have two claimants, in cell order, and its two lowest; past the last cell where none is
+// known.
 pub(crate) struct Contest {
     pub(crate) cell: usize,
     pub(crate) lowest: u32,
@@ -49,7 +51,8 @@ fn vacant_most() -> [u8; MOST]
     [VACANT; MOST]
 }
 
-// Production p claims a cell if its lookahead has the bit of the cell's column: a vacant cell it gets, and one that is held is contested.
+// Production p claims a cell if its lookahead has the bit of the cell's column: a vacant cell it gets, and one that is
+// held is contested.
 fn claim(ahead: Set, bit: u8, cell: usize, p: u8, table: &mut [u8], known: Contest) -> Contest
     requires { ⌜ cell < length (now table) ⌝ }
     ensures { λ r. ⌜ Claimed (now (table .entry)) cell p known (member bit (number ahead)) r (now (table .exit)) ⌝ }
@@ -92,12 +95,13 @@ fn claim_all(
     places: &[u16],
     count: usize,
     tokens: u8,
-    first: &[u64],
-    follow: &[u64],
+    ahead: &[u64],
     table: &mut [u8],
 ) -> Contest
     requires { ⌜ Claimable (now book) (now places) count tokens (now table) ⌝ }
-    ensures { λ r. ⌜ Ledger (Laid (bookClaims (now (book .entry)) (now (places .entry)) (now (first .entry)) (now (follow .entry)) tokens) count 0) (now (table .exit)) r ⌝ }
+    ensures { λ r. ⌜ Ledger
+        (Laid (bookClaims (now (book .entry)) (now (places .entry)) (now (ahead .entry)) tokens) count 0)
+        (now (table .exit)) r ⌝ }
 {
     let mut contest = Contest {
         cell: table.len(),
@@ -106,10 +110,8 @@ fn claim_all(
     };
     let mut p: usize = 0;
     while p < count {
-        let place = place_at(places, p);
-        let row = left_at(book, place as usize);
-        let ahead = lookahead_at(book, place, first, follow);
-        contest = claim_row(row, ahead, tokens, p as u8, table, contest);
+        let row = left_at(book, place_at(places, p) as usize);
+        contest = claim_row(row, load(ahead, p), tokens, p as u8, table, contest);
         p += 1;
     }
     contest
@@ -130,50 +132,37 @@ fn settle(contest: Contest, cells: usize) -> Answer
     }
 }
 
-// Cells into the front of a lent buffer.
-fn write_table(cells: &[u8], table: &mut [u8])
-    requires { ⌜ length (now cells) ≤ length (now table) ⌝ }
-    ensures { λ r. ⌜ now (table .exit) ≡ over (now (cells .entry)) (now (table .entry)) ⌝ }
-{
-    let mut cell: usize = 0;
-    while cell < cells.len() {
-        table[cell] = cells[cell];
-        cell += 1;
-    }
-}
-
 // Every claim is laid on vacant cells, which are written if none is contested.
 fn tabulate(
     book: &[u8],
     places: &[u16],
     count: usize,
     tokens: u8,
-    first: &[u64],
-    follow: &[u64],
+    ahead: &[u64],
     cells: &mut [u8],
     table: &mut [u8],
 ) -> Answer
-    requires { ⌜ Claimable (now book) (now places) count tokens (now cells) × (length (now cells) ≤ length (now table)) ⌝ }
-    ensures { λ r. ⌜ Tabulated (Laid (bookClaims (now (book .entry)) (now (places .entry)) (now (first .entry)) (now (follow .entry)) tokens) count 0) (length (now (cells .entry))) (now (table .entry)) r (now (table .exit)) ⌝ }
+    requires { ⌜ Claimable (now book) (now places) count tokens (now cells)
+        × (length (now cells) ≤ length (now table)) ⌝ }
+    ensures { λ r. ⌜ Tabulated
+        (Laid (bookClaims (now (book .entry)) (now (places .entry)) (now (ahead .entry)) tokens) count 0)
+        (length (now (cells .entry))) (now (table .entry)) r (now (table .exit)) ⌝ }
 {
-    let contest = claim_all(book, places, count, tokens, first, follow, cells);
+    let contest = claim_all(book, places, count, tokens, ahead, cells);
     let answer = settle(contest, cells.len());
     if answer.number == DONE {
-        write_table(cells, table);
+        write_bytes(cells, table);
     }
     answer
 }
 
-// The table of a book whose sets are known, unless two productions claim one cell: that is known before anything is written.
-pub(crate) fn enter(
-    book: &[u8],
-    reading: Reading,
-    first: &[u64],
-    follow: &[u64],
-    table: &mut [u8],
-) -> Answer
-    requires { ⌜ Enterable (now book) reading (now first) (now follow) (now table) ⌝ }
-    ensures { λ r. ⌜ ((g : Grammar) → Serves (now (book .entry)) g → Entered g (now (table .entry)) r (now (table .exit))) ⌝ }
+// The table of a book whose lookaheads are known, unless two productions claim one cell: that is known before anything
+// is written.
+pub(crate) fn enter(book: &[u8], reading: Reading, ahead: &[u64], table: &mut [u8]) -> Answer
+    requires { ⌜ Enterable (now book) reading (now ahead) (now table) ⌝ }
+    ensures { λ r. ⌜ ((g : Grammar)
+        → Serves (now (book .entry)) g
+        → Entered g (now (table .entry)) r (now (table .exit))) ⌝ }
 {
     let count = reading.productions as usize;
     let tokens = reading.tokens;
@@ -185,8 +174,7 @@ pub(crate) fn enter(
             &reading.places,
             count,
             tokens,
-            first,
-            follow,
+            ahead,
             &mut claimed[..cells],
             table,
         )
@@ -197,8 +185,7 @@ pub(crate) fn enter(
             &reading.places,
             count,
             tokens,
-            first,
-            follow,
+            ahead,
             &mut claimed[..cells],
             table,
         )

@@ -1,5 +1,4 @@
 -- The invariant: the lookaheads of the records gone through, and no member beyond them.
-use mathlib.Core.Path.{_∙_}
 use Prim.Native.Nat.{_-_, _≤_}
 use native.Mathlib.Nat.{le-antisymm}
 use native.Mathlib.Omega.{arith}
@@ -47,7 +46,7 @@ loop-again c =
     let pre = c .before .before .before .before .before .before .before .before .before .pre in
     let loop = c .before .before .before .before .loop in
     let lookahead-at = c .before .lookahead-at in
-    (search needs, ahead-next (omega (arith, pre .1)) (loop .inv .1) (c .word .ensures ∙ lookahead-at .ensures))
+    (search needs, ahead-next (omega (arith, pre .1)) (loop .inv .1) (c .word .ensures) (lookahead-at .ensures))
 
 returns : tie.Need-returns Inv-loop μ-loop
 returns c = rw (le-antisymm (c .before .loop .inv .0) (c .loop-test .left)) at (c .before .loop .inv .1)

@@ -6,9 +6,9 @@ use borrow.Author.Tests.{not-true, not-false}
 use borrow.Author.Needs.{needs}
 use Rattle.sets.specs.Sets.{width}
 use Rattle.answers.specs.Limits.{mostNonterminals, mostProductions}
-use Rattle.first.proofs.Promise.{no-member, total, Round, round-next, round-nearer, round-last}
+use Rattle.first.proofs.Promise.{no-member, total, Round, round-next, round-nearer}
 use Rattle.follow.proofs.Halting.{single-end}
-use Rattle.follow.proofs.Following.{whole-walkable, tails-walkable, FollowSoFar, follow-refines, follow-begun-round, follow-found}
+use Rattle.follow.proofs.Following.{whole-walkable, tails-walkable, FollowSoFar, follow-refines, follow-begun-round, follow-settled}
 use Rattle.follow.proofs.follow.follows.Statement.{statement}
 use Rattle.follow.proofs.follow.follows.Tie as tie
 
@@ -59,7 +59,6 @@ follow-pass-requires-2 c κs =
 
 loop-less : tie.Need-loop-less Inv-loop μ-loop
 loop-less c =
-    let pre = c .before .before .before .before .before .before .before .before .before .before .before .before .before .before .before .before .before .pre in
     let shared-slice-known3 = c .before .before .before .before .before .before .before .before .before .before .before .before .before .before .shared-slice-known3 in
     let find-tails = c .before .before .before .before .before .before .find-tails in
     let loop = c .before .before .before .before .loop in
@@ -67,7 +66,6 @@ loop-less c =
 
 loop-again : tie.Need-loop-again Inv-loop μ-loop
 loop-again c =
-    let pre = c .before .before .before .before .before .before .before .before .before .before .before .before .before .before .before .before .before .pre in
     let shared-slice-known3 = c .before .before .before .before .before .before .before .before .before .before .before .before .before .before .shared-slice-known3 in
     let find-tails = c .before .before .before .before .before .before .find-tails in
     let loop = c .before .before .before .before .loop in
@@ -75,13 +73,11 @@ loop-again c =
 
 returns : tie.Need-returns Inv-loop μ-loop
 returns c =
-    let pre = c .before .before .before .before .before .before .before .before .before .before .before .before .before .before .before .before .before .pre in
     let shared-slice-known3 = c .before .before .before .before .before .before .before .before .before .before .before .before .before .before .shared-slice-known3 in
     let find-tails = c .before .before .before .before .before .before .find-tails in
     let loop = c .before .before .before .before .loop in
-    follow-found _ _ _ _ _ (find-tails .ensures)
-    (round-next (follow-refines _ _ _ _ _ (find-tails .last .1 .1 .1 .1 .0) (record { each = λ A. shared-slice-known3 .given A .fits })) (loop .inv) (c .before .follow-pass2 .ensures))
-    (round-last (c .before .follow-pass2 .ensures) (not-false _ (c .if1 .left)))
+    follow-settled _ _ _ _ _ (record { each = λ A. shared-slice-known3 .given A .fits })
+    (find-tails .ensures) (loop .inv) (c .before .follow-pass2 .ensures) (not-false _ (c .if1 .left))
 
 pub follows-spec : {M : Type 1} → statement M
 follows-spec =

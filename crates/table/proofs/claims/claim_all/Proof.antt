@@ -1,26 +1,24 @@
 -- The invariant: the claims of the productions gone through are laid.
-use mathlib.Core.Path.{_≡_, refl}
+use mathlib.Core.Path.{_≡_, refl, sym}
 use Prim.Native.Nat.{_-_, _≤_}
 use native.Mathlib.Nat.{le-antisymm}
 use native.Mathlib.Omega.{arith}
 use lib.ListN.{length}
 use borrow.Author.Needs.{needs}
-use Rattle.sets.specs.Calls.{number}
-use Rattle.table.specs.Steps.{leftOf, lookaheadOf}
-use Rattle.table.specs.Claims.{bookClaims, Laid, Ledger}
+use Rattle.table.specs.Claims.{leftOf, bookClaims, Laid, Ledger}
 use Rattle.table.proofs.Rows.{laid-none}
 use Rattle.table.proofs.claims.claim_all.Statement.{statement}
 use Rattle.table.proofs.claims.claim_all.Tie as tie
 
 abbrev Inv-loop : tie.InvT-loop
-Inv-loop book places count tokens first follow table₀ contest₀ p₀ table contest p =
-    (p ≤ count) × (length table ≡ length table₀) × Ledger (Laid (bookClaims book places first follow tokens) p 0) table contest
+Inv-loop book places count tokens ahead table₀ contest₀ p₀ table contest p =
+    (p ≤ count) × (length table ≡ length table₀) × Ledger (Laid (bookClaims book places ahead tokens) p 0) table contest
 
 abbrev μ-loop : tie.MeasureT-loop
-μ-loop book places count tokens first follow table₀ contest₀ p₀ table contest p = count - p
+μ-loop book places count tokens ahead table₀ contest₀ p₀ table contest p = count - p
 
 loop-holds : tie.Need-loop-holds Inv-loop μ-loop
-loop-holds c = (search needs, refl, laid-none refl (c .before .before .before .before .before .pre .blank) refl)
+loop-holds c = (search needs, refl, laid-none refl (c .before .before .before .before .pre .blank) refl)
 
 place-at-requires : tie.Need-place-at-requires Inv-loop μ-loop
 place-at-requires c κs = search needs
@@ -31,20 +29,17 @@ cast-left-at c = search needs
 left-at-requires : tie.Need-left-at-requires Inv-loop μ-loop
 left-at-requires c κs = search needs
 
-lookahead-at-requires : tie.Need-lookahead-at-requires Inv-loop μ-loop
-lookahead-at-requires c κs =
-    let pre = c .before .before .before .before .before .before .before .before .before .pre in
-    let loop-test = c .before .before .loop-test in
-    rw (c .before .place-at .ensures) (pre .readable .each _ (loop-test .taken))
+load-requires : tie.Need-load-requires Inv-loop μ-loop
+load-requires c κs = search needs
 
 cast-claim-row : tie.Need-cast-claim-row Inv-loop μ-loop
 cast-claim-row c =
-    let pre = c .before .before .before .before .before .before .before .before .before .before .pre in
+    let pre = c .before .before .before .before .before .before .before .before .before .pre in
     omega (arith, pre .numbered)
 
 claim-row-requires : tie.Need-claim-row-requires Inv-loop μ-loop
 claim-row-requires c κs =
-    let pre = c .before .before .before .before .before .before .before .before .before .before .before .pre in
+    let pre = c .before .before .before .before .before .before .before .before .before .before .pre in
     let loop = c .before .before .before .before .before .loop in
     let loop-test = c .before .before .before .before .loop-test in
     let place-at = c .before .before .before .place-at in
@@ -57,12 +52,11 @@ add-p c = search needs
 loop-less : tie.Need-loop-less Inv-loop μ-loop
 loop-less c = search needs
 
--- what was read is the left side and the lookahead of the production
-sided : (d : tie.After-lookahead-at Inv-loop μ-loop) → leftOf (d .before .before .before .before .before .before .before .before .before .before .args .book .now) (d .before .before .before .before .before .before .before .before .before .before .args .places .now) (d .before .before .before .before .loop .p) ≡ d .before .left-at .result
+-- what was read is the left side of the production
+sided : (d : tie.After-load Inv-loop μ-loop)
+    → let args = d .before .before .before .before .before .before .before .before .before .args in
+    leftOf (args .book .now) (args .places .now) (d .before .before .before .before .loop .p) ≡ d .before .left-at .result
 sided d = rw (d .before .left-at .ensures, d .before .before .place-at .ensures)
-
-looked : (d : tie.After-lookahead-at Inv-loop μ-loop) → lookaheadOf (d .before .before .before .before .before .before .before .before .before .before .args .book .now) (d .before .before .before .before .before .before .before .before .before .before .args .places .now) (d .before .before .before .before .before .before .before .before .before .before .args .first .now) (d .before .before .before .before .before .before .before .before .before .before .args .follow .now) (d .before .before .before .before .loop .p) ≡ number (d .lookahead-at .result)
-looked d = rw (d .lookahead-at .ensures, d .before .before .place-at .ensures)
 
 loop-again : tie.Need-loop-again Inv-loop μ-loop
 loop-again c =
@@ -71,7 +65,7 @@ loop-again c =
     let claim-row = c .before .before .claim-row in (
       search needs,
       omega (arith, claim-row .kept .1 .1 .1 .1 .0, loop .inv .1),
-      claim-row .ensures .laid _ _ (sided state) (looked state) (loop .inv .2),
+      claim-row .ensures .laid _ _ (sided state) (sym (state .load .ensures .loaded)) (loop .inv .2),
     )
 
 same-length : tie.Need-same-length Inv-loop μ-loop
@@ -90,7 +84,7 @@ claim-all-spec =
     place-at-requires
     cast-left-at
     left-at-requires
-    lookahead-at-requires
+    load-requires
     cast-claim-row
     claim-row-requires
     add-p

@@ -32,7 +32,7 @@ slice-aggregate-tabulate c = sym (taken-sized (c .before .before .before .before
 
 tabulate-requires : tie.Need-tabulate-requires
 tabulate-requires c κs =
-    let pre = c .before .before .before .before .before .before .before .before .before .before .before .pre in
+    let pre = c .before .before .before .before .before .before .before .before .before .before .pre in
     let if1 = c .before .before .before .before .before .before .if1 in
     let vacant-few = c .before .before .before .before .before .vacant-few in
     enter-ready pre (if1 .taken) (vacant-few .ensures)
@@ -42,18 +42,18 @@ vacant-most-requires c κs = search needs
 
 array-borrow-prefix-claimed-2 : tie.Need-array-borrow-prefix-claimed-2
 array-borrow-prefix-claimed-2 c =
-    let pre = c .before .before .before .before .before .before .before .before .before .pre in
+    let pre = c .before .before .before .before .before .before .before .before .pre in
     omega (arith, given-most (pre .given))
 
 slice-aggregate-tabulate-2 : tie.Need-slice-aggregate-tabulate-2
 slice-aggregate-tabulate-2 c =
-    let pre = c .before .before .before .before .before .before .before .before .before .before .pre in
+    let pre = c .before .before .before .before .before .before .before .before .before .pre in
     let vacant-most = c .before .before .before .before .vacant-most in
     sym (taken-sized (given-most (pre .given)) (vacant-most .ensures))
 
 tabulate-requires-2 : tie.Need-tabulate-requires-2
 tabulate-requires-2 c κs =
-    let pre = c .before .before .before .before .before .before .before .before .before .before .before .pre in
+    let pre = c .before .before .before .before .before .before .before .before .before .before .pre in
     let vacant-most = c .before .before .before .before .before .vacant-most in
     enter-ready pre (given-most (pre .given)) (vacant-most .ensures)
 
@@ -62,7 +62,7 @@ same-length c = search needs
 
 returns : tie.Need-returns
 returns c =
-    let pre = c .before .before .before .before .before .before .before .before .before .before .before .before .before .before .before .pre in
+    let pre = c .before .before .before .before .before .before .before .before .before .before .before .before .before .before .pre in
     let if1 = c .before .before .before .before .before .before .before .before .before .before .if1 in
     let vacant-few = c .before .before .before .before .before .before .before .before .before .vacant-few in
     let tabulate = c .before .before .before .tabulate in
@@ -73,7 +73,7 @@ same-length-2 c = search needs
 
 returns-2 : tie.Need-returns-2
 returns-2 c =
-    let pre = c .before .before .before .before .before .before .before .before .before .before .before .before .before .before .before .pre in
+    let pre = c .before .before .before .before .before .before .before .before .before .before .before .before .before .before .pre in
     let vacant-most = c .before .before .before .before .before .before .before .before .before .vacant-most in
     let tabulate2 = c .before .before .before .tabulate2 in
     enter-tabulated pre (taken-sized (given-most (pre .given)) (vacant-most .ensures)) (tabulate2 .ensures)

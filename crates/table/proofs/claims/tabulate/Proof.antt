@@ -10,8 +10,8 @@ claim-all-requires c κs = search needs
 settle-requires : tie.Need-settle-requires
 settle-requires c κs = search needs
 
-write-table-requires : tie.Need-write-table-requires
-write-table-requires c κs = search needs
+write-bytes-requires : tie.Need-write-bytes-requires
+write-bytes-requires c κs = search needs
 
 same-length : tie.Need-same-length
 same-length c = search needs
@@ -21,11 +21,12 @@ same-length-2 c = search needs
 
 returns : tie.Need-returns
 returns c =
+    let pre = c .before .before .before .before .before .before .before .before .before .before .before .before .before .before .before .before .before .pre in
     let claim-all = c .before .before .before .before .before .before .before .before .before .before .claim-all in
     let settle = c .before .before .before .before .before .before .before .settle in
     let if1 = c .before .before .before .before .before .if1 in
-    let write-table = c .before .before .write-table in
-    tabulated-written (claim-all .kept .1 .1 .1 .1 .1 .1 .0) (claim-all .ensures) (settle .ensures) (if1 .taken) (write-table .ensures)
+    let write-bytes = c .before .before .write-bytes in
+    tabulated-written (claim-all .kept .1 .1 .1 .1 .1 .0) (claim-all .ensures) (settle .ensures) (if1 .taken) (pre .1) (write-bytes .ensures)
 
 same-length-3 : tie.Need-same-length-3
 same-length-3 c = search needs
@@ -34,7 +35,7 @@ returns-2 : tie.Need-returns-2
 returns-2 c =
     let claim-all = c .before .before .before .before .before .claim-all in
     let settle = c .before .before .settle in
-    tabulated-refused (claim-all .kept .1 .1 .1 .1 .1 .1 .0) (claim-all .ensures) (settle .ensures) (c .if1 .left)
+    tabulated-refused (claim-all .kept .1 .1 .1 .1 .1 .0) (claim-all .ensures) (settle .ensures) (c .if1 .left)
 
 pub tabulate-spec : {M : Type 1} → statement M
 tabulate-spec =
@@ -42,7 +43,7 @@ tabulate-spec =
     (tie.spec
     claim-all-requires
     settle-requires
-    write-table-requires
+    write-bytes-requires
     same-length
     same-length-2
     returns
