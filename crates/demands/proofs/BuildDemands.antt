@@ -14,9 +14,11 @@ use Rattle.answers.specs.Refusals.{conflict}
 use Rattle.answers.specs.Buffers.{over}
 use Rattle.book.specs.Judging.{Serves}
 use Rattle.book.proofs.Promise.{serves-limits, serves-unique, refuses-not-serves}
-use Rattle.table.specs.Calls.{no-first, no-follow, BuildOutcome}
+use Rattle.follow.specs.Calls.{no-first, no-follow}
+use Rattle.table.specs.Calls.{BuildOutcome}
 use Rattle.table.specs.Calls as calls
-use Rattle.table.specs.Numbers.{FirstSets, FollowSets}
+use Rattle.first.specs.Numbers.{FirstSets}
+use Rattle.follow.specs.Families.{FollowSets}
 use Rattle.table.specs.Table.{size, rowAt, columnAt, TableOf, FirstConflict}
 use Rattle.table.proofs.Promise.{table-exact, WithTable, build-with-room}
 use Rattle.demands.specs.Demands.{BuildRoom}

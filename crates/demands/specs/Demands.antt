@@ -13,8 +13,10 @@ use Rattle.answers.specs.Refusals.{room, conflict, syntax}
 use Rattle.answers.specs.Buffers.{over, counted}
 use Rattle.answers.specs.Limits.{longestString, longestList}
 use Rattle.book.specs.Judging.{Serves}
-use Rattle.table.specs.Calls.{SetsFit, BuildOutcome}
-use Rattle.table.specs.Numbers.{FirstSets, FollowSets}
+use Rattle.follow.specs.Calls.{SetsFit}
+use Rattle.table.specs.Calls.{BuildOutcome}
+use Rattle.first.specs.Numbers.{FirstSets}
+use Rattle.follow.specs.Families.{FollowSets}
 use Rattle.table.specs.Table.{size, TableOf, BuiltWithoutConflict, cellOf}
 use Rattle.machine.specs.Room.{peak}
 use Rattle.machine.specs.Machine.{final}

@@ -9,8 +9,8 @@ use Rattle.answers.specs.declared.Answer.{Answer}
 use Rattle.answers.specs.Buffers.{over}
 use Rattle.book.specs.declared.Reading.{Reading}
 use Rattle.book.proofs.Promise.{judged-unique}
-use Rattle.table.specs.declared.SetAnswer.{SetAnswer}
-use Rattle.table.proofs.Promise.{Unique}
+use Rattle.first.specs.declared.SetAnswer.{SetAnswer}
+use Rattle.answers.proofs.Promise.{Unique}
 use Rattle.desk.specs.Desk.{answerBytes, LentCell, JudgeOutcome, SetOutcome, Called, short, answered}
 
 -- the answer whose number is returned and whose bytes are written

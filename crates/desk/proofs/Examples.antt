@@ -8,7 +8,9 @@ use Rattle.grammar.proofs.Every.{every-at}
 use Rattle.grammar.proofs.Tests.{below}
 use Rattle.answers.specs.Answers.{done}
 use Rattle.book.specs.Examples.{houseBook}
-use Rattle.table.specs.Examples.{houseFirstSets, houseFollowSets, houseTable}
+use Rattle.first.specs.Examples.{houseFirstSets}
+use Rattle.follow.specs.Examples.{houseFollowSets}
+use Rattle.table.specs.Examples.{houseTable}
 use Rattle.table.proofs.Promise.{house-build}
 use Rattle.demands.specs.Demands.{Premises}
 use Rattle.demands.specs.Examples.{Allowed, answering, runs, expands, exampleA, exampleF, exampleK, examples}

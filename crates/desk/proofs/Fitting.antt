@@ -21,8 +21,12 @@ use Rattle.reader.proofs.Promise.{refused-kinds, read-limits}
 use Rattle.book.specs.declared.Reading.{Reading}
 use Rattle.book.specs.Judging.{Refuses, misread, useless-one, refusing, indexOf, Judged, refuses, serves}
 use Rattle.book.proofs.Promise.{serves-limits}
-use Rattle.table.specs.declared.SetAnswer.{SetAnswer}
-use Rattle.table.specs.Calls.{SetsRoom, no-first, no-follow, SetsOutcome, BuildOutcome, LookaheadOutcome, FirstOutcome}
+use Rattle.first.specs.declared.SetAnswer.{SetAnswer}
+use Rattle.first.specs.Calls.{FirstOutcome}
+use Rattle.follow.specs.Calls.{SetsRoom, no-first, no-follow, SetsOutcome, LookaheadOutcome}
+use Rattle.table.specs.Calls.{BuildOutcome}
+use Rattle.first.specs.Calls as first-calls
+use Rattle.follow.specs.Calls as follow-calls
 use Rattle.table.specs.Calls as calls
 use Rattle.table.specs.Table.{size, held, cellOf}
 use Rattle.table.specs.Fitting.{Misfit, length-given, cell}
@@ -154,9 +158,9 @@ judge-fits b (serves s) = done-fits 0 (omega arith)
 
 -- of the sets
 pub sets-fits : {book first follow : List ℕ} {a : Answer} {first′ follow′ : List ℕ} → length book < 2 ^ 64 → SetsOutcome book first follow a first′ follow′ → FitsWords a
-sets-fits b (calls.refused r) = refused-fits b r
-sets-fits b (calls.no-room s r) = room-fits (serves-limits s) r
-sets-fits b (calls.served s f x y) = done-fits 0 (omega arith)
+sets-fits b (follow-calls.refused r) = refused-fits b r
+sets-fits b (follow-calls.no-room s r) = room-fits (serves-limits s) r
+sets-fits b (follow-calls.served s f x y) = done-fits 0 (omega arith)
 
 -- of building
 pub build-fits : {book first follow table : List ℕ} {a : Answer} {first′ follow′ table′ : List ℕ} → length book < 2 ^ 64 → BuildOutcome book first follow table a first′ follow′ table′ → FitsWords a
@@ -170,13 +174,13 @@ build-fits b (calls.served s f h x y t) = done-fits 0 (omega arith)
 
 -- of a lookahead
 pub lookahead-fits : {book : List ℕ} {production : ℕ} {r : SetAnswer} → length book < 2 ^ 64 → production < 2 ^ 64 → LookaheadOutcome book production r → FitsWords (r .answer)
-lookahead-fits b p (calls.refused r k) = rw (k .answer) (refused-fits b r)
-lookahead-fits b p (calls.no-production s h k) = rw (k .answer) (refusal-fits 12 p (omega arith))
-lookahead-fits b p (calls.served s rule is) = rw (is .answer) (done-fits 0 (omega arith))
+lookahead-fits b p (follow-calls.refused r k) = rw (k .answer) (refused-fits b r)
+lookahead-fits b p (follow-calls.no-production s h k) = rw (k .answer) (refusal-fits 12 p (omega arith))
+lookahead-fits b p (follow-calls.served s rule is) = rw (is .answer) (done-fits 0 (omega arith))
 
 -- and of FIRST of a symbol string
 pub first-fits : {book symbols : List ℕ} {r : SetAnswer} → length book < 2 ^ 64 → FirstOutcome book symbols r → FitsWords (r .answer)
-first-fits b (calls.refused r k) = rw (k .answer) (refused-fits b r)
-first-fits b (calls.too-long s h k) = rw (k .answer) (refusal-fits 4 (omega arith) (omega arith))
-first-fits b (calls.strange s h f k) = rw (k .answer) (refusal-fits 5 (omega (arith, f .inside)) (omega arith))
-first-fits b (calls.served s h e is) = rw (is .answer) (done-fits 0 (omega arith))
+first-fits b (first-calls.refused r k) = rw (k .answer) (refused-fits b r)
+first-fits b (first-calls.too-long s h k) = rw (k .answer) (refusal-fits 4 (omega arith) (omega arith))
+first-fits b (first-calls.strange s h f k) = rw (k .answer) (refusal-fits 5 (omega (arith, f .inside)) (omega arith))
+first-fits b (first-calls.served s h e is) = rw (is .answer) (done-fits 0 (omega arith))

@@ -7,8 +7,12 @@ use native.Mathlib.Omega.{arith}
 use lib.ListN.{length}
 use Rattle.grammar.specs.Machine.{Longest}
 use Rattle.answers.specs.Buffers.{counted}
-use Rattle.table.specs.Calls.{SetsOutcome, BuildOutcome, LookaheadOutcome, FirstOutcome}
-use Rattle.table.proofs.Promise.{sets-outcome-unique, build-outcome-unique, lookahead-outcome-unique, first-outcome-unique}
+use Rattle.first.specs.Calls.{FirstOutcome}
+use Rattle.follow.specs.Calls.{SetsOutcome, LookaheadOutcome}
+use Rattle.table.specs.Calls.{BuildOutcome}
+use Rattle.first.proofs.Promise.{first-outcome-unique}
+use Rattle.follow.proofs.Promise.{sets-outcome-unique, lookahead-outcome-unique}
+use Rattle.table.proofs.Promise.{build-outcome-unique}
 use Rattle.machine.proofs.Promise.{expand-steps}
 use Rattle.run.specs.Running.{RunOutcome}
 use Rattle.run.proofs.Promise.{run-outcome-unique}
@@ -16,11 +20,14 @@ use Rattle.expand.specs.Expanding.{ExpandOutcome}
 use Rattle.expand.proofs.Promise.{expand-outcome-unique}
 use Rattle.demands.specs.Demands.{BuildMeets2, ExpandMeets2, RunMeets2, RunMeets3, RunStepsAdd, ExpandStepsAdd}
 use Rattle.demands.proofs.Promise.{build-meets2, run-meets3, run-meets2, run-steps-add, expand-meets2, expand-steps-add}
-use Rattle.desk.specs.Desk.{littleEndian, answerBytes, answerSize, Lent, LentCell, JudgeOutcome, SetOutcome, JudgeCall, SetsCall, BuildCall, RunCall, ExpandCall, LookaheadCall, FirstCall}
+use Rattle.desk.specs.Desk.{littleEndian, answerBytes, answerSize, Lent, LentCell, JudgeOutcome, SetOutcome}
+use Rattle.desk.specs.Desk.{JudgeCall, SetsCall, BuildCall, RunCall, ExpandCall, LookaheadCall, FirstCall}
 use Rattle.desk.specs.Demands.{answerFrom}
-use Rattle.desk.proofs.Calls.{called-answer, called-unique, two-unique, three-unique, judge-outcome-unique, set-outcome-unique}
+use Rattle.desk.proofs.Calls.{called-answer, called-unique, two-unique, three-unique, judge-outcome-unique}
+use Rattle.desk.proofs.Calls.{set-outcome-unique}
 use Rattle.desk.proofs.ReadBack.{FitsWords, answer-read, called-exact}
-use Rattle.desk.proofs.Fitting.{ran-bounded, run-fits, expand-fits, judge-fits, sets-fits, build-fits, lookahead-fits, first-fits}
+use Rattle.desk.proofs.Fitting.{ran-bounded, run-fits, expand-fits, judge-fits, sets-fits, build-fits}
+use Rattle.desk.proofs.Fitting.{lookahead-fits, first-fits}
 
 -- any two outcomes that a call allows are equal: the number returned, and every lent buffer
 pub run-call-unique : (book table tokens stack list answer : List ℕ) {n m : ℕ} {s t l k x y : List ℕ}

@@ -11,8 +11,10 @@ use Rattle.answers.specs.Refusals.{room}
 use Rattle.answers.specs.Buffers.{over}
 use Rattle.book.specs.declared.Reading.{Reading}
 use Rattle.book.specs.Judging.{Judged}
-use Rattle.table.specs.declared.SetAnswer.{SetAnswer}
-use Rattle.table.specs.Calls.{SetsOutcome, BuildOutcome, LookaheadOutcome, FirstOutcome}
+use Rattle.first.specs.declared.SetAnswer.{SetAnswer}
+use Rattle.first.specs.Calls.{FirstOutcome}
+use Rattle.follow.specs.Calls.{SetsOutcome, LookaheadOutcome}
+use Rattle.table.specs.Calls.{BuildOutcome}
 use Rattle.run.specs.Running.{RunOutcome}
 use Rattle.expand.specs.Expanding.{ExpandOutcome}
 

@@ -76,7 +76,7 @@ pub extern "C" fn desk_sets(
     if answer.len() < ANSWER_SIZE {
         return ROOM;
     }
-    let filled = table::sets(book, first, follow);
+    let filled = follow::sets(book, first, follow);
     write_answer(answer, filled);
     filled.number
 }
@@ -113,7 +113,7 @@ pub extern "C" fn desk_lookahead(
     if set.len() < 1 || answer.len() < ANSWER_SIZE {
         return ROOM;
     }
-    let found = table::lookahead(book, production);
+    let found = follow::lookahead(book, production);
     let ahead = found.set;
     let looked = found.answer;
     set[0] = ahead.word;
@@ -134,7 +134,7 @@ pub extern "C" fn desk_first_of(
     if set.len() < 1 || answer.len() < ANSWER_SIZE {
         return ROOM;
     }
-    let found = table::first_of(book, symbols);
+    let found = first::first_of(book, symbols);
     let begins = found.set;
     let begun = found.answer;
     set[0] = begins.word;
