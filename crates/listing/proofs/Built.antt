@@ -17,7 +17,8 @@ use Rattle.reader.specs.Book.{Limits}
 use Rattle.book.specs.Judging.{Serves}
 use Rattle.book.proofs.Promise.{refuses-some, serves-limits}
 use Rattle.table.specs.Table.{size}
-use Rattle.table.specs.Calls.{SetsRoom, no-first, no-follow, BuildOutcome}
+use Rattle.follow.specs.Calls.{SetsRoom, no-first, no-follow}
+use Rattle.table.specs.Calls.{BuildOutcome}
 use Rattle.table.specs.Calls as calls
 use Rattle.showing.specs.Lines.{rowLine, rowLines}
 use Rattle.listing.specs.Writing.{headerIn, HeaderOf}

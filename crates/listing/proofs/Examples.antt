@@ -10,8 +10,12 @@ use Rattle.reader.specs.Book.{wanted, marked, spells}
 use Rattle.book.specs.Examples.{houseBook, uselessBook}
 use Rattle.book.specs.Judging.{misread}
 use Rattle.book.proofs.Promise.{house-serves, useless-refused}
-use Rattle.table.specs.Examples.{houseFirstSets, houseFollowSets, houseTable, conflictedHouseBook, nestedBook}
-use Rattle.table.proofs.Promise.{house-first-sets, house-follow-sets, house-table-of, conflicted-house-build, nested-build}
+use Rattle.first.specs.Examples.{houseFirstSets}
+use Rattle.follow.specs.Examples.{houseFollowSets}
+use Rattle.table.specs.Examples.{houseTable, conflictedHouseBook, nestedBook}
+use Rattle.first.proofs.Promise.{house-first-sets}
+use Rattle.follow.proofs.Promise.{house-follow-sets}
+use Rattle.table.proofs.Promise.{house-table-of, conflicted-house-build, nested-build}
 use Rattle.showing.specs.Words.{each, numberText, setText}
 use Rattle.showing.specs.Lines.{numbersLine, setLine, setLines, cellText, rowLine, rowLines}
 use Rattle.listing.specs.Examples.{houseText, conflictedHouseText, uselessText, nestedText, nothingText}

@@ -21,11 +21,13 @@ use Rattle.reader.specs.Book.{Limits}
 use Rattle.reader.proofs.Promise.{read-limits, refused-within}
 use Rattle.book.specs.Judging.{Refuses, misread, useless-one}
 use Rattle.book.proofs.Promise.{refuses-number, serves-limits}
-use Rattle.table.specs.Numbers.{FirstSets, FollowSets}
+use Rattle.first.specs.Numbers.{FirstSets}
+use Rattle.follow.specs.Families.{FollowSets}
 use Rattle.table.specs.Table.{size, held, TableOf, FirstConflict}
 use Rattle.showing.specs.Words.{space, newline, each, numbered, numberText, setText}
 use Rattle.showing.specs.Lines.{numbersLine, setLine, setLines, dash, cellText, cellsText, rowWord, rowLine, rowLines}
-use Rattle.listing.specs.Listing.{refusedWord, grammarWord, firstWord, followWord, refusedLine, grammarLine, servedText, Listing, refused, conflicted, served}
+use Rattle.listing.specs.Listing.{refusedWord, grammarWord, firstWord, followWord, refusedLine, grammarLine, servedText, Listing}
+use Rattle.listing.specs.Listing.{refused, conflicted, served}
 use Rattle.listing.specs.Calls.{mostListed}
 use Rattle.listing.proofs.Built.{size-fits}
 

@@ -11,9 +11,12 @@ use Rattle.answers.specs.Answers.{refusal}
 use Rattle.answers.specs.Refusals.{conflict}
 use Rattle.reader.specs.Book.{Limits}
 use Rattle.book.proofs.Promise.{serves-limits}
-use Rattle.table.specs.Numbers.{FirstSets, FollowSets}
+use Rattle.first.specs.Numbers.{FirstSets}
+use Rattle.follow.specs.Families.{FollowSets}
 use Rattle.table.specs.Table.{TableOf, FirstConflict}
-use Rattle.table.proofs.Promise.{sets-unique, table-unique, first-conflict-unique, table-no-conflict, first-is-conflict, Unique, OfBook, of-refusal, of-grammar, of-book-unique}
+use Rattle.answers.proofs.Promise.{Unique}
+use Rattle.first.proofs.Promise.{sets-unique, OfBook, of-refusal, of-grammar, of-book-unique}
+use Rattle.table.proofs.Promise.{table-unique, first-conflict-unique, table-no-conflict, first-is-conflict}
 use Rattle.listing.specs.declared.TextAnswer.{TextAnswer}
 use Rattle.listing.specs.Listing.{refusedLine, servedText, Listing, refused, conflicted, served}
 use Rattle.listing.specs.Calls.{Listed, listed, no-room}

@@ -8,7 +8,8 @@ use Rattle.answers.specs.declared.Answer.{Answer}
 use Rattle.answers.specs.Answers.{refusal}
 use Rattle.answers.specs.Refusals.{conflict}
 use Rattle.book.specs.Judging.{Refuses, Serves}
-use Rattle.table.specs.Numbers.{FirstSets, FollowSets}
+use Rattle.first.specs.Numbers.{FirstSets}
+use Rattle.follow.specs.Families.{FollowSets}
 use Rattle.table.specs.Table.{TableOf, FirstConflict}
 use Rattle.showing.specs.Words.{codes}
 use Rattle.showing.specs.Lines.{numbersLine, setLines, rowLines}
