@@ -8,6 +8,8 @@ pub mod Closed
 pub mod Unique
 pub mod OfBook
 pub mod SetAnswers
+pub mod Joined
+pub mod JoinedCalls
 pub mod Spelled
 pub mod Rounds
 pub mod Found

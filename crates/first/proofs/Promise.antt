@@ -23,3 +23,5 @@ pub use Rattle.first.proofs.Additions.{sound-none, sound-stored, sound-
 pub use Rattle.first.proofs.SetAnswers.{first-outcome-unique, first-worked-out-unique, no-set-unique, set-is-unique}
 pub use Rattle.first.proofs.Served.{first-given, first-judged, first-none, first-sized}
 pub use Rattle.first.proofs.Examples.{house-first-sets}
+pub use Rattle.first.proofs.Joined.{trail-append, trail-joined, at-empty, first-joined}
+pub use Rattle.first.proofs.JoinedCalls.{first-of-joined, first-of-split}

@@ -47,7 +47,7 @@ stranger-unique {g} {symbols} {i} {j} a b = go (decLt i j) (decLt j i)
     go (no n) (no m) = omega arith
 
 -- where each element has its image, the image at an index is one of them
-mapped-at : {A : Type 0} (f : ℕ → Option A) (xs : List ℕ) (ys : List A)
+pub mapped-at : {A : Type 0} (f : ℕ → Option A) (xs : List ℕ) (ys : List A)
     → map f xs ≡ map some ys
     → (i : ℕ)
     → i < length xs
@@ -57,7 +57,7 @@ mapped-at f (x ∷ xs) [] e i h = let bad : _≡_ {A = ℕ} 0 1 = cc in absurd (
 mapped-at f (x ∷ xs) (y ∷ ys) e zero h = (y, cc)
 mapped-at f (x ∷ xs) (y ∷ ys) e (suc i) h = mapped-at f xs ys (cc) i (omega arith)
 
-images-unique : {A : Type 0} (xs ys : List A) → _≡_ {A = List (Option A)} (map some xs) (map some ys) → xs ≡ ys
+pub images-unique : {A : Type 0} (xs ys : List A) → _≡_ {A = List (Option A)} (map some xs) (map some ys) → xs ≡ ys
 images-unique [] [] e = refl
 images-unique [] (y ∷ ys) e = let bad : _≡_ {A = ℕ} 0 1 = cc in absurd (omega arith)
 images-unique (x ∷ xs) [] e = let bad : _≡_ {A = ℕ} 0 1 = cc in absurd (omega arith)

@@ -1,21 +1,25 @@
 -- What FIRST promises, one page: each theorem under the sentence that it proves.
 use mathlib.Core.Path.{_≡_}
-use mathlib.Core.List.{List}
+use mathlib.Core.List.{List, _++_}
 use Prim.Native.Nat.{ℕ, _^_, _≤_, _<_}
 use lib.ListN.{length, take, getD}
 use Rattle.grammar.specs.Grammar.{Form, Grammar, Member, Every, Known, Rule, First}
-use Rattle.sets.specs.Sets.{width, emptyString, only, united}
+use Rattle.sets.specs.Sets.{width, emptyString, only, united, joined}
 use Rattle.sets.specs.Calls.{setAt, stored}
+use Rattle.answers.specs.Limits.{mostSymbols}
 use Rattle.reader.specs.Book.{Limits}
 use Rattle.book.specs.declared.Reading.{Reading}
 use Rattle.first.specs.declared.SetAnswer.{SetAnswer}
 use Rattle.first.specs.Numbers.{IsSet, Sets, FirstSets, FamilyOf}
 use Rattle.first.specs.Trail.{trail, FirstSound, FirstClosed}
 use Rattle.first.specs.Calls.{FirstWorkedOut, FirstResult, FirstOutcome}
+use Rattle.first.specs.Joined.{FirstJoined}
 use Rattle.first.proofs.Additions as additions
 use Rattle.first.proofs.Closed as closed
 use Rattle.first.proofs.Unique as unique
 use Rattle.first.proofs.SetAnswers as answers
+use Rattle.first.proofs.Joined as joins
+use Rattle.first.proofs.JoinedCalls as calls
 
 module _ {g : Grammar} (limits : Limits g) where
   -- each single addition to FIRST is sound
@@ -42,6 +46,42 @@ module _ {g : Grammar} (limits : Limits g) where
       → Every (Known g) α
       → IsSet (trail xs (only emptyString) α) (First g α)
   first-is first = closed.first-is limits (closed.sets-at first)
+
+  -- FIRST of two strings put together is the join of their FIRST sets
+  pub first-joined : (α β : Form) {x y : ℕ}
+      → Every (Known g) α
+      → IsSet x (First g α)
+      → IsSet y (First g β)
+      → IsSet (joined emptyString x y) (First g (α ++ β))
+  first-joined = joins.first-joined limits
+
+-- the trail of two forms put together, and of a form with a set behind it
+pub trail-append : (fs : List ℕ) (k : ℕ) (α β : Form) → trail fs k (α ++ β) ≡ trail fs (trail fs k β) α
+trail-append = joins.trail-append
+
+pub trail-joined : (fs : List ℕ) (k : ℕ) (α : Form)
+    → trail fs k α ≡ joined emptyString (trail fs (only emptyString) α) k
+trail-joined = joins.trail-joined
+
+module _ {book xs ys : List ℕ} {r s t : SetAnswer} where
+  -- of the calls: where both parts are done, the whole is done with the join of their sets
+  pub first-of-joined : FirstOutcome book xs r
+      → FirstOutcome book ys s
+      → FirstOutcome book (xs ++ ys) t
+      → length (xs ++ ys) ≤ mostSymbols
+      → r .answer .number ≡ 0
+      → s .answer .number ≡ 0
+      → FirstJoined r s t
+  first-of-joined = calls.first-of-joined
+
+  -- and where the whole is done, so are both parts
+  pub first-of-split : FirstOutcome book xs r
+      → FirstOutcome book ys s
+      → FirstOutcome book (xs ++ ys) t
+      → length (xs ++ ys) ≤ mostSymbols
+      → t .answer .number ≡ 0
+      → (r .answer .number ≡ 0) × (s .answer .number ≡ 0)
+  first-of-split = calls.first-of-split
 
 module _ {g : Grammar} {P : ℕ → Member → Type 0} {xs ys : List ℕ} where
   -- the sets of a grammar are determined, in a list of their own

@@ -1,5 +1,6 @@
 pub mod Numbers
 pub mod Calls
+pub mod Joined
 pub mod Trail
 pub mod Forms
 pub mod Steps
