@@ -6,6 +6,7 @@ pub mod Outcomes
 pub mod Walking
 pub mod Following
 pub mod Lookaheads
+pub mod Joined
 pub mod Served
 pub mod Examples
 pub mod Theorems

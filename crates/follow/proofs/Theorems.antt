@@ -3,9 +3,9 @@ use mathlib.Core.Path.{_≡_}
 use mathlib.Core.List.{List}
 use Prim.Native.Nat.{ℕ, _^_, _≤_, _<_}
 use lib.ListN.{length, take, getD}
-use Rattle.grammar.specs.Grammar.{Form, Grammar, Rule, Follow, Lookahead}
+use Rattle.grammar.specs.Grammar.{Form, Grammar, Rule, First, Follow, Lookahead}
 use Rattle.grammar.specs.Occurrence.{Behind}
-use Rattle.sets.specs.Sets.{width, united}
+use Rattle.sets.specs.Sets.{width, emptyString, united, joined}
 use Rattle.sets.specs.Calls.{setAt, stored}
 use Rattle.answers.specs.declared.Answer.{Answer}
 use Rattle.reader.specs.Book.{Limits}
@@ -22,6 +22,7 @@ use Rattle.follow.specs.WorkedOut.{WorkedOut, WorkedOutResult}
 use Rattle.follow.proofs.Additions as additions
 use Rattle.follow.proofs.Closed as closed
 use Rattle.follow.proofs.Outcomes as outcomes
+use Rattle.follow.proofs.Joined as joins
 
 module _ {g : Grammar} (limits : Limits g) where
   -- each single addition to FOLLOW is sound, where every nonterminal is useful
@@ -54,6 +55,14 @@ module _ {g : Grammar} (limits : Limits g) where
       → Rule g p A α
       → IsSet (trail xs (getD ys A 0) α) (Lookahead g A α)
   lookahead-is first follow = closed.lookahead-is limits (sets-at first) (sets-at follow)
+
+  -- and so the join of FIRST of the right side with FOLLOW of the left side
+  pub lookahead-joined : {p A : ℕ} {α : Form} {x y : ℕ}
+      → Rule g p A α
+      → IsSet x (First g α)
+      → IsSet y (Follow g A)
+      → IsSet (joined emptyString x y) (Lookahead g A α)
+  lookahead-joined rule = joins.lookahead-joined limits rule
 
 -- any two outcomes that a promise allows of the same inputs are equal, the answer and every buffer: of the sets
 pub sets-outcome-unique : {book first follow : List ℕ} {a b : Answer} {f w x y : List ℕ}
