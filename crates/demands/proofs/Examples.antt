@@ -22,7 +22,7 @@ use Rattle.offer.specs.Strings.{ran}
 use Rattle.run.specs.Running.{FirstStrange, strange}
 use Rattle.run.specs.Running as running
 use Rattle.run.proofs.Promise.{run-outcome-unique}
-use Rattle.expand.specs.Expanding.{answeredBy}
+use Rattle.expand.specs.Expanding.{closing, answeredBy}
 use Rattle.expand.specs.Expanding as expanding
 use Rattle.expand.proofs.Promise.{expand-outcome-unique}
 use Rattle.demands.specs.Examples.{Example, Allowed, Given, answering, runs, expands, exampleA, exampleB, exampleC, exampleD, exampleE, exampleF, exampleG, refusesBuilding, exampleH1, exampleI, exampleJ, exampleK, exampleKShort, examples}
@@ -32,11 +32,20 @@ use Rattle.demands.proofs.House.{house-admits}
 -- token 4 stands at place 2, and is the first that H does not have
 four-strange : FirstStrange house (0 ∷ 1 ∷ 4 ∷ []) 2
 unfolding house below
-four-strange = record { inside = omega arith; strange = omega arith; earlier = λ i h. ltb→lt (getD (0 ∷ 1 ∷ 4 ∷ []) i 0) 4 (below-each 2 (λ i. ltb (getD (0 ∷ 1 ∷ 4 ∷ []) i 0) 4) tt i h) }
+four-strange =
+    record {
+      inside = omega arith;
+      lowest =
+          record {
+            within = omega arith;
+            earlier = λ i h above. omega (arith, above, ltb→lt (getD (0 ∷ 1 ∷ 4 ∷ []) i 0) 4 (below-each 2 (λ i. ltb (getD (0 ∷ 1 ∷ 4 ∷ []) i 0) 4) tt i h));
+            found = λ h. omega arith;
+          };
+    }
 
 -- the definitions allow every row
 pub examples-allowed : Every Allowed examples
-unfolding examples Allowed exampleA exampleB exampleC exampleD exampleE exampleF exampleG refusesBuilding exampleH1 exampleI exampleJ exampleK exampleKShort runs expands answering house houseTable below begun meets popped replaced used facing offer runFrom rightOf isOf cellOf held only united added marking filledBelow ran expected answered final done stop refusal ended wrote applied writing applying expandFrom opened answeredBy
+unfolding examples Allowed exampleA exampleB exampleC exampleD exampleE exampleF exampleG refusesBuilding exampleH1 exampleI exampleJ exampleK exampleKShort runs expands answering house houseTable below begun meets popped replaced used facing offer runFrom rightOf isOf cellOf held only united added marking filledBelow ran expected answered final done stop refusal ended wrote applied writing applying expandFrom opened closing answeredBy
 examples-allowed =
     each {x = exampleA} (running.ended house-serves (house-admits _ (omega arith) tt _ (omega arith)))
     (each {x = exampleB} (running.ended house-serves (house-admits _ (omega arith) tt _ (omega arith)))

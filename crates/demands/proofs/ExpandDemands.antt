@@ -13,7 +13,8 @@ use Rattle.answers.specs.Refusals.{room, production}
 use Rattle.answers.specs.Buffers.{over, counted}
 use Rattle.book.specs.Judging.{Serves}
 use Rattle.book.proofs.Promise.{serves-limits}
-use Rattle.machine.specs.Expansion.{complete, unfit, ended, expansion}
+use Rattle.machine.specs.Expansion.{ended, expansion}
+use Rattle.machine.specs.declared.Upshot.the-variants.{Finished, Unfit}
 use Rattle.machine.specs.Expansion as machine
 use Rattle.machine.specs.Room.{peak, LongestList}
 use Rattle.machine.proofs.Promise.{peak-start, expand-steps, expand-sound, expand-complete, expand-exact, expand-refuses, expand-place, expand-room}
@@ -34,11 +35,11 @@ module _ (g : Grammar) (list stack output : List ℕ) where
     pub ends-moves : r .answer .steps ≡ expandedBy .progress .used + length (expandedBy .progress .written)
     ends-moves = told-moves ends-told-by ∙ expand-steps g (counted stack) (counted output) list .moves
 
-    ends-done : expandedBy .ending ≡ complete → r .answer .number ≡ 0
+    ends-done : expandedBy .ending ≡ Finished → r .answer .number ≡ 0
     unfolding done
     ends-done h = ap (λ (a : Answer). a .number) (e .answer ∙ complete-done expandedBy h)
 
-    ends-unfit : expandedBy .ending ≡ unfit → r .answer .number ≡ production
+    ends-unfit : expandedBy .ending ≡ Unfit → r .answer .number ≡ production
     unfolding stop
     ends-unfit h = ap (λ (a : Answer). a .number) (e .answer ∙ unfit-refused expandedBy h)
 
@@ -92,7 +93,7 @@ module _ (g : Grammar) (list stack output : List ℕ) where
     complete-room-iff (stackless e a b c) = (inr (ap (λ (x : Answer). x .number) a), (λ n. inl (omega (arith, peak-start d)), λ n. ap (λ (x : Answer). x .number) a))
     complete-room-iff {r} (begins k e) = (kinds, (to, from))
       where
-        fits : (expandedBy .ending ≢ unfit) × ((expandedBy .ending ≡ complete) ↔ ((peak d ≤ counted stack) × (length w ≤ counted output)))
+        fits : (expandedBy .ending ≢ Unfit) × ((expandedBy .ending ≡ Finished) ↔ ((peak d ≤ counted stack) × (length w ≤ counted output)))
         fits = expand-room g (counted stack) (counted output) list d (omega arith)
 
         kinds : (r .answer .number ≡ 0) ⊎ (r .answer .number ≡ room)

@@ -9,7 +9,9 @@ use Rattle.answers.specs.declared.Answer.{Answer}
 use Rattle.answers.specs.Answers.{done, stop, noSet}
 use Rattle.answers.specs.Refusals.{room, stackRoom, outputRoom}
 use Rattle.answers.specs.Buffers.{over, counted, cleared}
-use Rattle.machine.specs.Expansion.{Course, Upshot, full-stack, full-output, ended, Expansion}
+use Rattle.machine.specs.Expansion.{Course, ended, Expansion}
+use Rattle.machine.specs.declared.Upshot.{Upshot}
+use Rattle.machine.specs.declared.Upshot.the-variants.{FullStack, FullOutput}
 use Rattle.machine.specs.Stopping.{Midway, Lacks, lacks-stack, lacks-output}
 use Rattle.machine.proofs.Promise.{expand-steps, WantsRoom, wants-stack, wants-output, expand-stops}
 use Rattle.expand.proofs.Promise.{ToldBy, finished, misfitting, out-of-stack, out-of-output}
@@ -35,15 +37,15 @@ Stands g list cells output e s = (rest : List ℕ) × ((α : Form) × Midway g l
 module _ {g : Grammar} {list stack output : List ℕ} (stacked : 1 ≤ length stack) where
   lacking-stack : {s : Course} {rest : List ℕ} {α : Form}
       → Midway g list s rest α
-      → Lacks g (counted stack) (counted output) s full-stack rest α
-      → ExpansionStops g list (ended full-stack s) stack output
+      → Lacks g (counted stack) (counted output) s FullStack rest α
+      → ExpansionStops g list (ended FullStack s) stack output
       (stop room (s .used) stackRoom (s .used + length (s .written)) noSet) (cleared stack) (over (s .written) output)
   lacking-stack m (lacks-stack short) = places.no-stack-cells stacked refl m short
 
   lacking-output : {s : Course} {rest : List ℕ} {α : Form}
       → Midway g list s rest α
-      → Lacks g (counted stack) (counted output) s full-output rest α
-      → ExpansionStops g list (ended full-output s) stack output
+      → Lacks g (counted stack) (counted output) s FullOutput rest α
+      → ExpansionStops g list (ended FullOutput s) stack output
       (stop room (s .used) outputRoom (s .used + length (s .written)) noSet) (cleared stack) (over (s .written) output)
   lacking-output m (lacks-output full) = places.no-output-cell stacked refl m full
 

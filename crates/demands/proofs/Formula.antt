@@ -13,7 +13,8 @@ use Rattle.answers.specs.Answers.{refusal}
 use Rattle.answers.specs.Buffers.{counted}
 use Rattle.answers.specs.Refusals.{room}
 use Rattle.book.proofs.Promise.{serves-limits, serves-well-formed}
-use Rattle.machine.specs.Machine.{State, Reason, Offered, stopped, final}
+use Rattle.machine.specs.Machine.{State, Offered, stopped, final}
+use Rattle.machine.specs.declared.Reason.{Reason}
 use Rattle.machine.specs.Room.{listCells, stackCells}
 use Rattle.machine.specs.Stopping.{Short, short-list, short-stack, Decided, refused}
 use Rattle.machine.proofs.Promise.{run-lists-few, run-stays-low, run-always-enough}

@@ -12,7 +12,8 @@ use Rattle.answers.specs.Answers.{done, refusal, stop, noSet}
 use Rattle.answers.specs.Refusals.{room, syntax, stackRoom, listRoom}
 use Rattle.answers.specs.Buffers.{over, counted, cleared}
 use Rattle.table.specs.Table.{cellOf}
-use Rattle.machine.specs.Machine.{Reason, Offered, final}
+use Rattle.machine.specs.Machine.{Offered, final}
+use Rattle.machine.specs.declared.Reason.{Reason}
 use Rattle.machine.specs.Room.{rightOf}
 use Rattle.machine.specs.Stopping.{RoomNeeded, Decided, accepted, refused}
 use Rattle.machine.proofs.Promise.{Counted, Outcome, enough, list-short, stack-short, run-steps, run-room}
@@ -30,7 +31,7 @@ module _ {g : Grammar} {ps w : List ℕ} {d : Complete g ps w} {o : Offered} {st
 
 module _ {g : Grammar} {ps w : List ℕ} {d : Complete g ps w} {stack list : List ℕ} (stacked : 1 ≤ length stack) (table : List ℕ) {r : Ran} where
   outcome-stops : {o : Offered} → Outcome (counted stack) (counted list) d o → Counted (counted stack) (counted list) (final o) → r .answer ≡ answered (expected g table) o → r .stack ≡ cleared stack → r .list ≡ over (final o .listed) list → r .answer .number ≡ room → StopsForRoom g d o stack list (r .answer) (r .stack) (r .list)
-  unfolding answered final done stop
+  unfolding answered final done stop expected
   outcome-stops (enough l k) c a b e n = absurd (omega (arith, ap (λ (x : Answer). x .number) a))
   outcome-stops (list-short {s = s} at l k) c a b e n = stops-as (a ∙ ap (λ (m : ℕ). stop room (s .matched) listRoom m noSet) (c .steps)) b e (no-list-cell stacked refl at l k)
   outcome-stops (stack-short {s = s} at l k m q) c a b e n = stops-as (a ∙ ap (λ (m : ℕ). stop room (s .matched) stackRoom m noSet) (c .steps)) b e (no-stack-cells stacked refl at l k m)

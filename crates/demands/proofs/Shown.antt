@@ -16,15 +16,12 @@ use Rattle.offer.specs.Strings.{ran}
 use Rattle.offer.specs.Stops.{answered, expected}
 use Rattle.offer.proofs.Promise.{Told, told, served, short-of-list, short-of-stack, blocked, told-done}
 use Rattle.run.specs.Running.{wordsOf, RunOutcome, BesideOutcome}
-use Rattle.run.specs.Running as running
 use Rattle.demands.proofs.AnyTable.{fit-rows}
 
 module _ {book table tokens stack list : List ℕ} where
   -- the words are those of an answer that the run allows, with the same buffers
   pub beside-run : {words rest s l : List ℕ} → BesideOutcome book table tokens stack list words rest s l → (a : Answer) × (words ≡ wordsOf a) × RunOutcome book table tokens stack list a s l
-  beside-run (running.refused {a = a} r) = (a, refl, running.refused r)
-  beside-run (running.barred {a = a} s b) = (a, refl, running.barred s b)
-  beside-run (running.ended {g = g} s a) = (answered (expected g table) (ran g table tokens stack list), refl, running.ended s a)
+  beside-run o = (o .answer, o .told, o .run)
 
 module _ (g : Grammar) (table tokens stack list : List ℕ) where
   -- in steps, the rest begins at the place of a refusal

@@ -10,10 +10,11 @@ use Rattle.answers.specs.Answers.{refusal, stop, noSet}
 use Rattle.answers.specs.Buffers.{counted, over, cleared}
 use Rattle.answers.specs.Refusals.{room, stackRoom, listRoom, outputRoom}
 use Rattle.answers.specs.declared.Answer.{Answer}
-use Rattle.machine.specs.Machine.{State, full-list, full-stack, Offered, stopped}
+use Rattle.machine.specs.Machine.{State, Offered, stopped}
+use Rattle.machine.specs.declared.Reason.the-variants.{FullList, FullStack}
 use Rattle.machine.specs.Room.{rightOf}
 use Rattle.machine.specs.Expansion.{Course, Expansion, ended}
-use Rattle.machine.specs.Expansion as expanding
+use Rattle.machine.specs.declared.Upshot.the-variants as upshots
 use Rattle.machine.specs.Stopping.{Before, Midway}
 
 -- what a run with the outcome o leaves that stops for room: no stack cell; or, in the state of o, right before the
@@ -23,7 +24,7 @@ pub data StopsForRoom (g : Grammar) {ps w : List ℕ} (d : Complete g ps w) (o :
   no-stack : length stack ≡ 0 → StopsForRoom g d o stack list (refusal room 0 stackRoom) stack list
   no-list-cell : {p : ℕ} {below : Form} {s : State}
       → 1 ≤ length stack
-      → o ≡ stopped full-list s
+      → o ≡ stopped FullList s
       → Before g ps w p below s
       → length (s .listed) ≡ counted list
       → s .height ≤ counted stack
@@ -31,7 +32,7 @@ pub data StopsForRoom (g : Grammar) {ps w : List ℕ} (d : Complete g ps w) (o :
       (stop room (s .matched) listRoom (length (s .listed) + s .matched) noSet) (cleared stack) (over (s .listed) list)
   no-stack-cells : {p : ℕ} {below : Form} {s : State}
       → 1 ≤ length stack
-      → o ≡ stopped full-stack s
+      → o ≡ stopped FullStack s
       → Before g ps w p below s
       → length (s .listed) < counted list
       → s .height ≤ counted stack
@@ -46,14 +47,14 @@ pub data ExpansionStops (g : Grammar) (list : List ℕ) (e : Expansion) (stack o
   no-stack : length stack ≡ 0 → ExpansionStops g list e stack output (refusal room 0 stackRoom) stack output
   no-stack-cells : {p A : ℕ} {rest : List ℕ} {below : Form} {s : Course}
       → 1 ≤ length stack
-      → e ≡ ended expanding.full-stack s
+      → e ≡ ended upshots.FullStack s
       → Midway g list s (p ∷ rest) (Nonterminal A ∷ below)
       → counted stack < length (rightOf g p ++ below)
       → ExpansionStops g list e stack output
       (stop room (s .used) stackRoom (s .used + length (s .written)) noSet) (cleared stack) (over (s .written) output)
   no-output-cell : {t : ℕ} {rest : List ℕ} {below : Form} {s : Course}
       → 1 ≤ length stack
-      → e ≡ ended expanding.full-output s
+      → e ≡ ended upshots.FullOutput s
       → Midway g list s rest (Token t ∷ below)
       → length (s .written) ≡ counted output
       → ExpansionStops g list e stack output

@@ -30,8 +30,11 @@ use Rattle.follow.specs.Calls as follow-calls
 use Rattle.table.specs.Calls as calls
 use Rattle.table.specs.Table.{size, held, cellOf}
 use Rattle.table.specs.Fitting.{Misfit, length-given, cell}
-use Rattle.machine.specs.Machine.{Reason, full-list, full-stack, wants-end, wants-token, wants-row, Offered, final}
-use Rattle.machine.specs.Expansion.{expansion, Course, Upshot}
+use Rattle.machine.specs.Machine.{Offered, final}
+use Rattle.machine.specs.declared.Reason.{Reason}
+use Rattle.machine.specs.declared.Reason.the-variants.{FullList, FullStack, WantsEnd, WantsToken, WantsRow}
+use Rattle.machine.specs.Expansion.{expansion, Course}
+use Rattle.machine.specs.declared.Upshot.{Upshot}
 use Rattle.machine.specs.Room.{rightOf}
 use Rattle.machine.proofs.Promise.{Counted, run-steps, run-inside, expand-steps}
 use Rattle.offer.specs.Stops.{marking, filledBelow, expected, answered}
@@ -92,17 +95,17 @@ filled-fits g table A (suc j) = go (held (getD table (A * (g .tokens + 1) + j) 2
 
 expected-fits : (g : Grammar) (table : List ℕ) (r : Reason) → sets.number (expected g table r) < 2 ^ 64
 unfolding expected
-expected-fits g table full-list = omega arith
-expected-fits g table full-stack = omega arith
-expected-fits g table wants-end = marking-fits endMark 0 (omega arith)
-expected-fits g table (wants-token t) = marking-fits t 0 (omega arith)
-expected-fits g table (wants-row A) = filled-fits g table A (g .tokens + 1)
+expected-fits g table FullList = omega arith
+expected-fits g table FullStack = omega arith
+expected-fits g table WantsEnd = marking-fits endMark 0 (omega arith)
+expected-fits g table (WantsToken t) = marking-fits t 0 (omega arith)
+expected-fits g table (WantsRow A) = filled-fits g table A (g .tokens + 1)
 
 told-fits : {e : Reason → Set} {o : Offered} {a : Answer} → Told e o a → ((r : Reason) → sets.number (e r) < 2 ^ 64) → final o .matched < 2 ^ 64 → a .steps < 2 ^ 64 → FitsWords a
 unfolding final done stop
 told-fits (served s) sets-fit h k = done-fits (s .moves) k
-told-fits (short-of-list s) sets-fit h k = record { place = h; detail = omega arith; steps = k; expected = omega arith }
-told-fits (short-of-stack s) sets-fit h k = record { place = h; detail = omega arith; steps = k; expected = omega arith }
+told-fits (short-of-list s) sets-fit h k = record { place = h; detail = omega arith; steps = k; expected = sets-fit FullList }
+told-fits (short-of-stack s) sets-fit h k = record { place = h; detail = omega arith; steps = k; expected = sets-fit FullStack }
 told-fits (blocked {r = r} s b) sets-fit h k = record { place = h; detail = omega arith; steps = k; expected = sets-fit r }
 
 module _ (g : Grammar) (table tokens stack list : List ℕ) where

@@ -1,5 +1,6 @@
-// The functions that C programs call. The number is returned, and place, detail, steps and expected set go into a lent buffer; where
-// that is too short, or the buffer for a set has no cell, the answer is 7 before all else, and nothing changes.
+// The functions that C programs call. The number is returned, and place, detail, steps and expected set go into a lent
+// buffer; where that is too short, or the buffer for a set has no cell, the answer is 7 before all else, and nothing
+// changes.
 ghost use Rattle.desk.specs.Desk.{JudgeCall, SetsCall, BuildCall, RunCall, ExpandCall, LookaheadCall, FirstCall};
 use crate::words::ANSWER_SIZE;
 use crate::words::write_answer;
@@ -20,7 +21,17 @@ pub extern "C" fn desk_run(
     list: &mut [u8],
     answer: &mut [u8],
 ) -> u32
-    ensures { λ r. ⌜ RunCall (now (book .entry)) (now (table .entry)) (now (tokens .entry)) (now (stack .entry)) (now (list .entry)) (now (answer .entry)) r (now (stack .exit)) (now (list .exit)) (now (answer .exit)) ⌝ }
+    ensures { λ r. ⌜ RunCall
+        (now (book .entry))
+        (now (table .entry))
+        (now (tokens .entry))
+        (now (stack .entry))
+        (now (list .entry))
+        (now (answer .entry))
+        r
+        (now (stack .exit))
+        (now (list .exit))
+        (now (answer .exit)) ⌝ }
 {
     if answer.len() < ANSWER_SIZE {
         return ROOM;
@@ -39,7 +50,16 @@ pub extern "C" fn desk_expand(
     tokens: &mut [u8],
     answer: &mut [u8],
 ) -> u32
-    ensures { λ r. ⌜ ExpandCall (now (book .entry)) (now (list .entry)) (now (stack .entry)) (now (tokens .entry)) (now (answer .entry)) r (now (stack .exit)) (now (tokens .exit)) (now (answer .exit)) ⌝ }
+    ensures { λ r. ⌜ ExpandCall
+        (now (book .entry))
+        (now (list .entry))
+        (now (stack .entry))
+        (now (tokens .entry))
+        (now (answer .entry))
+        r
+        (now (stack .exit))
+        (now (tokens .exit))
+        (now (answer .exit)) ⌝ }
 {
     if answer.len() < ANSWER_SIZE {
         return ROOM;

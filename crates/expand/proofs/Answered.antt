@@ -5,45 +5,45 @@ use native.Mathlib.Omega.{arith}
 use Rattle.answers.specs.declared.Answer.{Answer}
 use Rattle.answers.specs.Answers.{done, stop, noSet}
 use Rattle.answers.specs.Refusals.{room, production, stackRoom, outputRoom}
-use Rattle.machine.specs.Machine.{full-stack}
-use Rattle.machine.specs.Expansion.{Course, Upshot, complete, unfit, full-output, Expansion, WithRoom, completes, misfits}
-use Rattle.machine.specs.Expansion as expansion
-use Rattle.expand.specs.Expanding.{answeredBy}
+use Rattle.machine.specs.Expansion.{Course, Expansion, WithRoom, completes, misfits}
+use Rattle.machine.specs.declared.Upshot.{Upshot}
+use Rattle.machine.specs.declared.Upshot.the-variants.{Finished, Unfit, FullStack, FullOutput}
+use Rattle.expand.specs.Expanding.{closing, answeredBy}
 
 -- how an expansion ended, and its answer
 pub data ToldBy (s : Course) : Upshot → Answer → Type 0 where
-  finished : ToldBy s complete (done (s .moves))
-  misfitting : ToldBy s unfit (stop production (s .used) 0 (s .moves) noSet)
-  out-of-stack : ToldBy s expansion.full-stack (stop room (s .used) stackRoom (s .moves) noSet)
-  out-of-output : ToldBy s full-output (stop room (s .used) outputRoom (s .moves) noSet)
+  finished : ToldBy s Finished (done (s .moves))
+  misfitting : ToldBy s Unfit (stop production (s .used) 0 (s .moves) noSet)
+  out-of-stack : ToldBy s FullStack (stop room (s .used) stackRoom (s .moves) noSet)
+  out-of-output : ToldBy s FullOutput (stop room (s .used) outputRoom (s .moves) noSet)
 
 pub told-by : (x : Expansion) → ToldBy (x .progress) (x .ending) (answeredBy x)
-unfolding answeredBy
+unfolding answeredBy closing
 told-by x = go (x .ending)
   where
     go : (e : Upshot) → ToldBy (x .progress) e (answeredBy (record { ending = e; progress = x .progress }))
-    go complete = finished
-    go unfit = misfitting
-    go expansion.full-stack = out-of-stack
-    go full-output = out-of-output
+    go Finished = finished
+    go Unfit = misfitting
+    go FullStack = out-of-stack
+    go FullOutput = out-of-output
 
-pub complete-done : (x : Expansion) → x .ending ≡ complete → answeredBy x ≡ done (x .progress .moves)
-unfolding answeredBy
+pub complete-done : (x : Expansion) → x .ending ≡ Finished → answeredBy x ≡ done (x .progress .moves)
+unfolding answeredBy closing
 complete-done x h = rw (h, answeredBy)
 
-pub unfit-refused : (x : Expansion) → x .ending ≡ unfit → answeredBy x ≡ stop production (x .progress .used) 0 (x .progress .moves) noSet
-unfolding answeredBy
+pub unfit-refused : (x : Expansion) → x .ending ≡ Unfit → answeredBy x ≡ stop production (x .progress .used) 0 (x .progress .moves) noSet
+unfolding answeredBy closing
 unfit-refused x h = rw (h, answeredBy)
 
 module _ {s : Course} where
-  pub told-complete : {e : Upshot} {a : Answer} → ToldBy s e a → a .number ≡ 0 → e ≡ complete
+  pub told-complete : {e : Upshot} {a : Answer} → ToldBy s e a → a .number ≡ 0 → e ≡ Finished
   unfolding stop
   told-complete finished h = refl
   told-complete misfitting h = absurd (omega arith)
   told-complete out-of-stack h = absurd (omega arith)
   told-complete out-of-output h = absurd (omega arith)
 
-  pub told-unfit : {e : Upshot} {a : Answer} → ToldBy s e a → a .number ≡ production → (e ≡ unfit) × (a .place ≡ s .used)
+  pub told-unfit : {e : Upshot} {a : Answer} → ToldBy s e a → a .number ≡ production → (e ≡ Unfit) × (a .place ≡ s .used)
   unfolding done stop
   told-unfit finished h = absurd (omega arith)
   told-unfit misfitting h = (refl, refl)

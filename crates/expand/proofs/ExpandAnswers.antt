@@ -1,5 +1,5 @@
 -- The answer of an expansion from what the code has for its end, and the outcome of a call.
-use mathlib.Core.Path.{_≡_, refl, sym, _∙_, ap, subst}
+use mathlib.Core.Path.{_≡_, sym, _∙_, ap, subst}
 use mathlib.Core.Logic.{_≢_}
 use mathlib.Core.List.{List}
 use Prim.Native.Nat.{ℕ, _+_, _^_, _≤_, _<_}
@@ -8,7 +8,7 @@ use lib.ListN.{length, replicate}
 use Rattle.grammar.specs.Grammar.{Grammar}
 use Rattle.sets.specs.Calls.{None}
 use Rattle.sets.specs.declared.Set.{Set}
-use Rattle.sets.proofs.Promise.{none-is}
+use Rattle.sets.proofs.Promise.{none-is, number-unique}
 use Rattle.answers.specs.Answers.{done, refusal, stop, noSet}
 use Rattle.answers.specs.Refusals.{limit, room, stackRoom}
 use Rattle.answers.specs.declared.Answer.{Answer}
@@ -17,30 +17,23 @@ use Rattle.book.specs.Judging.{Judged}
 use Rattle.book.specs.declared.Reading.{Reading}
 use Rattle.book.specs.Columns.{outlineIn, outlined}
 use Rattle.book.proofs.Promise.{judged-done, judged-refused, reading-grammar}
-use Rattle.machine.specs.Expansion.{expansion, Upshot, complete, unfit, full-stack, full-output, Expansion}
+use Rattle.machine.specs.Expansion.{expansion, Expansion}
+use Rattle.machine.specs.declared.Upshot.{Upshot}
+use Rattle.machine.specs.declared.Upshot.the-variants.{Finished}
 use Rattle.machine.proofs.Promise.{expand-steps}
-use Rattle.expand.specs.Expanding.{answeredBy, ExpandOutcome, refused, too-long, no-stack, ended}
-use Rattle.expand.specs.Turns.{finaleOf, unfolded, Unfolds, closing, ExpandedOn}
-use Rattle.expand.specs.declared.Finale.the-variants.{Complete}
-use Rattle.expand.specs.declared.Finale.{Finale}
+use Rattle.expand.specs.Expanding.{closing, answeredBy, ExpandOutcome, refused, too-long, no-stack, ended}
+use Rattle.expand.specs.Turns.{unfolded, Unfolds, ExpandedOn}
 use Rattle.expand.specs.declared.Unfolding.{Unfolding}
 
--- each finale has its answer
-pub closing-done : {f : Finale} (used steps : ℕ) {r : Answer} → r ≡ done steps → f ≡ Complete → r ≡ closing f used steps
+-- each way to end has its answer
+pub closing-done : {f : Upshot} (used steps : ℕ) {r : Answer} → r ≡ done steps → f ≡ Finished → r ≡ closing f used steps
 unfolding closing
 closing-done used steps h e = rw e h
 
-pub closing-stop : {f q : Finale} (number used detail steps : ℕ) {set : Set} {r : Answer} → r ≡ stop number used detail steps set → None set → f ≡ q → stop number used detail steps noSet ≡ closing q used steps → r ≡ closing f used steps
+pub closing-stop : {f q : Upshot} (number used detail steps : ℕ) {set : Set} {r : Answer} → r ≡ stop number used detail steps set → None set → f ≡ q → stop number used detail steps noSet ≡ closing q used steps → r ≡ closing f used steps
 closing-stop number used detail steps {set} h empty e same =
-    let none : set ≡ noSet = λ i. record { word = none-is empty i } in
+    let none : set ≡ noSet = number-unique (none-is empty) in
     h ∙ ap (stop number used detail steps) none ∙ rw e same
-
-answered-closing : (e : Expansion) (q : Upshot) → e .ending ≡ q → answeredBy e ≡ closing (finaleOf q) (e .progress .used) (e .progress .moves)
-unfolding answeredBy closing finaleOf
-answered-closing e complete f = rw (f, answeredBy)
-answered-closing e unfit f = rw (f, answeredBy)
-answered-closing e full-stack f = rw (f, answeredBy)
-answered-closing e full-output f = rw (f, answeredBy)
 
 module _ (g : Grammar) (list stack output : List ℕ) where
   abbrev end : Expansion
@@ -55,12 +48,12 @@ module _ {g : Grammar} {list stack output : List ℕ} {u : Unfolding} {stack′ 
       omega (arith, ap (λ (x : Unfolding). x .used) (h .answer), ap (λ (x : Unfolding). x .written) (h .answer), counts .used, counts .written)
 
   -- the steps answered, and the stack cleared
-  pub unfolds-answered : {r : Answer} {cells : List ℕ} → r ≡ closing (u .finale) (u .used) (u .used + u .written) → cells ≡ cleared stack′ → ExpandedOn g list stack output r cells output′
-  unfolding unfolded
+  pub unfolds-answered : {r : Answer} {cells : List ℕ} → r ≡ closing (u .upshot) (u .used) (u .used + u .written) → cells ≡ cleared stack′ → ExpandedOn g list stack output r cells output′
+  unfolding unfolded answeredBy
   unfolds-answered answer clears =
       let e : Expansion = end g list stack output in
       record {
-        answer = answer ∙ ap (λ (x : Unfolding). closing (x .finale) (x .used) (x .used + x .written)) (h .answer) ∙ ap (closing (finaleOf (e .ending)) (e .progress .used)) (sym (expand-steps g (counted stack) (counted output) list .moves)) ∙ sym (answered-closing e (e .ending) refl);
+        answer = answer ∙ ap (λ (x : Unfolding). closing (x .upshot) (x .used) (x .used + x .written)) (h .answer) ∙ ap (closing (e .ending) (e .progress .used)) (sym (expand-steps g (counted stack) (counted output) list .moves));
         stack-cells = clears ∙ ap (λ (n : ℕ). replicate n 0) (h .stack-length);
         output-cells = h .written;
       }

@@ -12,14 +12,14 @@ use Rattle.book.specs.declared.columns.Outline.{Outline}
 use Rattle.book.specs.Columns.{outlined, Lefts, IsOf}
 use Rattle.book.proofs.Promise.{is-of-rule, rule-is-of}
 use Rattle.machine.specs.Room.{isOf}
+use Rattle.machine.specs.declared.Upshot.{Upshot}
+use Rattle.machine.specs.declared.Upshot.the-variants.{Unfit, FullStack, FullOutput}
 use Rattle.machine.proofs.Promise.{fits-rule, rule-fits}
 use Rattle.stack.specs.Ahead.{aheadIn}
 use Rattle.stack.specs.declared.Ahead.the-variants.{Next, End}
 use Rattle.stack.specs.declared.Ahead.{Ahead}
 use Rattle.stack.proofs.Promise.{next-first, end-none}
 use Rattle.expand.specs.Turns.{emptied, Turns}
-use Rattle.expand.specs.declared.Finale.the-variants.{Unfit, NoStack, NoOutput}
-use Rattle.expand.specs.declared.Finale.{Finale}
 use Rattle.expand.specs.declared.Turn.the-variants.{Write, Apply, Close}
 
 -- what the column of left sides decides is whether the machine takes the production for one of A
@@ -35,7 +35,7 @@ is-of-fits book places o A p false column h = go (isOf (outlined book places o) 
     go false e = refl
 
 module _ {fits : ℕ → ℕ → Bool} {right : ℕ → Form} {room output : ℕ} {ps : List ℕ} {α : Form} {written : ℕ} where
-  pub turn-bottom : (a : Ahead) {f : Finale} → a ≡ aheadIn ps → α ≡ [] → f ≡ emptied a → Turns fits right room output ps α written (Close f)
+  pub turn-bottom : (a : Ahead) {f : Upshot} → a ≡ aheadIn ps → α ≡ [] → f ≡ emptied a → Turns fits right room output ps α written (Close f)
   turn-bottom (Next p) ahead e g = let (v, first) = next-first ps ahead refl in rw g (Turns.left-over e first)
   turn-bottom End ahead e g = rw g (Turns.finished e (end-none ps ahead refl))
 
@@ -43,7 +43,7 @@ module _ {fits : ℕ → ℕ → Bool} {right : ℕ → Form} {room output : ℕ
     pub turn-write : {t : ℕ} → x ≡ Token t → written < output → Turns fits right room output ps α written (Write t)
     turn-write e h = Turns.writes (stands ∙ ap (λ (y : Symbol). y ∷ β) e) h
 
-    pub turn-no-output : {t : ℕ} → x ≡ Token t → output ≤ written → Turns fits right room output ps α written (Close NoOutput)
+    pub turn-no-output : {t : ℕ} → x ≡ Token t → output ≤ written → Turns fits right room output ps α written (Close FullOutput)
     turn-no-output e h = Turns.no-output (stands ∙ ap (λ (y : Symbol). y ∷ β) e) h
 
     module _ {A : ℕ} {a : Ahead} (name : x ≡ Nonterminal A) (ahead : a ≡ aheadIn ps) where
@@ -53,7 +53,7 @@ module _ {fits : ℕ → ℕ → Bool} {right : ℕ → Form} {room output : ℕ
       pub turn-misfit : {p : ℕ} → a ≡ Next p → fits A p ≡ false → Turns fits right room output ps α written (Close Unfit)
       turn-misfit e f = let (v, first) = next-first ps ahead e in Turns.misfit (stands ∙ ap (λ (y : Symbol). y ∷ β) name) first f
 
-      pub turn-no-stack : {p : ℕ} → a ≡ Next p → fits A p ≡ true → room < length (right p ++ β) → Turns fits right room output ps α written (Close NoStack)
+      pub turn-no-stack : {p : ℕ} → a ≡ Next p → fits A p ≡ true → room < length (right p ++ β) → Turns fits right room output ps α written (Close FullStack)
       turn-no-stack e f h = let (v, first) = next-first ps ahead e in Turns.no-stack (stands ∙ ap (λ (y : Symbol). y ∷ β) name) first f h
 
       pub turn-apply : {p : ℕ} → a ≡ Next p → fits A p ≡ true → length (right p ++ β) ≤ room → Turns fits right room output ps α written (Apply p)

@@ -13,14 +13,15 @@ use Rattle.reader.specs.Fields.{formIn}
 use Rattle.reader.specs.Book.{byteOf}
 use Rattle.book.specs.Columns.{outlined, Lefts, Lengths}
 use Rattle.book.specs.declared.columns.Outline.{Outline}
-use Rattle.machine.specs.Expansion.{opened, expansion, Course, Upshot, complete, unfit, full-stack, full-output, Expansion, ended, wrote, applied, expandFrom}
+use Rattle.machine.specs.Expansion.{opened, expansion, Course, Expansion, ended, wrote, applied, expandFrom}
+use Rattle.machine.specs.declared.Upshot.{Upshot}
+use Rattle.machine.specs.declared.Upshot.the-variants.{Finished, Unfit, FullStack, FullOutput}
 use Rattle.machine.specs.Room.{rightOf, isOf}
 use Rattle.machine.proofs.Promise.{finished-is, left-over-is, too-short-is, misfit-is, no-stack-is, apply-is, no-output-is, write-is}
 use Rattle.stack.specs.Sides.{RightSide}
 use Rattle.stack.specs.Stack.{Spelled, stackBytes, spelledBy, stacked, replacing}
 use Rattle.stack.proofs.Promise.{right-side, replacing-fits, over-more, symbols-spelled, every-append, every-rest, length-symbols, spelled-stacked, stacked-pop, stacked-replace, length-stacked, stacked-open, nonterminal-spelled, length-over}
-use Rattle.expand.specs.Turns.{Turns, TurnAt, finaleOf, unfolded, Unfolds}
-use Rattle.expand.specs.declared.Finale.{Finale}
+use Rattle.expand.specs.Turns.{Turns, TurnAt, unfolded, Unfolds}
 use Rattle.expand.specs.declared.Turn.the-variants.{Write, Apply, Close}
 use Rattle.expand.specs.declared.Turn.{Turn}
 use Rattle.expand.specs.declared.Unfolding.{Unfolding}
@@ -203,31 +204,30 @@ module _ (book places : List ℕ) (o : Outline) (lefts lengths list stack₀ out
               }
 
       -- where no move is made
-      closes : (e : Upshot) {f : Finale} → f ≡ finaleOf e → runs (drop used list) (u .form) (u .progress) ≡ ended e (u .progress) → Unfolds (outlined book places o) list stack₀ output₀ (record { finale = f; used = used; written = written }) stack output
+      closes : (e : Upshot) → runs (drop used list) (u .form) (u .progress) ≡ ended e (u .progress) → Unfolds (outlined book places o) list stack₀ output₀ (record { upshot = e; used = used; written = written }) stack output
       unfolding unfolded ended
-      closes e f k =
+      closes e k =
           let last : whole ≡ ended e (u .progress) = sym (u .same) ∙ k in
           record {
-            answer = (λ i. record { finale = f i; used = u .used-is i; written = u .written-is i }) ∙ ap unfolded (sym last);
+            answer = (λ i. record { upshot = e; used = u .used-is i; written = u .written-is i }) ∙ ap unfolded (sym last);
             written = u .output-cells ∙ ap (λ (x : Expansion). over (x .progress .written) output₀) (sym last);
             stack-length = unrolled-stack;
             output-length = unrolled-output;
           }
 
-      pub unrolled-close : {f : Finale} → m ≡ Close f → Unfolds (outlined book places o) list stack₀ output₀ (record { finale = f; used = used; written = written }) stack output
-      unfolding finaleOf
+      pub unrolled-close : {f : Upshot} → m ≡ Close f → Unfolds (outlined book places o) list stack₀ output₀ (record { upshot = f; used = used; written = written }) stack output
       unrolled-close same = go (by-form same)
         where
           from : (ps : List ℕ) (α : Form) → drop used list ≡ ps → u .form ≡ α → {x : Expansion} → runs ps α (u .progress) ≡ x → runs (drop used list) (u .form) (u .progress) ≡ x
           from ps α f g h = rw (f, g) h
 
-          go : {f : Finale} → Turns fits right (counted stack₀) (counted output₀) (drop used list) (u .form) (length (u .progress .written)) (Close f) → Unfolds (outlined book places o) list stack₀ output₀ (record { finale = f; used = used; written = written }) stack output
-          go (Turns.finished e f) = closes complete refl (from _ _ f e (finished-is fits right (counted stack₀) (counted output₀) (u .progress)))
-          go (Turns.left-over {p = p} {qs = qs} e f) = closes unfit refl (from _ _ f e (left-over-is fits right (counted stack₀) (counted output₀) p qs (u .progress)))
-          go (Turns.too-short {A = A} {β = β} e f) = closes unfit refl (from _ _ f e (too-short-is fits right (counted stack₀) (counted output₀) A β (u .progress)))
-          go (Turns.misfit {A = A} {p = p} {β = β} {qs = qs} e f g) = closes unfit refl (from _ _ f e (misfit-is fits right (counted stack₀) (counted output₀) p A qs β (u .progress) g))
-          go (Turns.no-stack {A = A} {p = p} {β = β} {qs = qs} e f g h) = closes full-stack refl (from _ _ f e (no-stack-is fits right (counted stack₀) (counted output₀) p A qs β (u .progress) g h))
-          go (Turns.no-output {t = t} {β = β} e h) = closes full-output refl (from _ _ refl e (no-output-is fits right (counted stack₀) (counted output₀) t (drop used list) β (u .progress) h))
+          go : {f : Upshot} → Turns fits right (counted stack₀) (counted output₀) (drop used list) (u .form) (length (u .progress .written)) (Close f) → Unfolds (outlined book places o) list stack₀ output₀ (record { upshot = f; used = used; written = written }) stack output
+          go (Turns.finished e f) = closes Finished (from _ _ f e (finished-is fits right (counted stack₀) (counted output₀) (u .progress)))
+          go (Turns.left-over {p = p} {qs = qs} e f) = closes Unfit (from _ _ f e (left-over-is fits right (counted stack₀) (counted output₀) p qs (u .progress)))
+          go (Turns.too-short {A = A} {β = β} e f) = closes Unfit (from _ _ f e (too-short-is fits right (counted stack₀) (counted output₀) A β (u .progress)))
+          go (Turns.misfit {A = A} {p = p} {β = β} {qs = qs} e f g) = closes Unfit (from _ _ f e (misfit-is fits right (counted stack₀) (counted output₀) p A qs β (u .progress) g))
+          go (Turns.no-stack {A = A} {p = p} {β = β} {qs = qs} e f g h) = closes FullStack (from _ _ f e (no-stack-is fits right (counted stack₀) (counted output₀) p A qs β (u .progress) g h))
+          go (Turns.no-output {t = t} {β = β} e h) = closes FullOutput (from _ _ refl e (no-output-is fits right (counted stack₀) (counted output₀) t (drop used list) β (u .progress) h))
 
 -- that the start symbol is put on the stack changes no room
 pub unfolds-from : {g : Grammar} {list : List ℕ} (stack : List ℕ) (b : ℕ) {stack₀ output : List ℕ}

@@ -9,21 +9,39 @@ use Rattle.answers.specs.declared.Answer.{Answer}
 use Rattle.answers.specs.Answers.{done, refusal, stop, noSet}
 use Rattle.answers.specs.Refusals.{limit, room, production, stackRoom, outputRoom}
 use Rattle.answers.specs.Buffers.{over, counted, cleared}
+use Rattle.answers.specs.Limits.{longestList}
 use Rattle.book.specs.Judging.{Refuses, Serves}
-use Rattle.machine.specs.Expansion.{complete, unfit, full-stack, full-output, Expansion, expansion}
+use Rattle.machine.specs.Expansion.{Expansion, expansion}
+use Rattle.machine.specs.declared.Upshot.{Upshot}
+use Rattle.machine.specs.declared.Upshot.the-variants.{Finished, Unfit, FullStack, FullOutput}
 
--- the paper's number and values for each way to end
+-- the paper's number and values for each way to end, after so many productions used and steps
+unfoldable pub closing : Upshot → (used steps : ℕ) → Answer
+closing Finished used steps = done steps
+closing Unfit used steps = stop production used 0 steps noSet
+closing FullStack used steps = stop room used stackRoom steps noSet
+closing FullOutput used steps = stop room used outputRoom steps noSet
+
 unfoldable pub answeredBy : Expansion → Answer
-answeredBy e = elim (e .ending) [
-  | complete ↦ done (e .progress .moves)
-  | unfit ↦ stop production (e .progress .used) 0 (e .progress .moves) noSet
-  | full-stack ↦ stop room (e .progress .used) stackRoom (e .progress .moves) noSet
-  | full-output ↦ stop room (e .progress .used) outputRoom (e .progress .moves) noSet
-]
+answeredBy e = closing (e .ending) (e .progress .used) (e .progress .moves)
 
 -- an expansion: refused before steps, with nothing changed, or ended in them
 pub data ExpandOutcome (book list stack output : List ℕ) : Answer → List ℕ → List ℕ → Type 0 where
   refused : {a : Answer} → Refuses book a → ExpandOutcome book list stack output a stack output
-  too-long : {g : Grammar} → Serves book g → 65535 < length list → ExpandOutcome book list stack output (refusal limit 65535 0) stack output
-  no-stack : {g : Grammar} → Serves book g → length list ≤ 65535 → length stack ≡ 0 → ExpandOutcome book list stack output (refusal room 0 stackRoom) stack output
-  ended : {g : Grammar} → Serves book g → length list ≤ 65535 → 1 ≤ length stack → ExpandOutcome book list stack output (answeredBy (expansion g (counted stack) (counted output) list)) (cleared stack) (over (expansion g (counted stack) (counted output) list .progress .written) output)
+  too-long : {g : Grammar}
+      → Serves book g
+      → longestList < length list
+      → ExpandOutcome book list stack output (refusal limit longestList 0) stack output
+  no-stack : {g : Grammar}
+      → Serves book g
+      → length list ≤ longestList
+      → length stack ≡ 0
+      → ExpandOutcome book list stack output (refusal room 0 stackRoom) stack output
+  ended : {g : Grammar}
+      → Serves book g
+      → length list ≤ longestList
+      → 1 ≤ length stack
+      → ExpandOutcome book list stack output
+      (answeredBy (expansion g (counted stack) (counted output) list))
+      (cleared stack)
+      (over (expansion g (counted stack) (counted output) list .progress .written) output)

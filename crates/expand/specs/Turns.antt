@@ -7,40 +7,52 @@ use Prim.Native.Nat.{ℕ, _≤_, _<_}
 use lib.ListN.{length, drop}
 use Rattle.grammar.specs.Grammar.{Form, Grammar}
 use Rattle.grammar.specs.declared.Symbol.the-variants.{Token, Nonterminal}
-use Rattle.answers.specs.Answers.{done, stop, noSet}
-use Rattle.answers.specs.Refusals.{room, production, stackRoom, outputRoom}
 use Rattle.answers.specs.declared.Answer.{Answer}
 use Rattle.answers.specs.Buffers.{over, counted, cleared}
 use Rattle.book.specs.declared.columns.Outline.{Outline}
 use Rattle.book.specs.Columns.{outlined, Lefts, Lengths}
 use Rattle.machine.specs.Room.{isOf, rightOf}
-use Rattle.machine.specs.Expansion.{expansion, Upshot, complete, unfit, full-stack, full-output, Expansion}
+use Rattle.machine.specs.Expansion.{expansion, Expansion}
+use Rattle.machine.specs.declared.Upshot.{Upshot}
+use Rattle.machine.specs.declared.Upshot.the-variants.{Finished, Unfit, FullStack, FullOutput}
 use Rattle.stack.specs.Stack.{spelledBy}
 use Rattle.stack.specs.declared.Ahead.the-variants.{Next, End}
 use Rattle.stack.specs.declared.Ahead.{Ahead}
 use Rattle.expand.specs.Expanding.{answeredBy}
-use Rattle.expand.specs.declared.Finale.the-variants.{Complete, Unfit, NoStack, NoOutput}
-use Rattle.expand.specs.declared.Finale.{Finale}
 use Rattle.expand.specs.declared.Turn.the-variants.{Write, Apply, Close}
 use Rattle.expand.specs.declared.Turn.{Turn}
 use Rattle.expand.specs.declared.Unfolding.{Unfolding}
 
 -- an empty stack: no production may be left
-abbrev pub emptied : Ahead → Finale
+abbrev pub emptied : Ahead → Upshot
 emptied (Next p) = Unfit
-emptied End = Complete
+emptied End = Finished
 
 -- whether production p is one of A, its right side, and how many cells of stack and output count as room
 module _ (fits : ℕ → ℕ → Bool) (right : ℕ → Form) (cells output : ℕ) where
   -- with the productions ps left, the stack α and so many tokens written
   pub data Turns (ps : List ℕ) (α : Form) (written : ℕ) : Turn → Type 0 where
-    finished : α ≡ [] → ps ≡ [] → Turns ps α written (Close Complete)
+    finished : α ≡ [] → ps ≡ [] → Turns ps α written (Close Finished)
     left-over : {p : ℕ} {qs : List ℕ} → α ≡ [] → ps ≡ p ∷ qs → Turns ps α written (Close Unfit)
     too-short : {A : ℕ} {β : Form} → α ≡ Nonterminal A ∷ β → ps ≡ [] → Turns ps α written (Close Unfit)
-    misfit : {A p : ℕ} {β : Form} {qs : List ℕ} → α ≡ Nonterminal A ∷ β → ps ≡ p ∷ qs → fits A p ≡ false → Turns ps α written (Close Unfit)
-    no-stack : {A p : ℕ} {β : Form} {qs : List ℕ} → α ≡ Nonterminal A ∷ β → ps ≡ p ∷ qs → fits A p ≡ true → cells < length (right p ++ β) → Turns ps α written (Close NoStack)
-    applies : {A p : ℕ} {β : Form} {qs : List ℕ} → α ≡ Nonterminal A ∷ β → ps ≡ p ∷ qs → fits A p ≡ true → length (right p ++ β) ≤ cells → Turns ps α written (Apply p)
-    no-output : {t : ℕ} {β : Form} → α ≡ Token t ∷ β → output ≤ written → Turns ps α written (Close NoOutput)
+    misfit : {A p : ℕ} {β : Form} {qs : List ℕ}
+        → α ≡ Nonterminal A ∷ β
+        → ps ≡ p ∷ qs
+        → fits A p ≡ false
+        → Turns ps α written (Close Unfit)
+    no-stack : {A p : ℕ} {β : Form} {qs : List ℕ}
+        → α ≡ Nonterminal A ∷ β
+        → ps ≡ p ∷ qs
+        → fits A p ≡ true
+        → cells < length (right p ++ β)
+        → Turns ps α written (Close FullStack)
+    applies : {A p : ℕ} {β : Form} {qs : List ℕ}
+        → α ≡ Nonterminal A ∷ β
+        → ps ≡ p ∷ qs
+        → fits A p ≡ true
+        → length (right p ++ β) ≤ cells
+        → Turns ps α written (Apply p)
+    no-output : {t : ℕ} {β : Form} → α ≡ Token t ∷ β → output ≤ written → Turns ps α written (Close FullOutput)
     writes : {t : ℕ} {β : Form} → α ≡ Token t ∷ β → written < output → Turns ps α written (Write t)
 
 -- what is done next with the first cells of the stack in use, so many productions of the list used, and so many tokens
@@ -60,14 +72,8 @@ pub record TurnAt (lefts lengths : List ℕ) (o : Outline) (list : List ℕ) (us
       written
       r
 
-unfoldable pub finaleOf : Upshot → Finale
-finaleOf complete = Complete
-finaleOf unfit = Unfit
-finaleOf full-stack = NoStack
-finaleOf full-output = NoOutput
-
 unfoldable pub unfolded : Expansion → Unfolding
-unfolded e = record { finale = finaleOf (e .ending); used = e .progress .used; written = length (e .progress .written) }
+unfolded e = record { upshot = e .ending; used = e .progress .used; written = length (e .progress .written) }
 
 -- steps made from the start, before the stack is cleared
 pub record Unfolds (g : Grammar) (list stack output : List ℕ) (r : Unfolding) (stack′ output′ : List ℕ) : Type 0 where
@@ -75,13 +81,6 @@ pub record Unfolds (g : Grammar) (list stack output : List ℕ) (r : Unfolding) 
   pub written : output′ ≡ over (expansion g (counted stack) (counted output) list .progress .written) output
   pub stack-length : length stack′ ≡ length stack
   pub output-length : length output′ ≡ length output
-
--- the paper's number and values for each finale
-unfoldable pub closing : Finale → (used steps : ℕ) → Answer
-closing Complete used steps = done steps
-closing Unfit used steps = stop production used 0 steps noSet
-closing NoStack used steps = stop room used stackRoom steps noSet
-closing NoOutput used steps = stop room used outputRoom steps noSet
 
 -- steps made and answered, and the stack cleared
 pub record ExpandedOn (g : Grammar) (list stack output : List ℕ) (r : Answer) (stack′ output′ : List ℕ) : Type 0 where

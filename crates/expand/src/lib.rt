@@ -3,8 +3,8 @@ ghost use mathlib.Core.Path.{_≡_};
 ghost use Prim.Native.Nat.{_+_, _^_, _≤_, _<_};
 ghost use lib.ListN.{length};
 ghost use Rattle.book.specs.Columns.{outlined, Lefts, Lengths};
-ghost use Rattle.expand.specs.Turns.{Unfolds, closing, ExpandedOn};
-ghost use Rattle.expand.specs.Expanding.{ExpandOutcome};
+ghost use Rattle.expand.specs.Expanding.{closing, ExpandOutcome};
+ghost use Rattle.expand.specs.Turns.{Unfolds, ExpandedOn};
 use crate::turns::turn_at;
 use answers::Answer;
 use answers::done;
@@ -23,6 +23,7 @@ use book::columns::gather_lengths;
 use book::columns::gathered;
 use book::columns::outline_of;
 use book::judging::judge;
+use machine::Upshot;
 use reader::fields::place_at;
 use sets::none;
 use stack::clear;
@@ -32,24 +33,16 @@ use stack::replace;
 
 mod turns;
 
-// How an expansion ends: complete, by a list that does not fit, or for want of stack or output.
-pub(crate) enum Finale {
-    Complete,
-    Unfit,
-    NoStack,
-    NoOutput,
-}
-
 // What an expansion does next: a token is written, a production is used, or it ends.
 pub(crate) enum Turn {
     Write(u8),
     Apply(u8),
-    Close(Finale),
+    Close(Upshot),
 }
 
 // An expansion that has ended, with the productions used and the tokens written.
 pub(crate) struct Unfolding {
-    pub finale: Finale,
+    pub upshot: Upshot,
     pub used: usize,
     pub written: usize,
 }
@@ -65,8 +58,17 @@ fn unfold_all(
     stack: &mut [u8],
     output: &mut [u8],
 ) -> Unfolding
-    requires { ⌜ (1 ≤ length (now stack)) × Lefts (now book) (now places) outline (now lefts) × Lengths (now book) (now places) outline (now lengths) ⌝ }
-    ensures { λ r. ⌜ Unfolds (outlined (now (book .entry)) (now (places .entry)) outline) (now (list .entry)) (now (stack .entry)) (now (output .entry)) r (now (stack .exit)) (now (output .exit)) ⌝ }
+    requires { ⌜ (1 ≤ length (now stack))
+        × Lefts (now book) (now places) outline (now lefts)
+        × Lengths (now book) (now places) outline (now lengths) ⌝ }
+    ensures { λ r. ⌜ Unfolds
+        (outlined (now (book .entry)) (now (places .entry)) outline)
+        (now (list .entry))
+        (now (stack .entry))
+        (now (output .entry))
+        r
+        (now (stack .exit))
+        (now (output .exit)) ⌝ }
 {
     put_start(stack, outline.start);
     let cells = counts(output.len());
@@ -99,9 +101,9 @@ fn unfold_all(
                 height = below + count as usize;
                 used += 1;
             }
-            Turn::Close(finale) => {
+            Turn::Close(upshot) => {
                 return Unfolding {
-                    finale,
+                    upshot,
                     used,
                     written,
                 };
@@ -113,16 +115,16 @@ fn unfold_all(
 // The answer to an expansion that has ended.
 fn answer_to(u: Unfolding) -> Answer
     requires { ⌜ u .used + u .written < 2 ^ 64 ⌝ }
-    ensures { λ r. ⌜ r ≡ closing (u .finale) (u .used) (u .used + u .written) ⌝ }
+    ensures { λ r. ⌜ r ≡ closing (u .upshot) (u .used) (u .used + u .written) ⌝ }
 {
-    let finale = u.finale;
+    let upshot = u.upshot;
     let used = u.used as u64;
     let steps = used + u.written as u64;
-    match finale {
-        Finale::Complete => done(steps),
-        Finale::Unfit => stop(PRODUCTION, used, 0, steps, none()),
-        Finale::NoStack => stop(ROOM, used, STACK_ROOM, steps, none()),
-        Finale::NoOutput => stop(ROOM, used, OUTPUT_ROOM, steps, none()),
+    match upshot {
+        Upshot::Finished => done(steps),
+        Upshot::Unfit => stop(PRODUCTION, used, 0, steps, none()),
+        Upshot::FullStack => stop(ROOM, used, STACK_ROOM, steps, none()),
+        Upshot::FullOutput => stop(ROOM, used, OUTPUT_ROOM, steps, none()),
     }
 }
 
@@ -136,7 +138,14 @@ fn expand_on(
     output: &mut [u8],
 ) -> Answer
     requires { ⌜ 1 ≤ length (now stack) ⌝ }
-    ensures { λ r. ⌜ ExpandedOn (outlined (now (book .entry)) (now (places .entry)) outline) (now (list .entry)) (now (stack .entry)) (now (output .entry)) r (now (stack .exit)) (now (output .exit)) ⌝ }
+    ensures { λ r. ⌜ ExpandedOn
+        (outlined (now (book .entry)) (now (places .entry)) outline)
+        (now (list .entry))
+        (now (stack .entry))
+        (now (output .entry))
+        r
+        (now (stack .exit))
+        (now (output .exit)) ⌝ }
 {
     let lefts = gather_lefts(book, places, outline);
     let lengths = gather_lengths(book, places, outline);
@@ -147,7 +156,14 @@ fn expand_on(
 
 // A list of productions expanded to the tokens that it derives.
 pub fn expand(book: &[u8], list: &[u8], stack: &mut [u8], output: &mut [u8]) -> Answer
-    ensures { λ r. ⌜ ExpandOutcome (now (book .entry)) (now (list .entry)) (now (stack .entry)) (now (output .entry)) r (now (stack .exit)) (now (output .exit)) ⌝ }
+    ensures { λ r. ⌜ ExpandOutcome
+        (now (book .entry))
+        (now (list .entry))
+        (now (stack .entry))
+        (now (output .entry))
+        r
+        (now (stack .exit))
+        (now (output .exit)) ⌝ }
 {
     let reading = judge(book);
     let judged = reading.answer;

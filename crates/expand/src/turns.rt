@@ -3,28 +3,29 @@ ghost use mathlib.Core.Path.{_≡_};
 ghost use Prim.Native.Nat.{_≤_};
 ghost use lib.ListN.{length};
 ghost use Rattle.expand.specs.Turns.{emptied, TurnAt};
-use crate::Finale;
 use crate::Turn;
 use book::columns::Outline;
 use book::columns::gathered;
 use book::columns::is_of;
 use grammar::Symbol;
+use machine::Upshot;
 use reader::fields::symbol_of;
 use stack::Ahead;
 use stack::ahead_of;
 use stack::counts;
 
 // How an expansion ends where the stack is empty.
-fn at_bottom(ahead: Ahead) -> Finale
+fn at_bottom(ahead: Ahead) -> Upshot
     ensures { λ r. ⌜ r ≡ emptied ahead ⌝ }
 {
     match ahead {
-        Ahead::Next(_) => Finale::Unfit,
-        Ahead::End => Finale::Complete,
+        Ahead::Next(_) => Upshot::Unfit,
+        Ahead::End => Upshot::Finished,
     }
 }
 
-// What is done next with the first `height` cells of the stack in use, `used` productions of the list and `written` of the output's `cells`.
+// What is done next with the first `height` cells of the stack in use, `used` productions of the list and `written` of
+// the output's `cells`.
 pub(crate) fn turn_at(
     lefts: &[u8],
     lengths: &[u8],
@@ -59,7 +60,7 @@ pub(crate) fn turn_at(
             if written < cells {
                 Turn::Write(t)
             } else {
-                Turn::Close(Finale::NoOutput)
+                Turn::Close(Upshot::FullOutput)
             }
         }
         Symbol::Nonterminal(n) => {
@@ -67,14 +68,14 @@ pub(crate) fn turn_at(
             match ahead {
                 Ahead::Next(p) => {
                     if !is_of(lefts, outline, n, p) {
-                        Turn::Close(Finale::Unfit)
+                        Turn::Close(Upshot::Unfit)
                     } else if counts(stack.len()) < below + gathered(lengths, p) as usize {
-                        Turn::Close(Finale::NoStack)
+                        Turn::Close(Upshot::FullStack)
                     } else {
                         Turn::Apply(p)
                     }
                 }
-                Ahead::End => Turn::Close(Finale::Unfit),
+                Ahead::End => Turn::Close(Upshot::Unfit),
             }
         }
     }

@@ -7,7 +7,8 @@ use native.Mathlib.Omega.{arith}
 use lib.ListN.{length, length-append}
 use Rattle.grammar.specs.Grammar.{Form, Column, token, endmark}
 use Rattle.grammar.specs.Machine.{front}
-use Rattle.machine.specs.Machine.{State, Reason, Offered, taken, stopped, begun, popped, replaced, offer, runFrom}
+use Rattle.machine.specs.Machine.{State, Offered, taken, stopped, begun, popped, replaced, offer, runFrom}
+use Rattle.machine.specs.declared.Reason.{Reason}
 use Rattle.machine.proofs.Walk.{final, Walk, here, match, expand, Halt, accepts, left-over, unmatched, vacant, list-full, stack-full, Walked, ComesTo, goes-on, ends}
 use Rattle.machine.proofs.Agreement.{walk-lists, offer-answers, ran}
 

@@ -8,7 +8,9 @@ use native.Mathlib.Omega.{arith}
 use borrow.Author.Tests.{eqb-true, eq-eqb}
 use lib.ListN.{length, length-append, getElem?}
 use Rattle.grammar.specs.Grammar.{Form, Production, Grammar, Rule, Leftmost, done, shift, expand}
-use Rattle.machine.specs.Expansion.{Course, Upshot, complete, wrote, applied}
+use Rattle.machine.specs.Expansion.{Course, wrote, applied}
+use Rattle.machine.specs.declared.Upshot.{Upshot}
+use Rattle.machine.specs.declared.Upshot.the-variants.{Finished}
 use Rattle.machine.specs.Room.{rightOf, isOf, peak}
 use Rattle.machine.proofs.ExpandTrace.{Expands, finished, misfit, no-output, no-stack, write, apply}
 use Rattle.machine.proofs.ExpandPeak.{Moved, moved}
@@ -50,7 +52,7 @@ module _ {g : Grammar} where
 
   module _ {room output : ℕ} where
     -- a complete expansion is a leftmost derivation of what it wrote
-    pub complete-derives : {ps : List ℕ} {α : Form} {s s′ : Course} → Expands (isOf g) (rightOf g) room output ps α s complete s′ → DerivedBy g ps α s s′
+    pub complete-derives : {ps : List ℕ} {α : Form} {s s′ : Course} → Expands (isOf g) (rightOf g) room output ps α s Finished s′ → DerivedBy g ps α s s′
     unfolding wrote applied
     complete-derives {s = s} finished = record { string = []; derivation = done; written = sym (append-nil (s .written)); used = omega arith }
     complete-derives {s = s} (write {t = t} f r) =
@@ -61,7 +63,7 @@ module _ {g : Grammar} where
         record { string = d .string; derivation = expand (fits-rule p A f) (d .derivation); written = d .written; used = omega arith }
 
     -- its stack was as high as the derivation's greatest height
-    pub complete-height : {ps w : List ℕ} {α : Form} {s s′ : Course} → Expands (isOf g) (rightOf g) room output ps α s complete s′ → (d : Leftmost g α ps w) → length α ≤ s .height → s′ .height ≡ max (s .height) (peak d)
+    pub complete-height : {ps w : List ℕ} {α : Form} {s s′ : Course} → Expands (isOf g) (rightOf g) room output ps α s Finished s′ → (d : Leftmost g α ps w) → length α ≤ s .height → s′ .height ≡ max (s .height) (peak d)
     unfolding wrote applied peak
     complete-height finished done h = omega arith
     complete-height (write f r) (shift d) h = omega (arith, complete-height r d (omega arith))
@@ -70,7 +72,7 @@ module _ {g : Grammar} where
         omega (arith, complete-height r (m .derivation) (omega arith), peak-form (m .derivation), m .as-high)
 
     -- with room it follows a derivation to its end
-    pub room-complete : {ps w : List ℕ} {α : Form} {s s′ : Course} {e : Upshot} → Expands (isOf g) (rightOf g) room output ps α s e s′ → (d : Leftmost g α ps w) → peak d ≤ room → length (s .written) + length w ≤ output → e ≡ complete
+    pub room-complete : {ps w : List ℕ} {α : Form} {s s′ : Course} {e : Upshot} → Expands (isOf g) (rightOf g) room output ps α s e s′ → (d : Leftmost g α ps w) → peak d ≤ room → length (s .written) + length w ≤ output → e ≡ Finished
     unfolding wrote applied peak
     room-complete finished done h k = refl
     room-complete (misfit f) (expand l d) h k = absurd (misfit-no-rule f l)

@@ -12,7 +12,8 @@ use Rattle.grammar.specs.Grammar.{Form, spelled, Grammar, Leftmost, expand, Pro
 use Rattle.grammar.proofs.Leftmost.{derives-leftmost}
 use Rattle.grammar.proofs.Useful.{names-from, Ends, names-end}
 use Rattle.grammar.proofs.Place.{behind-reachable}
-use Rattle.machine.specs.Expansion.{Course, unfit, wrote, applied}
+use Rattle.machine.specs.Expansion.{Course, wrote, applied}
+use Rattle.machine.specs.declared.Upshot.the-variants.{Unfit}
 use Rattle.machine.specs.Room.{rightOf, isOf, BeginsList, LongestList}
 use Rattle.machine.proofs.ExpandTrace.{Expands, left-over, too-short, misfit, write, apply}
 use Rattle.machine.proofs.ExpandPasses as beginning
@@ -54,7 +55,7 @@ module _ {g : Grammar} where
         used = omega arith;
       }
 
-  pub unfit-stuck : {room output : ℕ} {ps : List ℕ} {α : Form} {s s′ : Course} → Expands (isOf g) (rightOf g) room output ps α s unfit s′ → Stuck g ps α s s′
+  pub unfit-stuck : {room output : ℕ} {ps : List ℕ} {α : Form} {s s′ : Course} → Expands (isOf g) (rightOf g) room output ps α s Unfit s′ → Stuck g ps α s s′
   unfolding wrote applied
   unfit-stuck left-over = at-once no-stack
   unfit-stuck too-short = at-once no-rest

@@ -8,7 +8,9 @@ use Rattle.grammar.specs.declared.Symbol.the-variants.{Nonterminal}
 use Rattle.grammar.specs.Grammar.{Form, spelled, Grammar, LeftmostSteps, leftmost}
 use Rattle.grammar.specs.Grammar as chain
 use Rattle.grammar.proofs.Leftmost.{spelled-append}
-use Rattle.machine.specs.Expansion.{Course, Upshot, full-stack, full-output, wrote, applied, opened, expansion}
+use Rattle.machine.specs.Expansion.{Course, wrote, applied, opened, expansion}
+use Rattle.machine.specs.declared.Upshot.{Upshot}
+use Rattle.machine.specs.declared.Upshot.the-variants.{FullStack, FullOutput}
 use Rattle.machine.specs.Room.{rightOf, isOf}
 use Rattle.machine.specs.Stopping.{Midway, Lacks, lacks-stack, lacks-output}
 use Rattle.machine.proofs.ExpandTrace.{Expands, no-output, no-stack, write, apply, traced}
@@ -39,8 +41,8 @@ record Stops (g : Grammar) (cells output : ℕ) (ps : List ℕ) (α : Form) (s s
 
 -- the endings for want of room
 pub data WantsRoom : Upshot → Type 0 where
-  wants-stack : WantsRoom full-stack
-  wants-output : WantsRoom full-output
+  wants-stack : WantsRoom FullStack
+  wants-output : WantsRoom FullOutput
 
 module _ {g : Grammar} {cells output : ℕ} where
   at-once : {ps : List ℕ} {α : Form} {s : Course} {e : Upshot}

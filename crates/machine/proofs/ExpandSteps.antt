@@ -6,7 +6,8 @@ use Prim.Native.Nat.{ℕ, suc, _+_, _≤_}
 use native.Mathlib.Omega.{arith}
 use lib.ListN.{length, length-append}
 use Rattle.grammar.specs.Grammar.{Form}
-use Rattle.machine.specs.Expansion.{Course, Upshot, wrote, applied, opened, Spent, WithRoom, completes, misfits}
+use Rattle.machine.specs.Expansion.{Course, wrote, applied, opened, Spent, WithRoom, completes, misfits}
+use Rattle.machine.specs.declared.Upshot.{Upshot}
 use Rattle.machine.proofs.ExpandTrace.{Expands, finished, left-over, too-short, misfit, no-output, no-stack, write, apply}
 
 -- how many symbols the productions have on their right sides together

@@ -9,7 +9,8 @@ use lib.ListN.{length}
 use Rattle.grammar.specs.declared.Symbol.the-variants.{Nonterminal}
 use Rattle.grammar.specs.Grammar.{Form, Grammar, Complete, WellFormed, Useful}
 use Rattle.grammar.proofs.Useful.{useful-all}
-use Rattle.machine.specs.Expansion.{Course, complete, unfit, ended, expandFrom, opened, expansion, Spent, WithRoom}
+use Rattle.machine.specs.Expansion.{Course, ended, expandFrom, opened, expansion, Spent, WithRoom}
+use Rattle.machine.specs.declared.Upshot.the-variants.{Finished, Unfit}
 use Rattle.machine.specs.Room.{rightOf, isOf, peak, LongestList}
 use Rattle.machine.proofs.ExpandTrace.{traced}
 use Rattle.machine.proofs.ExpandSteps.{symbols, counted-end, counted-whole, written-grows, room-enough}
@@ -37,7 +38,7 @@ module _ (g : Grammar) (room output : ℕ) (ps : List ℕ) where
   expand-steps = counted-whole (traced (isOf g) (rightOf g) room output ps (Nonterminal (g .start) ∷ []) opened)
 
   -- done only for a list that is a leftmost derivation of the output
-  pub expand-sound : expansion g room output ps .ending ≡ complete
+  pub expand-sound : expansion g room output ps .ending ≡ Finished
       → Complete g ps (expansion g room output ps .progress .written) ×
       (expansion g room output ps .progress .used ≡ length ps)
   expand-sound h = whole-sound (whole-to g room output ps h)
@@ -46,42 +47,42 @@ module _ (g : Grammar) (room output : ℕ) (ps : List ℕ) where
   pub expand-complete : {w : List ℕ} (d : Complete g ps w)
       → peak d ≤ room
       → length w ≤ output
-      → expansion g room output ps ≡ ended complete
+      → expansion g room output ps ≡ ended Finished
       (record { written = w; used = length ps; moves = length ps + length w; height = peak d })
   expand-complete d h k = let e = whole-complete (whole g room output ps) d h k in ended-path e (whole-progress (whole-to g room output ps e) d)
 
   -- a list that does not fit is no complete list
-  pub expand-unfit : expansion g room output ps .ending ≡ unfit → {w : List ℕ} → ¬ Complete g ps w
+  pub expand-unfit : expansion g room output ps .ending ≡ Unfit → {w : List ℕ} → ¬ Complete g ps w
   expand-unfit h d = whole-unfit (whole-to g room output ps h) d
 
   -- with room it is complete exactly if the list is complete
   pub expand-exact : WithRoom (expansion g room output ps .ending)
-      → (expansion g room output ps .ending ≡ complete) ↔ ((w : List ℕ) × Complete g ps w)
+      → (expansion g room output ps .ending ≡ Finished) ↔ ((w : List ℕ) × Complete g ps w)
   expand-exact r =
       (λ h. (expansion g room output ps .progress .written, expand-sound h .0), λ d. whole-exact r (whole g room output ps) (d .1))
 
   -- and then of the output
   pub expand-exact-output : WithRoom (expansion g room output ps .ending)
-      → (expansion g room output ps .ending ≡ complete) ↔ Complete g ps (expansion g room output ps .progress .written)
+      → (expansion g room output ps .ending ≡ Finished) ↔ Complete g ps (expansion g room output ps .progress .written)
   expand-exact-output r = (λ h. expand-sound h .0, λ d. whole-exact r (whole g room output ps) d)
 
   -- and unfit exactly if it is complete of no string
   pub expand-refuses : WithRoom (expansion g room output ps .ending)
-      → (expansion g room output ps .ending ≡ unfit) ↔ ((w : List ℕ) → ¬ Complete g ps w)
+      → (expansion g room output ps .ending ≡ Unfit) ↔ ((w : List ℕ) → ¬ Complete g ps w)
   expand-refuses r = (λ h w d. expand-unfit h d, λ n. whole-refuses r (whole g room output ps) n)
 
   -- where it is unfit, what it has used is the longest beginning of the list that some complete list shares
   pub expand-place : WellFormed g
       → ((A : ℕ) → A < g .nonterminals → Useful g A)
-      → expansion g room output ps .ending ≡ unfit
+      → expansion g room output ps .ending ≡ Unfit
       → LongestList g ps (expansion g room output ps .progress .used)
   expand-place well useful h = whole-longest (useful-all well useful) (whole-to g room output ps h)
 
   -- a complete list is refused only for room, and exactly if stack or output is too short for it
   pub expand-room : {w : List ℕ} (d : Complete g ps w)
       → 1 ≤ room
-      → (expansion g room output ps .ending ≢ unfit) ×
-      ((expansion g room output ps .ending ≡ complete) ↔ ((peak d ≤ room) × (length w ≤ output)))
+      → (expansion g room output ps .ending ≢ Unfit) ×
+      ((expansion g room output ps .ending ≡ Finished) ↔ ((peak d ≤ room) × (length w ≤ output)))
   expand-room d h =
       (λ e. expand-unfit e d, (λ e. whole-within (whole-to g room output ps e) h d, λ k. whole-complete (whole g room output ps) d (k .0) (k .1)))
 

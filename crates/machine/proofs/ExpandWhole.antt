@@ -7,7 +7,9 @@ use lib.ListN.{length}
 use Rattle.grammar.specs.declared.Symbol.the-variants.{Nonterminal}
 use Rattle.grammar.specs.Grammar.{Grammar, Complete, Productive, Reachable}
 use Rattle.grammar.proofs.Leftmost.{list-string}
-use Rattle.machine.specs.Expansion.{Course, Upshot, complete, unfit, ended, Expansion, opened, expansion, WithRoom, completes, misfits}
+use Rattle.machine.specs.Expansion.{Course, ended, Expansion, opened, expansion, WithRoom, completes, misfits}
+use Rattle.machine.specs.declared.Upshot.{Upshot}
+use Rattle.machine.specs.declared.Upshot.the-variants.{Finished, Unfit}
 use Rattle.machine.specs.Room.{rightOf, isOf, peak, LongestList}
 use Rattle.machine.proofs.ExpandTrace.{Expands, traced}
 use Rattle.machine.proofs.ExpandSteps.{counted-whole}
@@ -28,11 +30,11 @@ ended-path h k = λ i. record { ending = h i; progress = k i }
 
 module _ {g : Grammar} {room output : ℕ} {ps : List ℕ} where
   module _ {s : Course} where
-    pub whole-sound : Whole g room output ps complete s → Complete g ps (s .written) × (s .used ≡ length ps)
+    pub whole-sound : Whole g room output ps Finished s → Complete g ps (s .written) × (s .used ≡ length ps)
     unfolding opened
     whole-sound r = let d = complete-derives r in (rw (d .written) (d .derivation), omega (arith, d .used))
 
-    pub whole-progress : Whole g room output ps complete s → {w : List ℕ} (d : Complete g ps w) → s ≡ record { written = w; used = length ps; moves = length ps + length w; height = peak d }
+    pub whole-progress : Whole g room output ps Finished s → {w : List ℕ} (d : Complete g ps w) → s ≡ record { written = w; used = length ps; moves = length ps + length w; height = peak d }
     unfolding opened
     whole-progress r d =
         let (e, u) = whole-sound r in
@@ -40,29 +42,29 @@ module _ {g : Grammar} {room output : ℕ} {ps : List ℕ} where
         let same : s .written ≡ _ = list-string e d in
         progress-path same u (omega (arith, ap length same)) (omega (arith, complete-height r d (omega arith), peak-form d))
 
-    pub whole-within : Whole g room output ps complete s → 1 ≤ room → {w : List ℕ} (d : Complete g ps w) → (peak d ≤ room) × (length w ≤ output)
+    pub whole-within : Whole g room output ps Finished s → 1 ≤ room → {w : List ℕ} (d : Complete g ps w) → (peak d ≤ room) × (length w ≤ output)
     whole-within r h d =
         let e = whole-progress r d in
         let c = counted-whole r in
         (omega (arith, ap (λ (x : Course). x .height) e), omega (arith, ap (λ (x : Course). length (x .written)) e))
 
-    pub whole-unfit : Whole g room output ps unfit s → {w : List ℕ} → ¬ Complete g ps w
+    pub whole-unfit : Whole g room output ps Unfit s → {w : List ℕ} → ¬ Complete g ps w
     whole-unfit r d = stuck-incomplete (unfit-stuck r) d
 
-    pub whole-longest : ((A : ℕ) → Reachable g A → Productive g A) → Whole g room output ps unfit s → LongestList g ps (s .used)
+    pub whole-longest : ((A : ℕ) → Reachable g A → Productive g A) → Whole g room output ps Unfit s → LongestList g ps (s .used)
     unfolding opened
     whole-longest productive r = stuck-longest productive (unfit-stuck r) refl
 
-  pub whole-complete : {e : Upshot} {s : Course} → Whole g room output ps e s → {w : List ℕ} (d : Complete g ps w) → peak d ≤ room → length w ≤ output → e ≡ complete
+  pub whole-complete : {e : Upshot} {s : Course} → Whole g room output ps e s → {w : List ℕ} (d : Complete g ps w) → peak d ≤ room → length w ≤ output → e ≡ Finished
   unfolding opened
   whole-complete r d h k = room-complete r d h (omega arith)
 
   -- with room: complete for a complete list, unfit for any other
-  pub whole-exact : {e : Upshot} {s : Course} {w : List ℕ} → WithRoom e → Whole g room output ps e s → Complete g ps w → e ≡ complete
+  pub whole-exact : {e : Upshot} {s : Course} {w : List ℕ} → WithRoom e → Whole g room output ps e s → Complete g ps w → e ≡ Finished
   whole-exact completes r d = refl
   whole-exact misfits r d = absurd (whole-unfit r d)
 
-  pub whole-refuses : {e : Upshot} {s : Course} → WithRoom e → Whole g room output ps e s → ((w : List ℕ) → ¬ Complete g ps w) → e ≡ unfit
+  pub whole-refuses : {e : Upshot} {s : Course} → WithRoom e → Whole g room output ps e s → ((w : List ℕ) → ¬ Complete g ps w) → e ≡ Unfit
   whole-refuses completes r n = absurd (n _ (whole-sound r .0))
   whole-refuses misfits r n = refl
 

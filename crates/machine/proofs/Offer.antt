@@ -11,7 +11,9 @@ use borrow.Author.Tests.{le-leb, lt-leb, eq-eqb, ne-eqb}
 use Rattle.grammar.specs.declared.Symbol.the-variants.{Token, Nonterminal}
 use Rattle.grammar.specs.Grammar.{Form, Column, token, endmark}
 use Rattle.grammar.specs.Machine.{front}
-use Rattle.machine.specs.Machine.{State, Reason, full-list, full-stack, wants-end, wants-token, wants-row, Offered, taken, stopped, popped, replaced, meets, used, facing, offer, runFrom}
+use Rattle.machine.specs.Machine.{State, Offered, taken, stopped, popped, replaced, meets, used, facing, offer, runFrom}
+use Rattle.machine.specs.declared.Reason.{Reason}
+use Rattle.machine.specs.declared.Reason.the-variants.{FullList, FullStack, WantsEnd, WantsToken, WantsRow}
 use Rattle.machine.proofs.Walk.{Halt, accepts, left-over, unmatched, vacant, list-full, stack-full}
 
 meets-same : (t : ℕ) → meets (token t) t ≡ true
@@ -34,7 +36,7 @@ module _ (right : ℕ → Form) (cell : ℕ → Column → Option ℕ) (room cel
   unfolding facing
   face-end apply s e f = rw (e, f)
 
-  face-left-over : (apply : ℕ → Form → Offered) {c : Column} (s : State) {t : ℕ} {σ : Form} → σ ≡ [] → c ≡ token t → faces apply c s σ ≡ stopped wants-end s
+  face-left-over : (apply : ℕ → Form → Offered) {c : Column} (s : State) {t : ℕ} {σ : Form} → σ ≡ [] → c ≡ token t → faces apply c s σ ≡ stopped WantsEnd s
   unfolding facing
   face-left-over apply s e f = rw (e, f)
 
@@ -42,11 +44,11 @@ module _ (right : ℕ → Form) (cell : ℕ → Column → Option ℕ) (room cel
   unfolding facing
   face-match apply s {t} e = rw (e, meets-same t, facing)
 
-  face-unmatched : (apply : ℕ → Form → Offered) {c : Column} (s : State) {t : ℕ} {α σ : Form} → σ ≡ Token t ∷ α → c ≢ token t → faces apply c s σ ≡ stopped (wants-token t) s
+  face-unmatched : (apply : ℕ → Form → Offered) {c : Column} (s : State) {t : ℕ} {α σ : Form} → σ ≡ Token t ∷ α → c ≢ token t → faces apply c s σ ≡ stopped (WantsToken t) s
   unfolding facing
   face-unmatched apply {c} s {t} e n = rw (e, meets-other c t n, facing)
 
-  face-vacant : (apply : ℕ → Form → Offered) {c : Column} (s : State) {A : ℕ} {α σ : Form} → σ ≡ Nonterminal A ∷ α → cell A c ≡ none → faces apply c s σ ≡ stopped (wants-row A) s
+  face-vacant : (apply : ℕ → Form → Offered) {c : Column} (s : State) {A : ℕ} {α σ : Form} → σ ≡ Nonterminal A ∷ α → cell A c ≡ none → faces apply c s σ ≡ stopped (WantsRow A) s
   unfolding facing
   face-vacant apply s e f = rw (e, f, facing)
 
@@ -69,11 +71,11 @@ module _ (right : ℕ → Form) (cell : ℕ → Column → Option ℕ) (room cel
   unfolding offer used
   offer-use l s {p} {α = α} e f h = face-filled _ s e f ∙ rw (le-leb (length (right p ++ α)) room h, used)
 
-  offer-full-list : {c : Column} (s : State) {p A : ℕ} {α : Form} → s .stack ≡ Nonterminal A ∷ α → cell A c ≡ some p → offers zero c s ≡ stopped full-list s
+  offer-full-list : {c : Column} (s : State) {p A : ℕ} {α : Form} → s .stack ≡ Nonterminal A ∷ α → cell A c ≡ some p → offers zero c s ≡ stopped FullList s
   unfolding offer
   offer-full-list s e f = face-filled _ s e f
 
-  offer-full-stack : (l : ℕ) {c : Column} (s : State) {p A : ℕ} {α : Form} → s .stack ≡ Nonterminal A ∷ α → cell A c ≡ some p → room < length (right p ++ α) → offers (suc l) c s ≡ stopped full-stack s
+  offer-full-stack : (l : ℕ) {c : Column} (s : State) {p A : ℕ} {α : Form} → s .stack ≡ Nonterminal A ∷ α → cell A c ≡ some p → room < length (right p ++ α) → offers (suc l) c s ≡ stopped FullStack s
   unfolding offer used
   offer-full-stack l s {p} {α = α} e f h = face-filled _ s e f ∙ rw (lt-leb (length (right p ++ α)) room h, used)
 

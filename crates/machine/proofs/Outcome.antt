@@ -11,7 +11,9 @@ use Rattle.grammar.specs.declared.Symbol.the-variants.{Nonterminal}
 use Rattle.grammar.specs.Grammar.{Form, Grammar, Column, itself, Complete}
 use Rattle.grammar.specs.Machine.{front, Exact}
 use Rattle.grammar.proofs.Leftmost.{leftmost-derives}
-use Rattle.machine.specs.Machine.{State, Reason, full-list, full-stack, Offered, taken, stopped, begun, runFrom}
+use Rattle.machine.specs.Machine.{State, Offered, taken, stopped, begun, runFrom}
+use Rattle.machine.specs.declared.Reason.{Reason}
+use Rattle.machine.specs.declared.Reason.the-variants.{FullList, FullStack}
 use Rattle.machine.specs.Room.{rightOf, peak}
 use Rattle.machine.specs.Stopping.{Before}
 use Rattle.machine.proofs.Walk.{Short, short-list, short-stack, wanted-end, wanted-token, wanted-row, Walk, Halt, accepts, left-over, unmatched, vacant, list-full, stack-full, Walked}
@@ -35,8 +37,8 @@ whole {ps = ps} {w = w} d =
 -- what becomes of the derivation: there is room for all of it, or a production finds the list full, or its right side the stack
 pub data Outcome {g : Grammar} (room cells : ℕ) {ps w : List ℕ} (d : Complete g ps w) : Offered → Type 0 where
   enough : length ps ≤ cells → peak d ≤ room → Outcome room cells d (taken (whole d))
-  list-short : {p : ℕ} {below : Form} {s : State} → Before g ps w p below s → length (s .listed) ≡ cells → s .height ≤ room → Outcome room cells d (stopped full-list s)
-  stack-short : {p : ℕ} {below : Form} {s : State} → Before g ps w p below s → length (s .listed) < cells → s .height ≤ room → room < length (rightOf g p ++ below) → room < peak d → Outcome room cells d (stopped full-stack s)
+  list-short : {p : ℕ} {below : Form} {s : State} → Before g ps w p below s → length (s .listed) ≡ cells → s .height ≤ room → Outcome room cells d (stopped FullList s)
+  stack-short : {p : ℕ} {below : Form} {s : State} → Before g ps w p below s → length (s .listed) < cells → s .height ≤ room → room < length (rightOf g p ++ below) → room < peak d → Outcome room cells d (stopped FullStack s)
 
 -- so the list is a beginning of the derivation, and not all of it
 pub before-listed : {g : Grammar} {ps w : List ℕ} {p : ℕ} {below : Form} {s : State} → Before g ps w p below s → s .listed ≡ take (length (s .listed)) ps

@@ -10,7 +10,8 @@ use Rattle.grammar.specs.Filled.{NoEmptyRight}
 use Rattle.grammar.specs.Grammar.{Form, Grammar, Column, Rule, Derivable, Leftmost, Complete, WellFormed, Useful}
 use Rattle.grammar.specs.Machine.{Exact, Longest}
 use Rattle.grammar.proofs.Theorems.{leftmost-unique, exact-no-conflict, halts, leads-few}
-use Rattle.machine.specs.Machine.{State, Reason, Offered, taken, stopped, begun, runFrom}
+use Rattle.machine.specs.Machine.{State, Offered, taken, stopped, begun, runFrom}
+use Rattle.machine.specs.declared.Reason.{Reason}
 use Rattle.machine.specs.Room.{peak, listCells, stackCells}
 use Rattle.machine.proofs.Walk.{Syntax, Short, Decided, final}
 use Rattle.machine.proofs.Count.{Counted, counted-stack, begun-counted, run-counted, run-grown}

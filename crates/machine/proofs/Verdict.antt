@@ -11,7 +11,8 @@ use Rattle.grammar.specs.Machine.{front, Exact, Run, Stopped, Longest}
 use Rattle.grammar.specs.Machine as textbook
 use Rattle.grammar.proofs.Machine.{run-leftmost}
 use Rattle.grammar.proofs.Theorems.{stopped-not-derivable, viable-prefix}
-use Rattle.machine.specs.Machine.{State, Reason, Offered, taken, stopped, begun, runFrom}
+use Rattle.machine.specs.Machine.{State, Offered, taken, stopped, begun, runFrom}
+use Rattle.machine.specs.declared.Reason.{Reason}
 use Rattle.machine.specs.Room.{rightOf}
 use Rattle.machine.proofs.Walk.{Syntax, Halt, accepts, left-over, unmatched, vacant, list-full, stack-full, Walk, Walked}
 use Rattle.machine.proofs.Agreement.{ran}

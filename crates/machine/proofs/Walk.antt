@@ -8,7 +8,8 @@ use lib.ListN.{length}
 use Rattle.grammar.specs.declared.Symbol.the-variants.{Token, Nonterminal}
 use Rattle.grammar.specs.Grammar.{Form, Column, token, endmark}
 use Rattle.grammar.specs.Machine.{front}
-use Rattle.machine.specs.Machine.{State, full-list, full-stack, wants-end, wants-token, wants-row, Offered, taken, stopped, popped, replaced}
+use Rattle.machine.specs.Machine.{State, Offered, taken, stopped, popped, replaced}
+use Rattle.machine.specs.declared.Reason.the-variants.{FullList, FullStack, WantsEnd, WantsToken, WantsRow}
 -- why it ends, and in which state
 pub use Rattle.machine.specs.Stopping.{Syntax, wanted-end, wanted-token, wanted-row, Short, short-list, short-stack, Decided, accepted, refused}
 unfoldable pub use Rattle.machine.specs.Machine.{final}
@@ -23,11 +24,11 @@ module _ (right : ℕ → Form) (cell : ℕ → Column → Option ℕ) (room cel
   -- in the state s it makes no move on the column c, and that is the outcome
   pub data Halt (c : Column) (s : State) : Offered → Type 0 where
     accepts : s .stack ≡ [] → c ≡ endmark → Halt c s (taken s)
-    left-over : {t : ℕ} → s .stack ≡ [] → c ≡ token t → Halt c s (stopped wants-end s)
-    unmatched : {t : ℕ} {α : Form} → s .stack ≡ Token t ∷ α → c ≢ token t → Halt c s (stopped (wants-token t) s)
-    vacant : {A : ℕ} {α : Form} → s .stack ≡ Nonterminal A ∷ α → cell A c ≡ none → Halt c s (stopped (wants-row A) s)
-    list-full : {p A : ℕ} {α : Form} → s .stack ≡ Nonterminal A ∷ α → cell A c ≡ some p → cells ≤ length (s .listed) → Halt c s (stopped full-list s)
-    stack-full : {p A : ℕ} {α : Form} → s .stack ≡ Nonterminal A ∷ α → cell A c ≡ some p → length (s .listed) < cells → room < length (right p ++ α) → Halt c s (stopped full-stack s)
+    left-over : {t : ℕ} → s .stack ≡ [] → c ≡ token t → Halt c s (stopped WantsEnd s)
+    unmatched : {t : ℕ} {α : Form} → s .stack ≡ Token t ∷ α → c ≢ token t → Halt c s (stopped (WantsToken t) s)
+    vacant : {A : ℕ} {α : Form} → s .stack ≡ Nonterminal A ∷ α → cell A c ≡ none → Halt c s (stopped (WantsRow A) s)
+    list-full : {p A : ℕ} {α : Form} → s .stack ≡ Nonterminal A ∷ α → cell A c ≡ some p → cells ≤ length (s .listed) → Halt c s (stopped FullList s)
+    stack-full : {p A : ℕ} {α : Form} → s .stack ≡ Nonterminal A ∷ α → cell A c ≡ some p → length (s .listed) < cells → room < length (right p ++ α) → Halt c s (stopped FullStack s)
 
   -- from the state s, with w unread, it walks to where it halts with the outcome o
   pub record Walked (w : List ℕ) (s : State) (o : Offered) : Type 0 where

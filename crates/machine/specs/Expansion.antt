@@ -8,6 +8,8 @@ use lib.Dec.{leb, ltb}
 use lib.ListN.{length}
 use Rattle.grammar.specs.declared.Symbol.the-variants.{Token, Nonterminal}
 use Rattle.grammar.specs.Grammar.{Form, Grammar}
+use Rattle.machine.specs.declared.Upshot.{Upshot}
+use Rattle.machine.specs.declared.Upshot.the-variants.{Finished, Unfit, FullStack, FullOutput}
 use Rattle.machine.specs.Room.{rightOf, isOf}
 
 -- the tokens written and the productions used so far; the moves made; the greatest height of the stack so far
@@ -17,13 +19,7 @@ pub record Course : Type 0 where
   pub moves : ℕ
   pub height : ℕ
 
--- why the expansion ends: it is complete, the list does not fit, or stack or output is too short
-pub data Upshot : Type 0 where
-  complete : Upshot
-  unfit : Upshot
-  full-stack : Upshot
-  full-output : Upshot
-
+-- how it ends, and what it has come to
 pub record Expansion : Type 0 where
   pub ending : Upshot
   pub progress : Course
@@ -44,7 +40,7 @@ module _ (fits : ℕ → ℕ → Bool) (right : ℕ → Form) (room output : ℕ
   unfoldable pub writing : (Course → Expansion) → (ℕ → Form → Course → Expansion) → Form → Course → Expansion
   writing empty apply [] s = empty s
   writing empty apply (Token t ∷ α) s =
-      elim (ltb (length (s .written)) output) [ true ↦ writing empty apply α (wrote t s) | false ↦ ended full-output s ]
+      elim (ltb (length (s .written)) output) [ true ↦ writing empty apply α (wrote t s) | false ↦ ended FullOutput s ]
   writing empty apply (Nonterminal A ∷ α) s = apply A α s
 
   -- a number that is no production of A does not fit; then the stack must not be too long
@@ -53,13 +49,13 @@ module _ (fits : ℕ → ℕ → Bool) (right : ℕ → Form) (room output : ℕ
       elim (fits A p) [
         | true ↦
             elim (leb (length (right p ++ α)) room)
-            [ true ↦ next (right p ++ α) (applied (right p ++ α) s) | false ↦ ended full-stack s ]
-        | false ↦ ended unfit s
+            [ true ↦ next (right p ++ α) (applied (right p ++ α) s) | false ↦ ended FullStack s ]
+        | false ↦ ended Unfit s
       ]
 
   unfoldable pub expandFrom : List ℕ → Form → Course → Expansion
-  expandFrom [] α s = writing (ended complete) (λ A β s. ended unfit s) α s
-  expandFrom (p ∷ ps) α s = writing (ended unfit) (λ A β s. applying (expandFrom ps) p A β s) α s
+  expandFrom [] α s = writing (ended Finished) (λ A β s. ended Unfit s) α s
+  expandFrom (p ∷ ps) α s = writing (ended Unfit) (λ A β s. applying (expandFrom ps) p A β s) α s
 
 -- nothing is written or used, and the start symbol alone is on the stack
 unfoldable pub opened : Course
@@ -79,5 +75,5 @@ pub record Spent (cells output n : ℕ) (s : Course) : Type 0 where
 
 -- the expansion ends for no want of room
 pub data WithRoom : Upshot → Type 0 where
-  completes : WithRoom complete
-  misfits : WithRoom unfit
+  completes : WithRoom Finished
+  misfits : WithRoom Unfit

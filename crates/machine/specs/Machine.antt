@@ -8,6 +8,8 @@ use lib.Dec.{eqb, leb}
 use lib.ListN.{length}
 use Rattle.grammar.specs.declared.Symbol.the-variants.{Token, Nonterminal}
 use Rattle.grammar.specs.Grammar.{Form, Column, token, endmark}
+use Rattle.machine.specs.declared.Reason.{Reason}
+use Rattle.machine.specs.declared.Reason.the-variants.{FullList, FullStack, WantsEnd, WantsToken, WantsRow}
 
 -- the stack, top first; the productions listed and the tokens matched so far; the moves made; the greatest height of
 -- the stack so far
@@ -18,15 +20,7 @@ pub record State : Type 0 where
   pub moves : ℕ
   pub height : ℕ
 
--- why the machine stops: list or stack is too short, or syntax: it wants the end mark, that token, or a filled column
--- of that row
-pub data Reason : Type 0 where
-  full-list : Reason
-  full-stack : Reason
-  wants-end : Reason
-  wants-token : ℕ → Reason
-  wants-row : ℕ → Reason
-
+-- what was offered is taken, or the machine stops
 pub data Offered : Type 0 where
   taken : State → Offered
   stopped : Reason → State → Offered
@@ -66,17 +60,17 @@ module _ (right : ℕ → Form) (cell : ℕ → Column → Option ℕ) (room cel
   unfoldable pub used : (State → Offered) → ℕ → Form → State → Offered
   used next p α s =
       elim (leb (length (right p ++ α)) room)
-      [ true ↦ next (replaced p (right p ++ α) s) | false ↦ stopped full-stack s ]
+      [ true ↦ next (replaced p (right p ++ α) s) | false ↦ stopped FullStack s ]
 
   -- what the top of the stack says to the column
   unfoldable pub facing : (ℕ → Form → Offered) → Column → State → Form → Offered
-  facing apply c s [] = elim c [ token t ↦ stopped wants-end s | endmark ↦ taken s ]
-  facing apply c s (Token t ∷ α) = elim (meets c t) [ true ↦ taken (popped α s) | false ↦ stopped (wants-token t) s ]
-  facing apply c s (Nonterminal A ∷ α) = elim (cell A c) [ none ↦ stopped (wants-row A) s | some p ↦ apply p α ]
+  facing apply c s [] = elim c [ token t ↦ stopped WantsEnd s | endmark ↦ taken s ]
+  facing apply c s (Token t ∷ α) = elim (meets c t) [ true ↦ taken (popped α s) | false ↦ stopped (WantsToken t) s ]
+  facing apply c s (Nonterminal A ∷ α) = elim (cell A c) [ none ↦ stopped (WantsRow A) s | some p ↦ apply p α ]
 
   -- productions are used until the column is taken or the machine stops; so many list cells are left
   unfoldable pub offer : ℕ → Column → State → Offered
-  offer zero c s = facing (λ p α. stopped full-list s) c s (s .stack)
+  offer zero c s = facing (λ p α. stopped FullList s) c s (s .stack)
   offer (suc l) c s = facing (λ p α. used (offer l c) p α s) c s (s .stack)
 
   -- the tokens are offered one by one, then the end mark

@@ -8,21 +8,24 @@ use Prim.Native.Nat.{ℕ, _≤_, _<_}
 use lib.ListN.{length, take}
 use Rattle.grammar.specs.declared.Symbol.the-variants.{Token, Nonterminal}
 use Rattle.grammar.specs.Grammar.{Form, spelled, Grammar, Column, LeftmostSteps}
-use Rattle.machine.specs.Machine.{State, Reason, full-list, full-stack, wants-end, wants-token, wants-row, Offered, taken, stopped, begun, runFrom, final}
+use Rattle.machine.specs.Machine.{State, Offered, taken, stopped, begun, runFrom, final}
+use Rattle.machine.specs.declared.Reason.{Reason}
+use Rattle.machine.specs.declared.Reason.the-variants.{FullList, FullStack, WantsEnd, WantsToken, WantsRow}
 use Rattle.machine.specs.Room.{rightOf}
-use Rattle.machine.specs.Expansion.{Course, Upshot}
-use Rattle.machine.specs.Expansion as expanding
+use Rattle.machine.specs.Expansion.{Course}
+use Rattle.machine.specs.declared.Upshot.{Upshot}
+use Rattle.machine.specs.declared.Upshot.the-variants as upshots
 
 -- the reasons of a syntax stop
 pub data Syntax : Reason → Type 0 where
-  wanted-end : Syntax wants-end
-  wanted-token : {t : ℕ} → Syntax (wants-token t)
-  wanted-row : {A : ℕ} → Syntax (wants-row A)
+  wanted-end : Syntax WantsEnd
+  wanted-token : {t : ℕ} → Syntax (WantsToken t)
+  wanted-row : {A : ℕ} → Syntax (WantsRow A)
 
 -- the reasons of a stop for room
 pub data Short : Reason → Type 0 where
-  short-list : Short full-list
-  short-stack : Short full-stack
+  short-list : Short FullList
+  short-stack : Short FullStack
 
 -- the string is decided: taken, or a syntax stop
 pub data Decided : Offered → Type 0 where
@@ -69,7 +72,7 @@ pub record Midway (g : Grammar) (ps : List ℕ) (s : Course) (rest : List ℕ) (
 pub data Lacks (g : Grammar) (cells output : ℕ) (s : Course) : Upshot → List ℕ → Form → Type 0 where
   lacks-stack : {p A : ℕ} {rest : List ℕ} {α : Form}
       → cells < length (rightOf g p ++ α)
-      → Lacks g cells output s expanding.full-stack (p ∷ rest) (Nonterminal A ∷ α)
+      → Lacks g cells output s upshots.FullStack (p ∷ rest) (Nonterminal A ∷ α)
   lacks-output : {t : ℕ} {rest : List ℕ} {α : Form}
       → length (s .written) ≡ output
-      → Lacks g cells output s expanding.full-output rest (Token t ∷ α)
+      → Lacks g cells output s upshots.FullOutput rest (Token t ∷ α)

@@ -4,27 +4,29 @@ use mathlib.Core.Logic.{_⊎_, inl, inr}
 use native.Mathlib.Omega.{arith}
 use Rattle.sets.specs.declared.Set.{Set}
 use Rattle.answers.specs.declared.Answer.{Answer}
-use Rattle.answers.specs.Answers.{done, stop, noSet}
+use Rattle.answers.specs.Answers.{done, stop}
 use Rattle.answers.specs.Refusals.{room, syntax, stackRoom, listRoom}
-use Rattle.machine.specs.Machine.{State, Reason, full-list, full-stack, wants-end, wants-token, wants-row, Offered, taken, stopped, final}
+use Rattle.machine.specs.Machine.{State, Offered, taken, stopped, final}
+use Rattle.machine.specs.declared.Reason.{Reason}
+use Rattle.machine.specs.declared.Reason.the-variants.{FullList, FullStack, WantsEnd, WantsToken, WantsRow}
 use Rattle.machine.specs.Stopping.{Syntax, wanted-end, wanted-token, wanted-row, Short, short-list, short-stack}
 use Rattle.offer.specs.Stops.{answered}
 
 -- how a run ended, and its answer
 pub data Told (e : Reason → Set) : Offered → Answer → Type 0 where
   served : (s : State) → Told e (taken s) (done (s .moves))
-  short-of-list : (s : State) → Told e (stopped full-list s) (stop room (s .matched) listRoom (s .moves) noSet)
-  short-of-stack : (s : State) → Told e (stopped full-stack s) (stop room (s .matched) stackRoom (s .moves) noSet)
+  short-of-list : (s : State) → Told e (stopped FullList s) (stop room (s .matched) listRoom (s .moves) (e FullList))
+  short-of-stack : (s : State) → Told e (stopped FullStack s) (stop room (s .matched) stackRoom (s .moves) (e FullStack))
   blocked : {r : Reason} (s : State) → Syntax r → Told e (stopped r s) (stop syntax (s .matched) 0 (s .moves) (e r))
 
 pub told : (e : Reason → Set) (o : Offered) → Told e o (answered e o)
 unfolding answered
 told e (taken s) = served s
-told e (stopped full-list s) = short-of-list s
-told e (stopped full-stack s) = short-of-stack s
-told e (stopped wants-end s) = blocked s wanted-end
-told e (stopped (wants-token t) s) = blocked s wanted-token
-told e (stopped (wants-row A) s) = blocked s wanted-row
+told e (stopped FullList s) = short-of-list s
+told e (stopped FullStack s) = short-of-stack s
+told e (stopped WantsEnd s) = blocked s wanted-end
+told e (stopped (WantsToken t) s) = blocked s wanted-token
+told e (stopped (WantsRow A) s) = blocked s wanted-row
 
 module _ {e : Reason → Set} where
   pub told-done : {o : Offered} {a : Answer} → Told e o a → a .number ≡ 0 → (s : State) × (o ≡ taken s)

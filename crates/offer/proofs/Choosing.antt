@@ -8,8 +8,8 @@ use lib.ListN.{length}
 use Rattle.grammar.specs.Grammar.{Form, Column}
 use Rattle.grammar.specs.declared.Symbol.the-variants.{Nonterminal}
 use Rattle.grammar.specs.declared.Symbol.{Symbol}
+use Rattle.machine.specs.declared.Reason.the-variants.{FullList, FullStack}
 use Rattle.offer.specs.Moves.{Bottom, Faces, Chosen}
-use Rattle.offer.specs.declared.Cause.the-variants.{FullList, FullStack}
 use Rattle.offer.specs.declared.Ending.the-variants.{Stop}
 use Rattle.offer.specs.declared.Ending.{Ending}
 use Rattle.offer.specs.declared.Move.the-variants.{Use, Finish}

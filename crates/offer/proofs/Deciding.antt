@@ -13,11 +13,11 @@ use Rattle.book.specs.Columns.{Outlines}
 use Rattle.book.specs.declared.columns.Outline.{Outline}
 use Rattle.table.specs.Table.{held, cellOf}
 use Rattle.machine.specs.Machine.{meets}
+use Rattle.machine.specs.declared.Reason.the-variants.{WantsEnd}
 use Rattle.stack.specs.Ahead.{columnIn}
 use Rattle.stack.specs.declared.Ahead.the-variants.{Next, End}
 use Rattle.stack.specs.declared.Ahead.{Ahead}
 use Rattle.offer.specs.Moves.{Bottom, CellFacing}
-use Rattle.offer.specs.declared.Cause.the-variants.{WantsEnd}
 use Rattle.offer.specs.declared.Ending.the-variants.{Accept, Stop}
 
 -- the row is one of the grammar's

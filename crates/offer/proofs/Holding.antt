@@ -11,13 +11,15 @@ use Rattle.grammar.specs.declared.Symbol.the-variants.{Token}
 use Rattle.grammar.specs.declared.Symbol.{Symbol}
 use Rattle.answers.specs.Buffers.{counted}
 use Rattle.reader.specs.Fields.{formIn}
-use Rattle.machine.specs.Machine.{State, Reason, full-list, full-stack, wants-end, wants-token, wants-row, Offered, taken, stopped, popped, replaced, offer, final}
+use Rattle.machine.specs.Machine.{State, Offered, taken, stopped, popped, replaced, offer, final}
+use Rattle.machine.specs.declared.Reason.{Reason}
+use Rattle.machine.specs.declared.Reason.the-variants.{FullList, FullStack, WantsEnd, WantsToken, WantsRow}
 use Rattle.machine.proofs.Promise.{offer-match, offer-use, offer-halt, Halt}
 use Rattle.stack.specs.Stack.{Spelled, stackBytes, spelledBy}
 use Rattle.stack.proofs.Promise.{over-more, symbols-spelled, every-append, every-rest, length-symbols, spelled-stacked, stacked-pop, stacked-replace}
 use Rattle.offer.specs.Moves.{Chosen}
 use Rattle.offer.specs.Offering.{Holds, Offering, finished, finishedStack}
-use Rattle.offer.specs.Resuming.{causeOf, progressOf, reported}
+use Rattle.offer.specs.Resuming.{progressOf, reported}
 use Rattle.offer.specs.declared.Ending.{Ending}
 use Rattle.offer.specs.declared.Move.the-variants.{Use, Finish}
 use Rattle.offer.specs.declared.Move.{Move}
@@ -125,7 +127,7 @@ module _ (right : ℕ → Form) (cell : ℕ → Column → Option ℕ) (c : Colu
     matched {t} e f = sym (offer-match right cell (counted stack₀) (counted list₀) (counted list₀ - at .listed) (w .state) e) ∙ rw (← f) (w .same)
 
     pub walking-finish : {e : Ending} → Chosen right cell (counted stack₀) (counted list₀) c (spelledBy stack (at .height)) (at .listed) (Finish e) → Offering outcome stack₀ list₀ (finished e at) (finishedStack e at stack) list
-    unfolding finished finishedStack reported final causeOf
+    unfolding finished finishedStack reported final
     walking-finish k = go (chosen-by k)
       where
         h : Holds (w .state) at stack₀ list₀ stack list
@@ -134,14 +136,14 @@ module _ (right : ℕ → Form) (cell : ℕ → Column → Option ℕ) (c : Colu
         accept : Taken at ≡ reported (taken (w .state))
         accept = ap Taken (holds-progress h)
 
-        stop : (r : Reason) → Stopped (causeOf r) at ≡ reported (stopped r (w .state))
-        stop r = ap (Stopped (causeOf r)) (holds-progress h)
+        stop : (r : Reason) → Stopped r at ≡ reported (stopped r (w .state))
+        stop r = ap (Stopped r) (holds-progress h)
 
         go : {e : Ending} → Chosen right cell (counted stack₀) (counted list₀) c (w .state .stack) (length (w .state .listed)) (Finish e) → Offering outcome stack₀ list₀ (finished e at) (finishedStack e at stack) list
         go (Chosen.accepts f g) = holds-outcome h (halted (Halt.accepts f g)) refl accept
-        go (Chosen.left-over f g) = holds-outcome h (halted (Halt.left-over f g)) refl (stop wants-end)
-        go (Chosen.unmatched {t = t} f g) = holds-outcome h (halted (Halt.unmatched f g)) refl (stop (wants-token t))
-        go (Chosen.vacant {A = A} f g) = holds-outcome h (halted (Halt.vacant f g)) refl (stop (wants-row A))
-        go (Chosen.list-full f g l) = holds-outcome h (halted (Halt.list-full f g l)) refl (stop full-list)
-        go (Chosen.stack-full f g l m) = holds-outcome h (halted (Halt.stack-full f g l m)) refl (stop full-stack)
+        go (Chosen.left-over f g) = holds-outcome h (halted (Halt.left-over f g)) refl (stop WantsEnd)
+        go (Chosen.unmatched {t = t} f g) = holds-outcome h (halted (Halt.unmatched f g)) refl (stop (WantsToken t))
+        go (Chosen.vacant {A = A} f g) = holds-outcome h (halted (Halt.vacant f g)) refl (stop (WantsRow A))
+        go (Chosen.list-full f g l) = holds-outcome h (halted (Halt.list-full f g l)) refl (stop FullList)
+        go (Chosen.stack-full f g l m) = holds-outcome h (halted (Halt.stack-full f g l m)) refl (stop FullStack)
         go (Chosen.matches f g) = let p = holds-pop h f in holds-outcome p (matched f g) refl (ap Taken (holds-progress p))

@@ -12,7 +12,7 @@ use Rattle.book.specs.declared.Reading.{Reading}
 use Rattle.book.specs.Columns.{outlineIn, grammarIn}
 use Rattle.book.proofs.Promise.{outlined-sized}
 use Rattle.table.specs.Table.{columnOf, cellOf}
-use Rattle.machine.specs.Machine.{full-list, full-stack, wants-end, wants-token, wants-row, Offered, taken, stopped, final}
+use Rattle.machine.specs.Machine.{Offered, taken, stopped, final}
 use Rattle.machine.specs.Room.{rightOf}
 use Rattle.machine.proofs.Promise.{Grown, gained, offer-grown}
 use Rattle.stack.specs.Ahead.{columnIn}
@@ -20,7 +20,7 @@ use Rattle.stack.specs.declared.Ahead.the-variants.{Next, End}
 use Rattle.stack.specs.declared.Ahead.{Ahead}
 use Rattle.stack.proofs.Promise.{cells-spelled, length-spelled, stacked-spelled}
 use Rattle.offer.specs.Offering.{Holds, Ready, ColumnAhead, OfferedAt}
-use Rattle.offer.specs.Resuming.{causeOf, progressOf, reported, clamped, standing, offeredTo, Offers, OfferOutcome}
+use Rattle.offer.specs.Resuming.{progressOf, reported, clamped, standing, offeredTo, Offers, OfferedOn}
 use Rattle.offer.specs.Stops.{answerOf, expected, answered}
 use Rattle.offer.specs.declared.Progress.{Progress}
 use Rattle.offer.specs.declared.Reply.{Reply}
@@ -56,14 +56,10 @@ standing-held {at} {stack} {list} ready =
     }
 
 -- the reply has the answer of the outcome, where the moves are those counted
-reply-told : (g : Grammar) (table : List ℕ) (o : Offered) → final o .moves ≡ length (final o .listed) + final o .matched → answerOf g table (reported o) ≡ answered (expected g table) o
-unfolding final reported causeOf progressOf answerOf answered
+pub reply-told : (g : Grammar) (table : List ℕ) (o : Offered) → final o .moves ≡ length (final o .listed) + final o .matched → answerOf g table (reported o) ≡ answered (expected g table) o
+unfolding final reported progressOf answerOf answered
 reply-told g table (taken s) e = rw e
-reply-told g table (stopped full-list s) e = rw e
-reply-told g table (stopped full-stack s) e = rw e
-reply-told g table (stopped wants-end s) e = rw e
-reply-told g table (stopped (wants-token t) s) e = rw e
-reply-told g table (stopped (wants-row A) s) e = rw e
+reply-told g table (stopped r s) e = rw e
 
 -- and from the state that the buffers spell they are
 offered-told : (g : Grammar) (table : List ℕ) (column : ℕ) {at : Progress} {stack list : List ℕ} → Ready at stack list → answerOf g table (reported (offeredTo g table column at stack list)) ≡ answered (expected g table) (offeredTo g table column at stack list)
@@ -91,7 +87,7 @@ module _ (book : List ℕ) (reading : Reading) (table : List ℕ) (column : ℕ)
   pub offer-resumed : (at : Progress) {from : Progress}
       → from ≡ clamped at (length stack) (length list)
       → OfferedAt book (reading .places) (outlineIn reading) table ahead from stack list r stack′ list′
-      → OfferOutcome (grammarIn book reading) table column at stack list r stack′ list′
+      → OfferedOn (grammarIn book reading) table column at stack list r stack′ list′
   offer-resumed at clamps offered =
       let ready = clamped-ready at stack list in
       let x : Offers (offeredTo (grammarIn book reading) table column (clamped at (length stack) (length list)) stack list) stack list r stack′ list′ =

@@ -1,5 +1,6 @@
 -- The invariant of a run: the buffers hold a state from which the machine comes to the run's outcome on the tokens that are left.
 use mathlib.Core.Path.{_≡_, refl, sym, _∙_, ap, subst, subst₂}
+use mathlib.Core.Logic.{_≢_}
 use mathlib.Core.List.{List, [], _∷_}
 use mathlib.Core.Option.{Option}
 use Prim.Native.Nat.{ℕ, suc, _+_, _-_, _%_, _^_, _≤_, _<_, min}
@@ -15,7 +16,8 @@ use Rattle.reader.specs.Book.{byteOf}
 use Rattle.book.specs.Columns.{outlined}
 use Rattle.book.specs.declared.columns.Outline.{Outline}
 use Rattle.table.specs.Table.{cellOf}
-use Rattle.machine.specs.Machine.{State, Reason, Offered, taken, stopped, begun, offer, runFrom, final}
+use Rattle.machine.specs.Machine.{State, Offered, taken, stopped, begun, offer, runFrom, final}
+use Rattle.machine.specs.declared.Reason.{Reason}
 use Rattle.machine.specs.Room.{rightOf}
 use Rattle.machine.proofs.Promise.{Grown, gained, offer-grown, run-taken, run-stopped}
 use Rattle.stack.specs.Ahead.{columnIn, aheadIn}
@@ -25,7 +27,6 @@ use Rattle.stack.proofs.Promise.{length-over, over-over, nonterminal-spelled, s
 use Rattle.offer.specs.Strings.{Stepped, ran, StringOutcome, ended}
 use Rattle.offer.specs.Offering.{Holds, Ready, Offering, OfferedAt}
 use Rattle.offer.specs.Resuming.{progressOf, reported}
-use Rattle.offer.specs.declared.Cause.{Cause}
 use Rattle.offer.specs.declared.Progress.{Progress}
 use Rattle.offer.specs.declared.Reply.the-variants.{Taken, Stopped}
 use Rattle.offer.specs.declared.Reply.{Reply}
@@ -170,12 +171,12 @@ module _ (book places : List ℕ) (o : Outline) (table tokens stack₀ list₀ :
             list-length = holds-list-length (offering .holds) ∙ w .list-length;
           }
 
-      pub running-stopped : {cause : Cause} {x : Progress} → r ≡ Stopped cause x → Ends r stack′ list′
+      pub running-stopped : ((x : Progress) → r ≢ Taken x) → Ends r stack′ list′
       unfolding reported
-      running-stopped {cause} {x} e = go next refl
+      running-stopped other = go next refl
         where
           go : (y : Offered) → next ≡ y → Ends r stack′ list′
-          go (taken s) f = let answer : r ≡ reported (taken s) = offering .answer ∙ ap reported f in let bad : _≡_ {A = ℕ} 0 1 = cc in absurd (omega arith)
+          go (taken s) f = absurd (other (progressOf s) (offering .answer ∙ ap reported f))
           go (stopped q s) f = ends (f ∙ sym (stop-ends right cell (counted stack₀) (counted list₀) (w .state) rest f) ∙ w .same)
 
       pub running-over : {x : Progress} → r ≡ Taken x → length tokens ≤ at .matched → Ends (Taken x) stack′ list′

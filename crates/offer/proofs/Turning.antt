@@ -34,7 +34,7 @@ pub finished-length : (e : Ending) (at : Progress) (stack : List ℕ) → length
 unfolding finishedStack
 finished-length Accept at stack = refl
 finished-length Match at stack = length-set stack (at .height - 1) 0
-finished-length (Stop cause) at stack = refl
+finished-length (Stop reason) at stack = refl
 
 -- the numbers of a replacement
 pub record UseFits (height listed count room cells : ℕ) : Type 0 where

@@ -14,10 +14,10 @@ use Rattle.book.specs.Columns.{outlined, Outlines, Lengths}
 use Rattle.book.specs.declared.columns.Outline.{Outline}
 use Rattle.table.specs.Table.{held, cellOf}
 use Rattle.machine.specs.Room.{rightOf}
+use Rattle.machine.specs.declared.Reason.the-variants.{FullList, FullStack, WantsEnd, WantsToken, WantsRow}
 use Rattle.stack.specs.Ahead.{columnIn}
 use Rattle.stack.specs.Stack.{spelledBy}
 use Rattle.stack.specs.declared.Ahead.{Ahead}
-use Rattle.offer.specs.declared.Cause.the-variants.{FullList, FullStack, WantsEnd, WantsToken, WantsRow}
 use Rattle.offer.specs.declared.Ending.the-variants.{Accept, Match, Stop}
 use Rattle.offer.specs.declared.Ending.{Ending}
 use Rattle.offer.specs.declared.Move.the-variants.{Use, Finish}
@@ -43,10 +43,27 @@ module _ (right : ℕ → Form) (cell : ℕ → Column → Option ℕ) (room cel
     left-over : {t : ℕ} → α ≡ [] → c ≡ token t → Chosen c α listed (Finish (Stop WantsEnd))
     matches : {t : ℕ} {β : Form} → α ≡ Token t ∷ β → c ≡ token t → Chosen c α listed (Finish Match)
     unmatched : {t : ℕ} {β : Form} → α ≡ Token t ∷ β → c ≢ token t → Chosen c α listed (Finish (Stop (WantsToken t)))
-    vacant : {A : ℕ} {β : Form} → α ≡ Nonterminal A ∷ β → cell A c ≡ none → Chosen c α listed (Finish (Stop (WantsRow A)))
-    list-full : {A p : ℕ} {β : Form} → α ≡ Nonterminal A ∷ β → cell A c ≡ some p → cells ≤ listed → Chosen c α listed (Finish (Stop FullList))
-    stack-full : {A p : ℕ} {β : Form} → α ≡ Nonterminal A ∷ β → cell A c ≡ some p → listed < cells → room < length (right p ++ β) → Chosen c α listed (Finish (Stop FullStack))
-    uses : {A p : ℕ} {β : Form} → α ≡ Nonterminal A ∷ β → cell A c ≡ some p → listed < cells → length (right p ++ β) ≤ room → Chosen c α listed (Use p)
+    vacant : {A : ℕ} {β : Form}
+        → α ≡ Nonterminal A ∷ β
+        → cell A c ≡ none
+        → Chosen c α listed (Finish (Stop (WantsRow A)))
+    list-full : {A p : ℕ} {β : Form}
+        → α ≡ Nonterminal A ∷ β
+        → cell A c ≡ some p
+        → cells ≤ listed
+        → Chosen c α listed (Finish (Stop FullList))
+    stack-full : {A p : ℕ} {β : Form}
+        → α ≡ Nonterminal A ∷ β
+        → cell A c ≡ some p
+        → listed < cells
+        → room < length (right p ++ β)
+        → Chosen c α listed (Finish (Stop FullStack))
+    uses : {A p : ℕ} {β : Form}
+        → α ≡ Nonterminal A ∷ β
+        → cell A c ≡ some p
+        → listed < cells
+        → length (right p ++ β) ≤ room
+        → Chosen c α listed (Use p)
 
 -- inside the crate: what the table says in a row to what comes next, for every grammar with these numbers
 pub record CellFacing (o : Outline) (table : List ℕ) (A : ℕ) (ahead : Ahead) (r : ℕ) : Type 0 where
@@ -56,7 +73,8 @@ pub record CellFacing (o : Outline) (table : List ℕ) (A : ℕ) (ahead : Ahead)
 pub record Decision (step : Step) (table : List ℕ) (o : Outline) (r : Move) : Type 0 where
   pub faces : (g : Grammar) → Outlines o g → Faces (cellOf g table) (columnIn (step .ahead)) (step .symbol) r
 
--- and what is done with the first cells of the stack in use, and so many of the list's cells; by the lengths of any book
+-- and what is done with the first cells of the stack in use, and so many of the list's cells; by the lengths of any
+-- book
 pub record Choice (lengths : List ℕ) (o : Outline) (table : List ℕ) (ahead : Ahead) (stack : List ℕ)
     (height cells listed : ℕ) (r : Move) : Type 0 where
   pub chosen : (book places : List ℕ)

@@ -49,12 +49,12 @@ pub record Offering (o : Offered) (stack₀ list₀ : List ℕ) (r : Reply) (sta
 unfoldable pub finished : Ending → Progress → Reply
 finished Accept at = Taken at
 finished Match at = Taken (record { height = at .height - 1; listed = at .listed; matched = at .matched + 1 })
-finished (Stop cause) at = Stopped cause at
+finished (Stop reason) at = Stopped reason at
 
 unfoldable pub finishedStack : Ending → Progress → List ℕ → List ℕ
 finishedStack Accept at stack = stack
 finishedStack Match at stack = set stack (at .height - 1) 0
-finishedStack (Stop cause) at stack = stack
+finishedStack (Stop reason) at stack = stack
 
 -- a column below T is a token, any other the end mark
 pub record ColumnAhead (column T : ℕ) (r : Ahead) : Type 0 where

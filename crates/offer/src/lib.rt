@@ -1,5 +1,7 @@
 // The steps of a run: one column offered to a run in progress, or a whole token string from the start symbol on.
+use answers::Answer;
 use grammar::Symbol;
+use machine::Reason;
 use stack::Ahead;
 
 mod moves;
@@ -12,20 +14,11 @@ pub(crate) struct Step {
     pub ahead: Ahead,
 }
 
-// Why a run stops: list or stack is too short, or it wants the end mark, that token, or a filled column of that row.
-pub enum Cause {
-    FullList,
-    FullStack,
-    WantsEnd,
-    WantsToken(u8),
-    WantsRow(u8),
-}
-
 // How an offer ends: the end mark is taken, the token on top is matched, or the run stops.
 pub(crate) enum Ending {
     Accept,
     Match,
-    Stop(Cause),
+    Stop(Reason),
 }
 
 // What is done next: a production is used, or the offer ends.
@@ -41,8 +34,10 @@ pub struct Progress {
     pub matched: usize,
 }
 
-// What became of an offer: what was offered is taken, or the run stops.
+// What became of an offer: what was offered is taken, the run stops, or the reading is of a book that was refused with
+// this answer.
 pub enum Reply {
     Taken(Progress),
-    Stopped(Cause, Progress),
+    Stopped(Reason, Progress),
+    Refused(Answer),
 }

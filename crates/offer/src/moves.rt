@@ -5,13 +5,13 @@ ghost use lib.ListN.{length};
 ghost use Rattle.machine.specs.Machine.{meets};
 ghost use Rattle.stack.specs.Ahead.{columnIn};
 ghost use Rattle.offer.specs.Moves.{Bottom, CellFacing, Decision, Choice};
-use crate::Cause;
 use crate::Ending;
 use crate::Move;
 use crate::Step;
 use book::columns::Outline;
 use book::columns::gathered;
 use grammar::Symbol;
+use machine::Reason;
 use reader::fields::symbol_of;
 use stack::Ahead;
 use stack::counts;
@@ -59,13 +59,13 @@ fn decide(step: Step, table: &[u8], outline: Outline) -> Move
             if is_next(ahead, t) {
                 Move::Finish(Ending::Match)
             } else {
-                Move::Finish(Ending::Stop(Cause::WantsToken(t)))
+                Move::Finish(Ending::Stop(Reason::WantsToken(t)))
             }
         }
         Symbol::Nonterminal(n) => {
             let p = cell_facing(table, outline, n, ahead);
             if p == VACANT {
-                Move::Finish(Ending::Stop(Cause::WantsRow(n)))
+                Move::Finish(Ending::Stop(Reason::WantsRow(n)))
             } else {
                 Move::Use(p)
             }
@@ -78,7 +78,7 @@ fn at_bottom(ahead: Ahead) -> Ending
     ensures { λ r. ⌜ Bottom (columnIn ahead) r ⌝ }
 {
     match ahead {
-        Ahead::Next(_) => Ending::Stop(Cause::WantsEnd),
+        Ahead::Next(_) => Ending::Stop(Reason::WantsEnd),
         Ahead::End => Ending::Accept,
     }
 }
@@ -116,10 +116,10 @@ pub(crate) fn choose(
         return choice;
     };
     if cells <= listed {
-        return Move::Finish(Ending::Stop(Cause::FullList));
+        return Move::Finish(Ending::Stop(Reason::FullList));
     }
     if counts(stack.len()) < below + gathered(lengths, p) as usize {
-        return Move::Finish(Ending::Stop(Cause::FullStack));
+        return Move::Finish(Ending::Stop(Reason::FullStack));
     }
     choice
 }

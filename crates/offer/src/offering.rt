@@ -5,13 +5,14 @@ ghost use lib.ListN.{length};
 ghost use Rattle.book.specs.Columns.{grammarIn, Lengths};
 ghost use Rattle.offer.specs.declared.Ending.the-variants as endings;
 ghost use Rattle.offer.specs.Offering.{finished, finishedStack, ColumnAhead, Ready, OfferedAt};
-ghost use Rattle.offer.specs.Resuming.{clamped, OfferOutcome};
+ghost use Rattle.offer.specs.Resuming.{clamped, OfferedOn, OfferOutcome};
 use crate::Ending;
 use crate::Move;
 use crate::Progress;
 use crate::Reply;
 use crate::moves::choose;
 use answers::limits::MOST_CELLS;
+use answers::refusals::DONE;
 use book::Reading;
 use book::columns::Outline;
 use book::columns::gather_lengths;
@@ -25,7 +26,9 @@ use stack::replace;
 
 // The offer ends: a token that is matched is popped.
 fn finish(ending: Ending, stack: &mut [u8], at: Progress) -> Reply
-    requires { ⌜ (ending ≡ endings.Match → 1 ≤ at .height) × (at .height ≤ length (now stack)) × (at .matched < 2 ^ 63) ⌝ }
+    requires { ⌜ (ending ≡ endings.Match → 1 ≤ at .height)
+        × (at .height ≤ length (now stack))
+        × (at .matched < 2 ^ 63) ⌝ }
     ensures { λ r. ⌜ (r ≡ finished ending at) × (now (stack .exit) ≡ finishedStack ending at (now (stack .entry))) ⌝ }
 {
     match ending {
@@ -39,7 +42,7 @@ fn finish(ending: Ending, stack: &mut [u8], at: Progress) -> Reply
                 matched: at.matched + 1,
             })
         }
-        Ending::Stop(cause) => Reply::Stopped(cause, at),
+        Ending::Stop(reason) => Reply::Stopped(reason, at),
     }
 }
 
@@ -120,8 +123,8 @@ fn clamp(at: Progress, stack: usize, list: usize) -> Progress
     }
 }
 
-// One column offered to a run in progress, whatever the reading and the counts; every column from T on is the end mark's.
-pub fn offer(
+// One column offered to a run in progress, by the grammar that a reading tells of.
+fn offer_on(
     book: &[u8],
     reading: Reading,
     table: &[u8],
@@ -130,7 +133,7 @@ pub fn offer(
     list: &mut [u8],
     at: Progress,
 ) -> Reply
-    ensures { λ r. ⌜ OfferOutcome
+    ensures { λ r. ⌜ OfferedOn
         (grammarIn (now (book .entry)) reading)
         (now (table .entry))
         column
@@ -157,4 +160,34 @@ pub fn offer(
         list,
         from,
     )
+}
+
+// One column offered to a run in progress, whatever the reading and the counts; every column from T on is the end
+// mark's. Where the book was refused, that is the reply, and nothing changes.
+pub fn offer(
+    book: &[u8],
+    reading: Reading,
+    table: &[u8],
+    column: u8,
+    stack: &mut [u8],
+    list: &mut [u8],
+    at: Progress,
+) -> Reply
+    ensures { λ r. ⌜ OfferOutcome
+        (now (book .entry))
+        reading
+        (now (table .entry))
+        column
+        at
+        (now (stack .entry))
+        (now (list .entry))
+        r
+        (now (stack .exit))
+        (now (list .exit)) ⌝ }
+{
+    let judged = reading.answer;
+    if judged.number != DONE {
+        return Reply::Refused(judged);
+    }
+    offer_on(book, reading, table, column, stack, list, at)
 }

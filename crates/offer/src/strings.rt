@@ -3,12 +3,12 @@ ghost use Prim.Native.Nat.{_≤_};
 ghost use lib.ListN.{length};
 ghost use Rattle.book.specs.Columns.{outlined, Lengths};
 ghost use Rattle.offer.specs.Strings.{Stepped, StringOutcome};
-use crate::Cause;
 use crate::Progress;
 use crate::Reply;
 use crate::offering::offer_at;
 use book::columns::Outline;
 use book::columns::gather_lengths;
+use machine::Reason;
 use stack::ahead_of;
 use stack::clear;
 use stack::put_start;
@@ -65,8 +65,8 @@ fn offer_all(
     }
 }
 
-// A whole token string offered, then the end mark, from the start symbol on; after that every stack cell is 0. Without a
-// stack cell nothing is done.
+// A whole token string offered, then the end mark, from the start symbol on; after that every stack cell is 0. Without
+// a stack cell nothing is done.
 pub fn offer_string(
     book: &[u8],
     places: &[u16],
@@ -88,7 +88,7 @@ pub fn offer_string(
 {
     if stack.len() == 0 {
         return Reply::Stopped(
-            Cause::FullStack,
+            Reason::FullStack,
             Progress {
                 height: 0,
                 listed: 0,

@@ -1,5 +1,5 @@
--- The calls on a judged book: each allows one outcome, and on the reading of a book that serves, a table that fits and tokens of its own the
--- judged run is the run.
+-- The calls on a judged book: each allows one outcome, and on what judging gives, a table that fits and tokens of the book's own the judged
+-- run is the run.
 use mathlib.Core.Path.{_≡_, refl, sym, ap, _∙_, subst}
 use mathlib.Core.List.{List}
 use Prim.Native.Nat.{ℕ, _+_, _-_}
@@ -7,21 +7,34 @@ use native.Mathlib.Omega.{arith}
 use lib.ListN.{length}
 use Rattle.grammar.specs.Grammar.{Grammar}
 use Rattle.answers.specs.declared.Answer.{Answer}
-use Rattle.book.specs.Judging.{Serves, indexOf}
-use Rattle.book.specs.Columns.{grammarIn}
-use Rattle.book.proofs.Promise.{index-grammar}
+use Rattle.book.specs.Judging.{Serves, Judged}
+use Rattle.book.specs.declared.Reading.{Reading}
+use Rattle.book.proofs.Promise.{judged-done, judged-refused, reading-grammar}
 use Rattle.run.specs.Beside.{Shown}
-use Rattle.run.specs.Judged.{JudgedRun, no-stack, ended}
+use Rattle.run.specs.Judged.{RanOn, no-stack, ended, JudgedRun, refused, ran-on}
 use Rattle.run.specs.Running.{Admits, RunOutcome}
 use Rattle.run.specs.Running as running
 use Rattle.run.proofs.OutcomeUnique.{Result, BesideResult, beside-outcome-unique}
 
--- a run on a judged book allows one outcome
-pub judged-run-unique : {g : Grammar} {table tokens stack list : List ℕ} {a b : Answer} {s l t m : List ℕ} → JudgedRun g table tokens stack list a s l → JudgedRun g table tokens stack list b t m → _≡_ {A = Result} (a, s, l) (b, t, m)
-judged-run-unique (no-stack e) (no-stack f) = refl
-judged-run-unique (no-stack e) (ended h) = absurd (omega arith)
-judged-run-unique (ended h) (no-stack e) = absurd (omega arith)
-judged-run-unique (ended h) (ended k) = refl
+-- a run on a grammar allows one outcome
+ran-on-unique : {g : Grammar} {table tokens stack list : List ℕ} {a b : Answer} {s l t m : List ℕ}
+    → RanOn g table tokens stack list a s l
+    → RanOn g table tokens stack list b t m
+    → _≡_ {A = Result} (a, s, l) (b, t, m)
+ran-on-unique (no-stack e) (no-stack f) = refl
+ran-on-unique (no-stack e) (ended h) = absurd (omega arith)
+ran-on-unique (ended h) (no-stack e) = absurd (omega arith)
+ran-on-unique (ended h) (ended k) = refl
+
+-- and so does one on a judged book
+pub judged-run-unique : {book : List ℕ} {reading : Reading} {table tokens stack list : List ℕ} {a b : Answer} {s l t m : List ℕ}
+    → JudgedRun book reading table tokens stack list a s l
+    → JudgedRun book reading table tokens stack list b t m
+    → _≡_ {A = Result} (a, s, l) (b, t, m)
+judged-run-unique (refused n) (refused k) = refl
+judged-run-unique (refused n) (ran-on e p) = absurd (n e)
+judged-run-unique (ran-on e o) (refused n) = absurd (n e)
+judged-run-unique (ran-on e o) (ran-on f p) = ran-on-unique o p
 
 abbrev pub ShownResult : Type 0
 ShownResult = List ℕ × List ℕ × List ℕ × List ℕ × ℕ × ℕ
@@ -34,13 +47,24 @@ shown-unique {book} {table} {tokens} {stack} {list} {memory} x y =
     let part = ap (λ (z : BesideResult). length tokens - length (z .1)) same in
     λ i. (same i .0, same i .1, same i .2, same i .3, (x .own ∙ sym (y .own)) i, (x .after ∙ ap (λ (n : ℕ). memory .1 + n) part ∙ sym (y .after)) i)
 
-judged-serves : {book table tokens stack list : List ℕ} {g : Grammar} → Serves book g → Admits g table tokens stack
-    → {a : Answer} {s l : List ℕ} → JudgedRun g table tokens stack list a s l → RunOutcome book table tokens stack list a s l
-judged-serves serves admits (no-stack e) = absurd (omega (arith, admits .stacked))
-judged-serves serves admits (ended h) = running.ended serves admits
+ran-serves : {book table tokens stack list : List ℕ} {g : Grammar}
+    → Serves book g
+    → Admits g table tokens stack
+    → {a : Answer} {s l : List ℕ}
+    → RanOn g table tokens stack list a s l
+    → RunOutcome book table tokens stack list a s l
+ran-serves serves admits (no-stack e) = absurd (omega (arith, admits .stacked))
+ran-serves serves admits (ended h) = running.ended serves admits
 
--- on the reading of a book that serves, with a table, tokens and a stack cell that pass the checks, a run on the judged book is the run
-pub judged-run-run : {book table tokens stack list : List ℕ} {g : Grammar} → Serves book g → Admits g table tokens stack
-    → {a : Answer} {s l : List ℕ} → JudgedRun (grammarIn book (indexOf g)) table tokens stack list a s l → RunOutcome book table tokens stack list a s l
-judged-run-run {book} {table} {tokens} {stack} {list} {g} serves admits {a} {s} {l} o =
-    judged-serves serves admits (subst (λ (x : Grammar). JudgedRun x table tokens stack list a s l) (index-grammar serves) o)
+-- on what judging the book gives, with a table, tokens and a stack cell that pass the checks where it serves, a run on the judged book is
+-- the run
+pub judged-run-run : {book table tokens stack list : List ℕ} {reading : Reading}
+    → Judged book reading
+    → ((g : Grammar) → Serves book g → Admits g table tokens stack)
+    → {a : Answer} {s l : List ℕ}
+    → JudgedRun book reading table tokens stack list a s l
+    → RunOutcome book table tokens stack list a s l
+judged-run-run judged admits (refused n) = running.refused (judged-refused judged n .0)
+judged-run-run {table = table} {tokens = tokens} {stack = stack} {list = list} judged admits {a} {s} {l} (ran-on e o) =
+    let (g, serves, same) = judged-done judged e in
+    ran-serves serves (admits g serves) (subst (λ (x : Grammar). RanOn x table tokens stack list a s l) (reading-grammar serves same) o)

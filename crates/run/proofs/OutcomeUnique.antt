@@ -1,29 +1,24 @@
 -- Any two outcomes that the promises of running allow of the same inputs are equal, the answer and every buffer.
 use mathlib.Core.Path.{_≡_, refl}
 use mathlib.Core.List.{List}
-use Prim.Native.Nat.{ℕ, _<_}
-use native.Mathlib.Decide.{decLt}
+use Prim.Native.Nat.{ℕ}
 use native.Mathlib.Omega.{arith}
 use lib.ListN.{drop}
 use Rattle.grammar.specs.Grammar.{Grammar}
 use Rattle.answers.specs.declared.Answer.{Answer}
 use Rattle.answers.specs.Buffers.{over, cleared}
+use Rattle.answers.proofs.Promise.{lowest-unique}
 use Rattle.table.proofs.Promise.{misfit-not-fit, misfit-unique}
 use Rattle.machine.specs.Machine.{final}
 use Rattle.stack.proofs.Promise.{Call, refused, barred, ended, Apart, call-unique}
 use Rattle.offer.specs.Strings.{ran}
 use Rattle.offer.specs.Stops.{answered, expected}
-use Rattle.run.specs.Running.{FirstStrange, Barred, bad-table, too-long, strange, no-stack, Admits, wordsOf, RunOutcome, BesideOutcome}
+use Rattle.run.specs.Running.{FirstStrange, Barred, bad-table, too-long, strange, no-stack, Admits, wordsOf, RunOutcome, matchedIn, BesideOutcome}
 use Rattle.run.specs.Running as running
 
 -- the first strange token is determined
 pub first-strange-unique : {g : Grammar} {tokens : List ℕ} {i j : ℕ} → FirstStrange g tokens i → FirstStrange g tokens j → i ≡ j
-first-strange-unique {i = i} {j = j} a b = go (decLt i j) (decLt j i)
-  where
-    go : Dec (i < j) → Dec (j < i) → i ≡ j
-    go (yes l) k = absurd (omega (arith, a .strange, b .earlier i l))
-    go (no n) (yes l) = absurd (omega (arith, b .strange, a .earlier j l))
-    go (no n) (no m) = omega arith
+first-strange-unique a b = lowest-unique (a .lowest) (b .lowest)
 
 module _ {g : Grammar} {table tokens stack : List ℕ} where
   -- what is refused before steps is refused with one answer
@@ -39,17 +34,17 @@ module _ {g : Grammar} {table tokens stack : List ℕ} where
   barred-unique (strange f h s) (bad-table m) = absurd (misfit-not-fit m f)
   barred-unique (strange f h s) (too-long e l) = absurd (omega arith)
   barred-unique (strange f h s) (strange e l t) = rw (first-strange-unique s t)
-  barred-unique (strange {i = i} f h s) (no-stack e l k n) = absurd (omega (arith, k i (s .inside), s .strange))
+  barred-unique (strange {i = i} f h s) (no-stack e l k n) = absurd (omega (arith, k i (s .inside), s .lowest .found (s .inside)))
   barred-unique (no-stack f h k e) (bad-table m) = absurd (misfit-not-fit m f)
   barred-unique (no-stack f h k e) (too-long d l) = absurd (omega arith)
-  barred-unique (no-stack f h k e) (strange {i = i} d l s) = absurd (omega (arith, k i (s .inside), s .strange))
+  barred-unique (no-stack f h k e) (strange {i = i} d l s) = absurd (omega (arith, k i (s .inside), s .lowest .found (s .inside)))
   barred-unique (no-stack f h k e) (no-stack d l m n) = refl
 
   -- and then steps do not begin
   pub barred-not-admits : {a : Answer} → Barred g table tokens stack a → Admits g table tokens stack → ⊥
   barred-not-admits (bad-table m) a = misfit-not-fit m (a .fits)
   barred-not-admits (too-long f h) a = omega (arith, a .short)
-  barred-not-admits (strange {i = i} f h s) a = omega (arith, a .known i (s .inside), s .strange)
+  barred-not-admits (strange {i = i} f h s) a = omega (arith, a .known i (s .inside), s .lowest .found (s .inside))
   barred-not-admits (no-stack f h k e) a = omega (arith, a .stacked)
 
 -- the answer, the stack and the list
@@ -94,9 +89,14 @@ module _ (book table tokens stack list : List ℕ) where
       (wordsOf (answered (expected g table) (ran g table tokens stack list)), drop (final (ran g table tokens stack list) .matched) tokens, cleared stack, over (final (ran g table tokens stack list) .listed) list)
 
   beside-call : {a r s l : List ℕ} → BesideOutcome book table tokens stack list a r s l → Calls kept-beside end-beside (a, r, s, l)
-  beside-call (running.refused r) = refused r
-  beside-call (running.barred s b) = barred s b
-  beside-call (running.ended s a) = ended s a
+  unfolding matchedIn
+  beside-call o = rw (o .told, o .shown) (go (o .run))
+    where
+      go : {a : Answer} {s l : List ℕ} (x : RunOutcome book table tokens stack list a s l)
+          → Calls kept-beside end-beside (wordsOf a, drop (matchedIn x) tokens, s, l)
+      go (running.refused r) = refused r
+      go (running.barred s b) = barred s b
+      go (running.ended s a) = ended s a
 
   -- a run that shows its rest allows one outcome
   pub beside-outcome-unique : {a r s l b q t m : List ℕ}

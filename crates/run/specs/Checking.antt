@@ -2,24 +2,18 @@
 -- Document 01, "Refusals and their numbers". Only contracts inside the crate cite what stands here.
 use mathlib.Core.List.{List}
 use mathlib.Core.Path.{_≡_}
-use Prim.Native.Nat.{ℕ, _≤_, _<_}
-use lib.ListN.{length, getD}
+use Prim.Native.Nat.{ℕ}
+use lib.ListN.{length}
 use Rattle.grammar.specs.Grammar.{Grammar}
 use Rattle.answers.specs.Answers.{done}
+use Rattle.answers.specs.Checks.{Checked}
 use Rattle.answers.specs.declared.Answer.{Answer}
 use Rattle.run.specs.Running.{Barred, Admits}
 
--- the first token that is not below T, or the length
-pub record FirstAbove (T : ℕ) (tokens : List ℕ) (r : ℕ) : Type 0 where
-  pub inside : r ≤ length tokens
-  pub earlier : (j : ℕ) → j < r → getD tokens j 0 < T
-  pub above : r < length tokens → T ≤ getD tokens r 0
-
 -- barred with the refusal, or admitted
-pub data Checked (g : Grammar) (table tokens stack : List ℕ) : Answer → Type 0 where
-  barred : {a : Answer} → Barred g table tokens stack a → Checked g table tokens stack a
-  admitted : Admits g table tokens stack → Checked g table tokens stack (done 0)
+abbrev pub RunChecked : (g : Grammar) (table tokens stack : List ℕ) → Answer → Type 0
+RunChecked g table tokens stack = Checked (done 0) (Barred g table tokens stack) (Admits g table tokens stack)
 
 -- whatever the stack, if it has so many cells
 pub record CheckedWith (g : Grammar) (table tokens : List ℕ) (cells : ℕ) (r : Answer) : Type 0 where
-  pub checked : (stack : List ℕ) → length stack ≡ cells → Checked g table tokens stack r
+  pub checked : (stack : List ℕ) → length stack ≡ cells → RunChecked g table tokens stack r

@@ -1,6 +1,8 @@
+// The answer to a run that has ended: the paper's number, place, detail, steps and expected set.
 ghost use mathlib.Core.Path.{_≡_};
 ghost use Prim.Native.Nat.{_+_, _^_, _<_};
-ghost use Rattle.run.specs.Answering.{numberOf, detailOf, WithColumn, RowColumns, Expects, progressIn, Answers};
+ghost use Rattle.offer.specs.Stops.{numberOf, detailOf};
+ghost use Rattle.run.specs.Answering.{WithColumn, RowColumns, Expects, progressIn, Answers};
 use answers::Answer;
 use answers::done;
 use answers::refusals::LIST_ROOM;
@@ -9,7 +11,7 @@ use answers::refusals::STACK_ROOM;
 use answers::refusals::SYNTAX;
 use answers::stop;
 use book::columns::Outline;
-use offer::Cause;
+use machine::Reason;
 use offer::Progress;
 use offer::Reply;
 use sets::END_MARK;
@@ -47,48 +49,56 @@ fn row_columns(table: &[u8], outline: Outline, n: u8) -> Set
 }
 
 // The expected set of a stop.
-fn expects(table: &[u8], outline: Outline, cause: Cause) -> Set
-    ensures { λ r. ⌜ Expects outline (now (table .entry)) cause r ⌝ }
+fn expects(table: &[u8], outline: Outline, reason: Reason) -> Set
+    ensures { λ r. ⌜ Expects outline (now (table .entry)) reason r ⌝ }
 {
-    match cause {
-        Cause::FullList => none(),
-        Cause::FullStack => none(),
-        Cause::WantsEnd => with(none(), END_MARK),
-        Cause::WantsToken(t) => with(none(), t),
-        Cause::WantsRow(n) => row_columns(table, outline, n),
+    match reason {
+        Reason::FullList => none(),
+        Reason::FullStack => none(),
+        Reason::WantsEnd => with(none(), END_MARK),
+        Reason::WantsToken(t) => with(none(), t),
+        Reason::WantsRow(n) => row_columns(table, outline, n),
     }
 }
 
-fn number_of(cause: Cause) -> u32
-    ensures { λ r. ⌜ r ≡ numberOf cause ⌝ }
+// The paper's number of a stop.
+fn number_of(reason: Reason) -> u32
+    ensures { λ r. ⌜ r ≡ numberOf reason ⌝ }
 {
-    match cause {
-        Cause::FullList => ROOM,
-        Cause::FullStack => ROOM,
-        Cause::WantsEnd => SYNTAX,
-        Cause::WantsToken(_) => SYNTAX,
-        Cause::WantsRow(_) => SYNTAX,
+    match reason {
+        Reason::FullList => ROOM,
+        Reason::FullStack => ROOM,
+        Reason::WantsEnd => SYNTAX,
+        Reason::WantsToken(_) => SYNTAX,
+        Reason::WantsRow(_) => SYNTAX,
     }
 }
 
-fn detail_of(cause: Cause) -> u64
-    ensures { λ r. ⌜ r ≡ detailOf cause ⌝ }
+// The paper's detail of a stop.
+fn detail_of(reason: Reason) -> u64
+    ensures { λ r. ⌜ r ≡ detailOf reason ⌝ }
 {
-    match cause {
-        Cause::FullList => LIST_ROOM,
-        Cause::FullStack => STACK_ROOM,
-        Cause::WantsEnd => 0,
-        Cause::WantsToken(_) => 0,
-        Cause::WantsRow(_) => 0,
+    match reason {
+        Reason::FullList => LIST_ROOM,
+        Reason::FullStack => STACK_ROOM,
+        Reason::WantsEnd => 0,
+        Reason::WantsToken(_) => 0,
+        Reason::WantsRow(_) => 0,
     }
 }
 
+// The counts of a reply.
 pub(crate) fn progress_of(reply: Reply) -> Progress
     ensures { λ r. ⌜ r ≡ progressIn reply ⌝ }
 {
     match reply {
         Reply::Taken(at) => at,
         Reply::Stopped(_, at) => at,
+        Reply::Refused(_) => Progress {
+            height: 0,
+            listed: 0,
+            matched: 0,
+        },
     }
 }
 
@@ -109,15 +119,16 @@ pub(crate) fn answer_of(table: &[u8], outline: Outline, reply: Reply) -> Answer
     let steps = steps_of(at);
     match reply {
         Reply::Taken(_) => done(steps),
-        Reply::Stopped(cause, _) => {
-            let expected = expects(table, outline, cause);
+        Reply::Stopped(reason, _) => {
+            let expected = expects(table, outline, reason);
             stop(
-                number_of(cause),
+                number_of(reason),
                 at.matched as u64,
-                detail_of(cause),
+                detail_of(reason),
                 steps,
                 expected,
             )
         }
+        Reply::Refused(answer) => answer,
     }
 }

@@ -1,3 +1,4 @@
+// A run that shows, beside its answer, the part of the tokens not yet matched.
 ghost use mathlib.Core.Path.{_≡_};
 ghost use Rattle.run.specs.Beside.{Shown};
 ghost use Rattle.run.specs.Running.{wordsOf};

@@ -2,7 +2,9 @@
 ghost use Prim.Native.Nat.{ℕ, _≤_, _<_};
 ghost use lib.ListN.{length, getD};
 ghost use Rattle.book.specs.Columns.{outlined};
-ghost use Rattle.run.specs.Checking.{FirstAbove, CheckedWith};
+ghost use Rattle.answers.specs.Lowest.{Lowest};
+ghost use Rattle.run.specs.Checking.{CheckedWith};
+ghost use Rattle.run.specs.Running.{Strange};
 use answers::Answer;
 use answers::done;
 use answers::limits::LONGEST_STRING;
@@ -39,7 +41,7 @@ fn highest(tokens: &[u8]) -> u8
 // The first token that is not below `limit`, or the length. Where the highest one is below it no search is made, which
 // is faster.
 fn first_above(tokens: &[u8], limit: u8) -> usize
-    ensures { λ r. ⌜ FirstAbove limit (now (tokens .entry)) r ⌝ }
+    ensures { λ r. ⌜ Lowest (Strange limit (now (tokens .entry))) (length (now (tokens .entry))) r ⌝ }
 {
     if highest(tokens) < limit {
         return tokens.len();

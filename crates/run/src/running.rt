@@ -1,7 +1,7 @@
 // A whole token string run: judging, checks, steps and the answer.
 ghost use Rattle.book.specs.Columns.{grammarIn, outlined};
 ghost use Rattle.run.specs.Accounting.{AccountedOn, Accounted};
-ghost use Rattle.run.specs.Judged.{JudgedRun};
+ghost use Rattle.run.specs.Judged.{RanOn, JudgedRun};
 ghost use Rattle.run.specs.Running.{RunOutcome};
 use crate::Account;
 use crate::answering::answer_of;
@@ -15,8 +15,8 @@ use book::columns::outline_of;
 use book::judging::judge;
 use offer::strings::offer_string;
 
-// A run on a book that is judged already, whatever the reading: book, table and tokens are not checked again.
-pub fn run_judged(
+// A run on the grammar that a reading tells of.
+fn run_on(
     book: &[u8],
     reading: Reading,
     table: &[u8],
@@ -24,7 +24,7 @@ pub fn run_judged(
     stack: &mut [u8],
     list: &mut [u8],
 ) -> Answer
-    ensures { λ r. ⌜ JudgedRun
+    ensures { λ r. ⌜ RanOn
         (grammarIn (now (book .entry)) reading)
         (now (table .entry))
         (now (tokens .entry))
@@ -38,6 +38,34 @@ pub fn run_judged(
     let outline = outline_of(reading);
     let reply = offer_string(book, &places, outline, table, tokens, stack, list);
     answer_of(table, outline, reply)
+}
+
+// A run on a book that is judged already, whatever the reading: table and tokens are not checked. Where the book was
+// refused, that is the answer, and nothing changes.
+pub fn run_judged(
+    book: &[u8],
+    reading: Reading,
+    table: &[u8],
+    tokens: &[u8],
+    stack: &mut [u8],
+    list: &mut [u8],
+) -> Answer
+    ensures { λ r. ⌜ JudgedRun
+        (now (book .entry))
+        reading
+        (now (table .entry))
+        (now (tokens .entry))
+        (now (stack .entry))
+        (now (list .entry))
+        r
+        (now (stack .exit))
+        (now (list .exit)) ⌝ }
+{
+    let told = reading.answer;
+    if told.number != DONE {
+        return told;
+    }
+    run_on(book, reading, table, tokens, stack, list)
 }
 
 // The checks, and the steps where these admit them.

@@ -75,7 +75,8 @@ pub fn replace(book: &[u8], at: u16, count: u8, stack: &mut [u8], below: usize)
         ≡ replacing (stackBytes (formIn (now (book .entry)) (at + 4) count)) below (now (stack .entry)) ⌝ }
 {
     if below < stack.len() {
-        if count as usize <= stack.len() - below {
+        let top = below + count as usize;
+        if top <= stack.len() {
             stack[below] = 0;
             push(book, at, count, stack, below);
         }

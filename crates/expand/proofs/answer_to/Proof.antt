@@ -1,7 +1,7 @@
--- One case of `closing` for each finale.
+-- One case of `closing` for each way to end.
 use mathlib.Core.Path.{refl}
 use borrow.Author.Needs.{needs}
-use Rattle.expand.specs.Turns.{closing}
+use Rattle.expand.specs.Expanding.{closing}
 use Rattle.expand.proofs.ExpandAnswers.{closing-done, closing-stop}
 use Rattle.expand.proofs.answer_to.Statement.{statement}
 use Rattle.expand.proofs.answer_to.Tie as tie

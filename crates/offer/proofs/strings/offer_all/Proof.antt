@@ -1,4 +1,5 @@
 -- The invariant: from the state that the buffers hold the machine comes to the run's outcome.
+use mathlib.Core.Logic.{⊎-elim}
 use Prim.Native.Nat.{_-_}
 use native.Mathlib.Omega.{arith}
 use lib.ListN.{length}
@@ -35,50 +36,19 @@ offer-at-requires c κs =
 enum-known-reply : tie.Need-enum-known-reply Inv-loop μ-loop
 enum-known-reply c = search needs
 
-enum-told : tie.Need-enum-told Inv-loop μ-loop
-enum-told c = search needs
-
-same-length : tie.Need-same-length Inv-loop μ-loop
-same-length c =
-    let args = c .before .before .before .before .before .before .before .before .before .before .before .before .before .before .before .before .before .before .before .before .before .before .args in
-    let loop = c .before .before .before .before .before .before .before .before .before .before .loop in
-    let ahead-of = c .before .before .before .before .before .before .before .before .before .ahead-of in
-    let offer-at = c .before .before .before .before .before .before .offer-at in
-    stepped-from (args .stack .now) _ (c .before .before .before .before .before .before .before .before .before .before .before .before .before .put-start .ensures) (running-stopped _ _ _ _ _ _ _ (loop .inv) (ahead-of .ensures) (offer-at .ensures) (c .enum-told .given .1)) .stack-length
-
-same-length-2 : tie.Need-same-length-2 Inv-loop μ-loop
-same-length-2 c =
-    let args = c .before .before .before .before .before .before .before .before .before .before .before .before .before .before .before .before .before .before .before .before .before .before .args in
-    let loop = c .before .before .before .before .before .before .before .before .before .before .loop in
-    let ahead-of = c .before .before .before .before .before .before .before .before .before .ahead-of in
-    let offer-at = c .before .before .before .before .before .before .offer-at in
-    stepped-from (args .stack .now) _ (c .before .before .before .before .before .before .before .before .before .before .before .before .before .put-start .ensures) (running-stopped _ _ _ _ _ _ _ (loop .inv) (ahead-of .ensures) (offer-at .ensures) (c .enum-told .given .1)) .list-length
-
 returns : tie.Need-returns Inv-loop μ-loop
 returns c =
-    let args = c .before .before .before .before .before .before .before .before .before .before .before .before .before .before .before .before .before .before .before .before .before .before .args in
-    let loop = c .before .before .before .before .before .before .before .before .before .before .loop in
-    let ahead-of = c .before .before .before .before .before .before .before .before .before .ahead-of in
-    let offer-at = c .before .before .before .before .before .before .offer-at in
-    stepped-from (args .stack .now) _ (c .before .before .before .before .before .before .before .before .before .before .before .before .before .put-start .ensures) (running-stopped _ _ _ _ _ _ _ (loop .inv) (ahead-of .ensures) (offer-at .ensures) (c .enum-told .given .1))
+    let args = c .before .before .before .before .before .before .before .before .before .before .before .before .before .before .before .before .before .before .before .before .before .args in
+    let loop = c .before .before .before .before .before .before .before .before .before .loop in
+    let ahead-of = c .before .before .before .before .before .before .before .before .ahead-of in
+    let offer-at = c .before .before .before .before .before .offer-at in
+    stepped-from (args .stack .now) _ (c .before .before .before .before .before .before .before .before .before .before .before .before .put-start .ensures) (running-stopped _ _ _ _ _ _ _ (loop .inv) (ahead-of .ensures) (offer-at .ensures) (λ x e. ⊎-elim (λ k. omega (arith, rw e at k)) (λ k. omega (arith, rw e at k)) (c .match .keys2)))
 
-same-length-3 : tie.Need-same-length-3 Inv-loop μ-loop
-same-length-3 c =
-    let args = c .before .before .before .before .before .before .before .before .before .before .before .before .before .before .before .before .before .before .before .before .before .before .before .before .args in
-    let loop = c .before .before .before .before .before .before .before .before .before .before .before .before .loop in
-    let ahead-of = c .before .before .before .before .before .before .before .before .before .before .before .ahead-of in
-    let offer-at = c .before .before .before .before .before .before .before .before .offer-at in
-    let reply = c .before .before .reply in
-    stepped-from (args .stack .now) _ (c .before .before .before .before .before .before .before .before .before .before .before .before .before .before .before .put-start .ensures) (running-over _ _ _ _ _ _ _ (loop .inv) (ahead-of .ensures) (offer-at .ensures) (reply .given .1) (c .if1 .taken)) .stack-length
+same-length : tie.Need-same-length Inv-loop μ-loop
+same-length c = returns c .stack-length
 
-same-length-4 : tie.Need-same-length-4 Inv-loop μ-loop
-same-length-4 c =
-    let args = c .before .before .before .before .before .before .before .before .before .before .before .before .before .before .before .before .before .before .before .before .before .before .before .before .args in
-    let loop = c .before .before .before .before .before .before .before .before .before .before .before .before .loop in
-    let ahead-of = c .before .before .before .before .before .before .before .before .before .before .before .ahead-of in
-    let offer-at = c .before .before .before .before .before .before .before .before .offer-at in
-    let reply = c .before .before .reply in
-    stepped-from (args .stack .now) _ (c .before .before .before .before .before .before .before .before .before .before .before .before .before .before .before .put-start .ensures) (running-over _ _ _ _ _ _ _ (loop .inv) (ahead-of .ensures) (offer-at .ensures) (reply .given .1) (c .if1 .taken)) .list-length
+same-length-2 : tie.Need-same-length-2 Inv-loop μ-loop
+same-length-2 c = returns c .list-length
 
 returns-2 : tie.Need-returns-2 Inv-loop μ-loop
 returns-2 c =
@@ -88,6 +58,12 @@ returns-2 c =
     let offer-at = c .before .before .before .before .before .before .before .before .offer-at in
     let reply = c .before .before .reply in
     stepped-from (args .stack .now) _ (c .before .before .before .before .before .before .before .before .before .before .before .before .before .before .before .put-start .ensures) (running-over _ _ _ _ _ _ _ (loop .inv) (ahead-of .ensures) (offer-at .ensures) (reply .given .1) (c .if1 .taken))
+
+same-length-3 : tie.Need-same-length-3 Inv-loop μ-loop
+same-length-3 c = returns-2 c .stack-length
+
+same-length-4 : tie.Need-same-length-4 Inv-loop μ-loop
+same-length-4 c = returns-2 c .list-length
 
 loop-less : tie.Need-loop-less Inv-loop μ-loop
 loop-less c =
@@ -116,7 +92,6 @@ offer-all-spec =
     ahead-of-requires
     offer-at-requires
     enum-known-reply
-    enum-told
     same-length
     same-length-2
     returns

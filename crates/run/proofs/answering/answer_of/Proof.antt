@@ -1,7 +1,7 @@
 -- One answer for each kind of reply.
 use mathlib.Core.Path.{refl}
 use borrow.Author.Needs.{needs}
-use Rattle.run.proofs.Expected.{answers-done, answers-stop}
+use Rattle.run.proofs.Expected.{answers-done, answers-stop, answers-refused}
 use Rattle.run.proofs.answering.answer_of.Statement.{statement}
 use Rattle.run.proofs.answering.answer_of.Tie as tie
 
@@ -32,6 +32,9 @@ detail-of-requires c κs = search needs
 stop-requires : tie.Need-stop-requires
 stop-requires c κs = search needs
 
+enum-known-reply-2 : tie.Need-enum-known-reply-2
+enum-known-reply-2 c = search needs
+
 returns : tie.Need-returns
 returns c = answers-done _ (c .before .before .before .before .progress-of .ensures) (c .before .before .before .steps-of .ensures) (c .before .enum-told .given .1) (c .done .ensures)
 
@@ -43,6 +46,9 @@ returns-2 c =
     let expects = c .before .before .before .expects in
     let number-of = c .before .before .number-of in
     answers-stop _ (progress-of .ensures) (steps-of .ensures) (reply .given .1) (expects .ensures) (number-of .ensures) refl (c .before .detail-of .ensures) (c .stop .ensures)
+
+returns-3 : tie.Need-returns-3
+returns-3 c = answers-refused _ (c .before .reply2 .given .1)
 
 pub answer-of-spec : {M : Type 1} → statement M
 answer-of-spec =
@@ -57,5 +63,7 @@ answer-of-spec =
     number-of-requires
     detail-of-requires
     stop-requires
+    enum-known-reply-2
     returns
-    returns-2)
+    returns-2
+    returns-3)

@@ -1,6 +1,5 @@
 -- The account's answer.
 use borrow.Author.Needs.{needs}
-use Rattle.run.proofs.RunAnswers.{account-run}
 use Rattle.run.proofs.running.run.Statement.{statement}
 use Rattle.run.proofs.running.run.Tie as tie
 
@@ -14,7 +13,7 @@ same-length-2 : tie.Need-same-length-2
 same-length-2 c = search needs
 
 returns : tie.Need-returns
-returns c = account-run (c .before .before .before .before .before .account .ensures)
+returns c = c .before .before .before .before .before .account .ensures .run
 
 pub run-spec : {M : Type 1} → statement M
 run-spec = tie.close (tie.spec account-requires same-length same-length-2 returns)

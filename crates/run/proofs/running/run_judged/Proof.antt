@@ -1,21 +1,14 @@
--- The answer to what the whole string comes to.
+-- The refusal of the reading, or the run on the grammar that it tells of.
 use borrow.Author.Needs.{needs}
-use Rattle.book.proofs.Promise.{outlined-sized}
-use Rattle.run.proofs.RunAnswers.{string-countable, judged-answered}
+use Rattle.run.specs.Judged.{refused, ran-on}
 use Rattle.run.proofs.running.run_judged.Statement.{statement}
 use Rattle.run.proofs.running.run_judged.Tie as tie
 
-outline-of-requires : tie.Need-outline-of-requires
-outline-of-requires c κs = search needs
+returns : tie.Need-returns
+returns c = refused (c .if1 .taken)
 
-slice-aggregate-offer-string : tie.Need-slice-aggregate-offer-string
-slice-aggregate-offer-string c = search needs
-
-offer-string-requires : tie.Need-offer-string-requires
-offer-string-requires c κs = search needs
-
-answer-of-requires : tie.Need-answer-of-requires
-answer-of-requires c κs = string-countable (c .before .before .before .before .offer-string .ensures) (search needs)
+run-on-requires : tie.Need-run-on-requires
+run-on-requires c κs = search needs
 
 same-length : tie.Need-same-length
 same-length c = search needs
@@ -23,19 +16,9 @@ same-length c = search needs
 same-length-2 : tie.Need-same-length-2
 same-length-2 c = search needs
 
-returns : tie.Need-returns
-returns c =
-    let outline-of = c .before .before .before .before .before .before .before .before .before .outline-of .ensures in
-    judged-answered (rw outline-of at (c .before .before .before .before .before .offer-string .ensures)) (outlined-sized _ _ _) (rw outline-of at (c .answer-of .ensures))
+returns-2 : tie.Need-returns-2
+returns-2 c =
+    ran-on (c .before .before .before .before .before .before .before .if1 .left) (c .before .before .before .before .run-on .ensures)
 
 pub run-judged-spec : {M : Type 1} → statement M
-run-judged-spec =
-    tie.close
-    (tie.spec
-    outline-of-requires
-    slice-aggregate-offer-string
-    offer-string-requires
-    answer-of-requires
-    same-length
-    same-length-2
-    returns)
+run-judged-spec = tie.close (tie.spec returns run-on-requires same-length same-length-2 returns-2)
