@@ -130,7 +130,7 @@ module _ {book xs ys : List ℕ} {r s t : SetAnswer}
       let known = spelled-known xs (a .form) (a .spelled) in
       let join = first-joined (serves-limits (a .serves)) (a .form) (b .form) known (a .is .holds) (right .holds) in
       let sets = joined emptyString (number (r .set)) (number (s .set)) in
-      record { answer = whole .answer; set = exactly-unique (number (t .set)) sets (whole .holds) join }
+      record { answer = whole .answer; holds = exactly-unique (number (t .set)) sets (whole .holds) join }
 
   -- where the whole is done, so are both parts
   pub first-of-split : t .answer .number ≡ 0 → (r .answer .number ≡ 0) × (s .answer .number ≡ 0)

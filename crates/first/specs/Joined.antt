@@ -8,4 +8,4 @@ use Rattle.first.specs.declared.SetAnswer.{SetAnswer}
 -- t, of the whole, is done with the join of the sets of r and s, of its two parts
 pub record FirstJoined (r s t : SetAnswer) : Type 0 where
   pub answer : t .answer ≡ done 0
-  pub set : number (t .set) ≡ joined emptyString (number (r .set)) (number (s .set))
+  pub holds : number (t .set) ≡ joined emptyString (number (r .set)) (number (s .set))
