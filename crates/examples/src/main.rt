@@ -1,5 +1,5 @@
-// Every example of document 01 on the compiled code, a line each: the whole answer, then what is left in the lent buffers.
-// These hold 99s before each call, so that a cell that is left alone shows.
+// Every example of document 01 on the compiled code, a line each: the whole answer, then what is left in the lent
+// buffers. These hold 99s before each call, so that a cell that is left alone shows.
 mod builds;
 mod expansions;
 mod ladder;

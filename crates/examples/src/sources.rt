@@ -8,7 +8,7 @@ use run::running::run;
 fn first_sets() {
     let mut first = [99u64; 4];
     let mut follow = [99u64; 4];
-    let answer = table::sets(
+    let answer = follow::sets(
         b"GR\x04\x04\x00\x07PR\x00\x02\x81\x80PR\x00\x02\x82\x81PR\x01\x02\x00\x82PR\x01\x01\x83PR\x02\x02\x01\x81PR\x02\x01\x03PR\x03\x01\x02",
         &mut first,
         &mut follow,

@@ -38,7 +38,7 @@ fn show_sets(word: &[u8], family: &[u64], count: usize) {
 fn show_lookaheads(book: &[u8], count: usize) {
     let mut p: usize = 0;
     while p < count {
-        let found = table::lookahead(book, p as u64);
+        let found = follow::lookahead(book, p as u64);
         let set = found.set;
         show_set(b"ahead", p, set.word);
         p += 1;
@@ -50,7 +50,7 @@ fn show_first_of(book: &[u8], p: usize, from: usize, size: usize) {
     if from <= book.len() {
         if size <= book.len() - from {
             let end = from + size;
-            let found = table::first_of(book, &book[from..end]);
+            let found = first::first_of(book, &book[from..end]);
             let set = found.set;
             show_set(b"begin", p, set.word);
         }
@@ -114,7 +114,7 @@ pub(crate) fn show(book: &[u8]) {
     let columns = byte_at(book, 0, 2) as usize + 1;
     let rows = byte_at(book, 0, 3) as usize;
     let count = byte_at(book, 0, 5) as usize;
-    let worked = table::sets(book, &mut first, &mut follow);
+    let worked = follow::sets(book, &mut first, &mut follow);
     let built = table::build(book, &mut first, &mut follow, &mut cells);
     show_answer(b"build", built);
     if worked.number == 0 {
