@@ -4,7 +4,7 @@ use mathlib.Core.Logic.{_↔_, _⊎_, _≢_}
 use mathlib.Core.List.{List}
 use Prim.Native.Nat.{ℕ, _+_, _≤_, _<_}
 use native.Mathlib.Omega.{arith}
-use lib.ListN.{length, take, drop}
+use lib.ListN.{length, getD, take, drop}
 use lib.Seq.{take-at}
 use Rattle.grammar.specs.Grammar.{Grammar, Complete}
 use Rattle.grammar.proofs.Theorems.{leftmost-unique}
@@ -12,17 +12,22 @@ use Rattle.answers.specs.declared.Answer.{Answer}
 use Rattle.answers.specs.Answers.{done}
 use Rattle.answers.specs.Refusals.{room, syntax, production}
 use Rattle.answers.specs.Buffers.{over, counted}
-use Rattle.answers.specs.Limits.{longestList}
+use Rattle.answers.specs.Limits.{longestList, mostCells}
 use Rattle.book.specs.Judging.{Serves}
+use Rattle.book.specs.declared.Reading.{Reading}
 use Rattle.table.specs.Table.{cellOf}
 use Rattle.machine.specs.Room.{peak, LongestList}
 use Rattle.machine.specs.Stopping.{RoomNeeded}
 use Rattle.machine.proofs.Promise.{room-needed}
 use Rattle.offer.specs.Strings.{ran}
-use Rattle.offer.proofs.Promise.{told-numbers}
+use Rattle.offer.specs.declared.Progress.{Progress}
+use Rattle.offer.specs.declared.Reply.{Reply}
+use Rattle.offer.proofs.Promise.{told-numbers, OfferResult}
+use Rattle.run.specs.Judged.{JudgedRun}
 use Rattle.run.specs.Running.{Admits}
 use Rattle.demands.specs.Demands.{Built, Ran, Expanded, MayBuild, MayRun, MayExpand, Premises, RunRoom, expanded, BuildMeets2, ExpandMeets2, RunMeets2, RunMeets3, RunStepsAdd, ExpandStepsAdd}
 use Rattle.demands.specs.RoomPlace.{StopsForRoom, ExpansionStops}
+use Rattle.demands.specs.Offers.{startOn, atStart, OfferedInTurn, MakesRun}
 use Rattle.demands.proofs.BuildDemands.{done-exactly, conflict-exactly, done-exactly-if}
 use Rattle.demands.proofs.ExpandDemands.{ends-moves, done-complete, done-exact, unfit-exact, unfit-place, expands-to, complete-room-iff}
 use Rattle.demands.proofs.ExpandRoom.{room-midway}
@@ -30,6 +35,7 @@ use Rattle.demands.proofs.Kept.{premises-exact, run-ends, run-begins, b
 use Rattle.demands.proofs.AnyTable.{ends-told, ends-steps, any-accepted}
 use Rattle.demands.proofs.RunDemands.{accepted-derived, syntax-place, served-or-short, room-short, short-room-refused, runs-back, done-had-room}
 use Rattle.demands.proofs.RunRoom.{room-place, decides-exactly}
+use Rattle.demands.proofs.Offers.{offers-made, turn-unique}
 -- room by formula: where no right side is empty, a run of n tokens keeps within N × n list cells and 1 + 15 × N × n
 -- stack cells, and with those it is never refused for room
 pub use Rattle.demands.proofs.Formula.{run-formula}
@@ -226,3 +232,25 @@ module _ (book table : List ℕ) where
           λ e x k m. expand-meets2 book ps other output e x .expands (h .built .serves) d (omega arith) k m,
         ),
       )
+
+module _ (book : List ℕ) (reading : Reading) (table tokens stack list : List ℕ) where
+  -- offers make a run: with the start symbol on the stack, an offer for each token and then one of the end mark give
+  -- what a run on the judged book gives, for any reading and table, a string of the book's tokens that can be counted
+  -- and a stack cell
+  pub offers-run : 1 ≤ length stack
+      → length tokens ≤ mostCells
+      → ((i : ℕ) → i < length tokens → getD tokens i 0 < reading .tokens)
+      → {r : Reply} {s l : List ℕ}
+      → OfferedInTurn book reading table tokens atStart (startOn reading stack) list r s l
+      → {a : Answer} {stack′ list′ : List ℕ}
+      → JudgedRun book reading table tokens stack list a stack′ list′
+      → MakesRun book reading table stack r s l a stack′ list′
+  offers-run some-cell short known turn = offers-made book reading table tokens stack list some-cell short known turn
+
+-- and offers in turn allow one outcome
+pub offers-unique : {book : List ℕ} {reading : Reading} {table tokens : List ℕ} {at : Progress} {stack list : List ℕ}
+    {r q : Reply} {s l t m : List ℕ}
+    → OfferedInTurn book reading table tokens at stack list r s l
+    → OfferedInTurn book reading table tokens at stack list q t m
+    → _≡_ {A = OfferResult} (r, s, l) (q, t, m)
+offers-unique {book} {reading} {table} one other = turn-unique book reading table one other

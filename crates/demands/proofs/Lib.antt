@@ -3,6 +3,8 @@ pub mod AnyTable
 pub mod RunDemands
 pub mod RunRoom
 pub mod Formula
+pub mod Height
+pub mod Offers
 pub mod BuildDemands
 pub mod ExpandDemands
 pub mod ExpandRoom

@@ -1,6 +1,7 @@
 pub mod Demands
 pub mod RoomPlace
 pub mod Formula
+pub mod Offers
 pub mod Examples
 pub mod ChainExample
 pub mod Idle
