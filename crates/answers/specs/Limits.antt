@@ -34,3 +34,20 @@ mostPatterns = 62
 
 abbrev pub mostPositions : ℕ
 mostPositions = 256
+
+-- the words of a set of positions, and of a set of points: positions, then the ends of patterns
+abbrev pub positionWords : ℕ
+positionWords = 4
+
+abbrev pub pointWords : ℕ
+pointWords = 5
+
+-- how many values a byte has; the states of a machine, and the cells of its row: for each byte one, then the token's
+abbrev pub byteValues : ℕ
+byteValues = 256
+
+abbrev pub mostStates : ℕ
+mostStates = 256
+
+abbrev pub rowCells : ℕ
+rowCells = 257

@@ -1,4 +1,5 @@
--- The numbers of document 01's table of refusals, and the details of refusal 7.
+-- The numbers of document 01's table of refusals and of document 02, W3 (14, 15, 16); the details of refusal 7, and
+-- behind them its details where a line is cut.
 use Prim.Native.Nat.{ℕ}
 
 abbrev pub served : ℕ
@@ -66,3 +67,10 @@ followRoom = 5
 
 abbrev pub tableRoom : ℕ
 tableRoom = 6
+
+-- and where a line is cut
+abbrev pub machineRoom : ℕ
+machineRoom = 1
+
+abbrev pub tokenRoom : ℕ
+tokenRoom = 2

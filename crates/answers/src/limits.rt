@@ -23,3 +23,15 @@ pub const MOST_CELLS: usize = 65535;
 pub const MOST_PATTERNS: usize = 62;
 
 pub const MOST_POSITIONS: usize = 256;
+
+// The words of a set of positions, and of a set of points: positions, then the ends of patterns.
+pub const POSITION_WORDS: usize = 4;
+
+pub const POINT_WORDS: usize = 5;
+
+// How many values a byte has; the states of a machine, and the cells of its row: for each byte one, then the token's.
+pub const BYTE_VALUES: usize = 256;
+
+pub const MOST_STATES: usize = 256;
+
+pub const ROW_CELLS: usize = 257;

@@ -1,4 +1,4 @@
-// The numbers of the paper's table of refusals, and the details of refusal 7.
+// The numbers of the papers' tables of refusals, and the details of refusal 7.
 pub const DONE: u32 = 0;
 
 pub const SHORT: u32 = 1;
@@ -42,3 +42,8 @@ pub const FIRST_ROOM: u64 = 4;
 pub const FOLLOW_ROOM: u64 = 5;
 
 pub const TABLE_ROOM: u64 = 6;
+
+// And where a line is cut.
+pub const MACHINE_ROOM: u64 = 1;
+
+pub const TOKEN_ROOM: u64 = 2;

@@ -7,7 +7,8 @@ use Prim.Native.Nat.{ℕ, _≤_, _<_}
 use native.Mathlib.Omega.{arith}
 use lib.ListN.{length, getElem?}
 use lib.Seq.{take-all}
-use Rattle.numbering.specs.Numbering.{Automaton, Lawful, IsState, Found, FoundAll, TooMany, Ending, Begins, Reached, ManyReached}
+use Rattle.numbering.specs.Numbering.{Automaton, Lawful, IsState, Found, FoundAll, TooMany, Ending, Begins}
+use Rattle.numbering.specs.Numbering.{Reached, ManyReached}
 use Rattle.numbering.proofs.Places.{begins-take}
 use Rattle.numbering.proofs.Agreement.{is-itself, is-same}
 use Rattle.numbering.proofs.Beginning.{shorter-begins, begins-length, no-longer}

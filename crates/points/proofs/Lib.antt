@@ -3,6 +3,7 @@ pub mod Stored
 pub mod Compared
 pub mod Union
 pub mod Outcomes
+pub mod Zeros
 pub mod Unique
 pub mod Examples
 pub mod Promise

@@ -1,13 +1,13 @@
 -- A set of n words that starts at word `at` of a slice, and what each function of the crate answers. Document 02, W3.
 use mathlib.Core.Path.{_≡_}
-use mathlib.Core.Bool.{Bool}
+use mathlib.Core.Bool.{Bool, true, false}
 use mathlib.Core.List.{List, [], _∷_}
-use Prim.Native.Nat.{ℕ, zero, suc}
+use Prim.Native.Nat.{ℕ, zero, suc, _≤_, _<_}
 use lib.ListN.{getD}
 use lib.Seq.{sets as written}
 use Rattle.sets.specs.Sets.{member, united, added}
 use Rattle.sets.specs.Calls.{Decides}
-use Rattle.sets.specs.Words.{AreWords, valueOf, wordsOf}
+use Rattle.sets.specs.Words.{wordWidth, AreWords, valueOf, wordsOf}
 
 -- the n words of a slice from `at` on; a word past the end is 0
 unfoldable pub wordsAt : List ℕ → ℕ → ℕ → List ℕ
@@ -18,8 +18,8 @@ wordsAt slice at (suc n) = getD slice at 0 ∷ wordsAt slice (suc at) n
 unfoldable pub pointsAt : List ℕ → ℕ → ℕ → ℕ
 pointsAt slice at n = valueOf (wordsAt slice at n)
 
--- the slice with the set x written as its n words from `at` on: what n words cannot hold is dropped, and a word past the end of
--- the slice is not written
+-- the slice with the set x written as its n words from `at` on: what n words cannot hold is dropped, and a word past
+-- the end of the slice is not written
 unfoldable pub storedAt : List ℕ → ℕ → ℕ → ℕ → List ℕ
 storedAt slice at n x = written slice at (wordsOf n x)
 
@@ -42,3 +42,9 @@ Same slice at other from n r = Decides r (pointsAt slice at n ≡ pointsAt other
 
 abbrev pub None : List ℕ → ℕ → ℕ → Bool → Type 0
 None slice at n r = Decides r (pointsAt slice at n ≡ 0)
+
+-- r is the lowest member of the word, or past its places if there is none
+pub record Lowest (word r : ℕ) : Type 0 where
+  pub within : r ≤ wordWidth
+  pub there : r < wordWidth → member r word ≡ true
+  pub below : (k : ℕ) → k < r → member k word ≡ false

@@ -3,7 +3,7 @@
 ghost use mathlib.Core.Path.{_≡_};
 ghost use Prim.Native.Nat.{_+_, _-_, _<_, min};
 ghost use lib.ListN.{getD, length};
-ghost use Rattle.points.specs.Points.{Has, Put, Unite, Same, None};
+ghost use Rattle.points.specs.Points.{Has, Put, Unite, Same, None, Lowest};
 
 // How many places a word has.
 pub const WORD_WIDTH: usize = 64;
@@ -90,4 +90,18 @@ pub fn same(sets: &[u64], at: usize, other: &[u64], from: usize, words: usize) -
         i += 1;
     }
     none(sets, at + count, words - count) && none(other, from + count, words - count)
+}
+
+// Word i of a slice; past the end 0.
+pub fn word_at(words: &[u64], i: usize) -> u64
+    ensures { λ r. ⌜ r ≡ getD (now (words .entry)) i 0 ⌝ }
+{
+    if i < words.len() { words[i] } else { 0 }
+}
+
+// The lowest member of a word, or 64.
+pub fn lowest(word: u64) -> usize
+    ensures { λ r. ⌜ Lowest word r ⌝ }
+{
+    u64::trailing_zeros(word) as usize
 }

@@ -1,0 +1,4 @@
+pub mod Leading
+pub mod Gathering
+pub mod Unique
+pub mod Promise

@@ -1,0 +1,10 @@
+pub mod Sets
+pub mod Bytes
+pub mod Turning
+pub mod Ends
+pub mod Laying
+pub mod Rows
+pub mod Whole
+pub mod Theorems
+pub mod Example
+pub mod Promise

@@ -1,0 +1,4 @@
+pub mod Machine
+pub mod Making
+pub mod Searching
+pub mod Filling

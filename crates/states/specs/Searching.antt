@@ -1,0 +1,90 @@
+-- The search for the states: sets that are kept one behind the other, and what each function of the search comes to.
+-- Working definitions, which no public contract cites.
+use mathlib.Core.Path.{_≡_}
+use mathlib.Core.Bool.{Bool, true, false}
+use mathlib.Core.Logic.{_≢_}
+use mathlib.Core.List.{List, [], _∷_, _++_}
+use mathlib.Core.Option.{Option}
+use Prim.Native.Nat.{ℕ, zero, suc, _+_, _-_, _*_, _≤_, _<_}
+use lib.ListN.{length, getD}
+use Rattle.sets.specs.Sets.{Exactly}
+use Rattle.sets.specs.Words.{places, AreWords}
+use Rattle.answers.specs.Limits.{pointWords, byteValues, mostStates}
+use Rattle.numbering.specs.Numbering.{Found, FoundAll, TooMany}
+use Rattle.moves.specs.Tables.{readersOf, firstOf, setOf, Next}
+use Rattle.states.specs.Machine.{tables, noCell}
+
+-- the first n sets of a slice
+unfoldable pub statesOf : List ℕ → ℕ → List ℕ
+statesOf sets zero = []
+statesOf sets (suc n) = statesOf sets n ++ (setOf sets n ∷ [])
+
+-- there is room for one set more than the most
+abbrev pub setsRoom : ℕ
+setsRoom = suc mostStates * pointWords
+
+-- a set of words was kept as set number i
+pub record Kept (before : List ℕ) (i : ℕ) (next after : List ℕ) : Type 0 where
+  pub long : length after ≡ length before
+  pub there : setOf after i ≡ setOf next 0
+  pub others : (j : ℕ) → j ≢ i → setOf after j ≡ setOf before j
+
+-- y is sought among the first n sets
+pub record Sought (sets : List ℕ) (n y r : ℕ) : Type 0 where
+  pub within : r ≤ n
+  pub before : (j : ℕ) → j < r → setOf sets j ≢ y
+  pub there : r < n → setOf sets r ≡ y
+
+-- none if y is empty, else where it is among the first n sets, or n
+pub data Numbered (sets : List ℕ) (n y : ℕ) : ℕ → Type 0 where
+  nothing : y ≡ 0 → Numbered sets n y noCell
+  numbered : {r : ℕ} → y ≢ 0 → Sought sets n y r → Numbered sets n y r
+
+-- the words of what comes after set number i by byte b, and its number
+pub record Target (readers follow sets : List ℕ) (n i b : ℕ) (next : List ℕ) (r : ℕ) : Type 0 where
+  pub words : AreWords next
+  pub exact : Exactly (places pointWords) (setOf next 0) (Next readers follow (setOf sets i) b)
+  pub number : Numbered sets n (setOf next 0) r
+
+-- where it is so said, byte b has the readers of the byte before
+abbrev pub Again : List ℕ → ℕ → Bool → Type 0
+Again readers b again = again ≡ true → (0 < b) × (readersOf readers b ≡ readersOf readers (b - 1))
+
+-- of each byte below n it is said whether
+pub record Repeats (readers : List ℕ) (n : ℕ) (alike : List Bool) : Type 0 where
+  pub repeats : (b : ℕ) → b < n → Again readers b (getD alike b false)
+
+-- n states were found in t cells
+pub record Searching (readers follow sets : List ℕ) (n t : ℕ) : Type 0 where
+  pub cells : List (Option ℕ)
+  pub found : Found (tables readers follow) (statesOf sets n) cells
+  pub turns : length cells ≡ t
+
+-- no state, or what can come first as state 0
+pub record Begun (follow before after : List ℕ) (r : ℕ) : Type 0 where
+  pub long : length after ≡ length before
+  pub few : r ≤ 1
+  pub empty : r ≡ 0 → firstOf follow ≡ 0
+  pub first : 0 < r → (firstOf follow ≢ 0) × (setOf after 0 ≡ firstOf follow)
+
+-- one cell more, and perhaps one state
+pub record Turned (readers follow before : List ℕ) (n t : ℕ) (after : List ℕ) (r : ℕ) : Type 0 where
+  pub long : length after ≡ length before
+  pub more : n ≤ r
+  pub few : r ≤ n + 1
+  pub searching : Searching readers follow after r t
+
+-- the row of a state, or too many states
+pub record RowFound (readers follow before : List ℕ) (n i : ℕ) (after : List ℕ) (r : ℕ) : Type 0 where
+  pub long : length after ≡ length before
+  pub more : n ≤ r
+  pub few : r ≤ suc mostStates
+  pub turns : ℕ
+  pub searching : Searching readers follow after r turns
+  pub row : r ≤ mostStates → turns ≡ suc i * byteValues
+
+-- all states, or too many
+pub record Searched (readers follow sets : List ℕ) (r : ℕ) : Type 0 where
+  pub few : r ≤ suc mostStates
+  pub whole : r ≤ mostStates → (cells : List (Option ℕ)) × FoundAll (tables readers follow) (statesOf sets r) cells
+  pub too-many : mostStates < r → TooMany (tables readers follow) mostStates
