@@ -8,13 +8,12 @@ use native.Mathlib.Numerals.{add-one}
 use native.Mathlib.Decide.{ℕ-discrete}
 use native.Mathlib.Omega.{arith}
 use lib.ListN.{length, getD}
-use Rattle.answers.specs.Limits.{mostPositions}
+use Rattle.answers.specs.Limits.{mostPositions, positionWords}
 use Rattle.pattern.specs.Pattern.{Range, Class, InClass, here, there}
 use Rattle.pattern.specs.Marks.{closeClass}
 use Rattle.parts.specs.declared.classes.Span.{Span}
 use Rattle.parts.specs.declared.classes.Place.{Place}
 use Rattle.parts.specs.Rows.{Rows}
-use Rattle.parts.specs.Parts.{positionWords}
 use Rattle.parts.specs.Classes.{oneIf, no-element, no-end, SpanRead, Spread, ElementMeant, ElementRead, ElementFollows, ClassMeant, ClassRead, elementsPending, classPending}
 use Rattle.parts.proofs.Marks.{mark-inside}
 use Rattle.parts.proofs.Growth.{rows-then, rows-alike}

@@ -18,8 +18,9 @@ use Rattle.sets.proofs.Members.{member-next, member-none, member-xor, member-po
 use Rattle.sets.proofs.Promise.{subset-lt, fits-members, places-are}
 use Rattle.points.specs.Points.{Unite}
 use Rattle.points.proofs.Promise.{points-fit, member-points}
+use Rattle.answers.specs.Limits.{positionWords, pointWords}
 use Rattle.parts.specs.Rows.{Rows}
-use Rattle.parts.specs.Parts.{positionWords, pointWords, positionsIn}
+use Rattle.parts.specs.Parts.{positionsIn}
 use Rattle.parts.specs.Leading.{Leads, LeadsWord, pointsIn, LedWord, Led}
 use Rattle.parts.proofs.Growth.{rows-none, rows-then, rows-alike, rows-unite}
 

@@ -6,7 +6,7 @@ use mathlib.Core.List.{List, [], _∷_}
 use Prim.Native.Nat.{ℕ, _+_, _≤_, _<_}
 use native.Mathlib.Omega.{arith}
 use lib.ListN.{length, getD, List·getD-eq-default}
-use Rattle.answers.specs.Limits.{mostPositions}
+use Rattle.answers.specs.Limits.{mostPositions, positionWords, pointWords}
 use Rattle.sets.specs.Sets.{Exactly, united}
 use Rattle.sets.specs.Words.{places, valueOf}
 use Rattle.sets.proofs.Promise.{places-are, exactly-none, exactly-alike}
@@ -17,7 +17,7 @@ use Rattle.pattern.specs.Positions.{size, FirstPosition, LastPosition}
 use Rattle.pattern.proofs.Promise.{null-of-one, first-of-one, last-of-one}
 use Rattle.parts.specs.declared.Part.{Part}
 use Rattle.parts.specs.Rows.{Rows}
-use Rattle.parts.specs.Parts.{positionWords, pointWords, positionsIn, capped, Told}
+use Rattle.parts.specs.Parts.{positionsIn, capped, Told}
 use Rattle.parts.specs.Leading.{pointsIn, Leads, Led}
 use Rattle.parts.specs.Joins.{Only, LedOn, Through}
 

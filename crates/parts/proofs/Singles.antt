@@ -6,7 +6,7 @@ use mathlib.Core.List.{List, [], _∷_}
 use Prim.Native.Nat.{ℕ, suc, _≤_, _<_}
 use native.Mathlib.Omega.{arith}
 use lib.ListN.{length, getD}
-use Rattle.answers.specs.Limits.{mostPositions}
+use Rattle.answers.specs.Limits.{mostPositions, positionWords}
 use Rattle.pattern.specs.Pattern.{Class, InClass, here, there, one}
 use Rattle.pattern.specs.Marks.{openClass, special}
 use Rattle.pattern.specs.Written.{range}
@@ -15,7 +15,7 @@ use Rattle.pattern.proofs.Promise.{reads-of-one, follow-of-one}
 use Rattle.parts.specs.declared.Part.{Part}
 use Rattle.parts.specs.declared.classes.Place.{Place}
 use Rattle.parts.specs.Rows.{Rows}
-use Rattle.parts.specs.Parts.{positionWords, Tabled}
+use Rattle.parts.specs.Parts.{Tabled}
 use Rattle.parts.specs.Letters.{LetterIs}
 use Rattle.parts.specs.Classes.{Spread, ClassRead, classPending}
 use Rattle.parts.specs.Joins.{Refused, Lone, SingleRead}

@@ -5,11 +5,10 @@ use mathlib.Core.List.{List}
 use Prim.Native.Nat.{ℕ, _+_, _*_, _≤_, _<_, max}
 use native.Mathlib.Decide.{decLt}
 use native.Mathlib.Omega.{arith}
-use Rattle.answers.specs.Limits.{mostPositions}
+use Rattle.answers.specs.Limits.{mostPositions, positionWords}
 use Rattle.sets.proofs.Promise.{places-are}
 use Rattle.points.specs.Points.{Put}
 use Rattle.parts.specs.Rows.{Rows}
-use Rattle.parts.specs.Parts.{positionWords}
 use Rattle.parts.proofs.Growth.{rows-none, rows-then, rows-alike, rows-put}
 
 -- the position stands in the rows from `low` on, below `end`

@@ -1,5 +1,6 @@
--- What reading a class comes to, and an element of it: what the reader of one byte says from the place before is what it says
--- from the place after, or the place is refused; and which bytes the class's position reads. Working definitions.
+-- What reading a class comes to, and an element of it: what the reader of one byte says from the place before is what
+-- it says from the place after, or the place is refused; and which bytes the class's position reads. Working
+-- definitions.
 use mathlib.Core.Path.{_≡_}
 use mathlib.Core.Logic.{_≢_}
 use mathlib.Core.Bool.{Bool, true, false}
@@ -7,7 +8,7 @@ use mathlib.Core.List.{List, [], _∷_, _++_}
 use mathlib.Core.Option.{some, none}
 use Prim.Native.Nat.{ℕ, _+_, _≤_, _<_, max}
 use lib.ListN.{length, getD}
-use Rattle.answers.specs.Limits.{mostPositions}
+use Rattle.answers.specs.Limits.{mostPositions, positionWords}
 use Rattle.pattern.specs.Pattern.{Range, Class, InClass, one}
 use Rattle.pattern.specs.Marks.{closeClass}
 use Rattle.pattern.specs.Written.{range}
@@ -15,7 +16,6 @@ use Rattle.pattern.specs.Reader.{Begun, Pending, outside, in-class, standing, r
 use Rattle.parts.specs.declared.classes.Span.{Span}
 use Rattle.parts.specs.declared.classes.Place.{Place}
 use Rattle.parts.specs.Rows.{Rows}
-use Rattle.parts.specs.Parts.{positionWords}
 
 -- 1 if so
 unfoldable pub oneIf : Bool → ℕ
@@ -72,7 +72,8 @@ pub record ClassMeant (text : List ℕ) (at : ℕ) (to : Class → Pending) (pos
   pub head : Range
   pub tail : Class
   pub passed : (room : ℕ) (around : List Begun) (a : Begun)
-      → says text (standing room around a (in-class [] none)) at ≡ says text (standing room around a (to (head ∷ tail))) next
+      → says text (standing room around a (in-class [] none)) at
+      ≡ says text (standing room around a (to (head ∷ tail))) next
   pub reads : position < mostPositions
       → Rows positionWords readers after (λ b p. InClass (head ∷ tail) b × (p ≡ position))
 

@@ -7,13 +7,13 @@ use Prim.Native.Nat.{ℕ, _+_, _≤_, _<_}
 use lib.ListN.{getD}
 use Rattle.sets.specs.Sets.{Exactly, united}
 use Rattle.sets.specs.Words.{places}
-use Rattle.answers.specs.Limits.{mostPositions}
+use Rattle.answers.specs.Limits.{mostPositions, positionWords, pointWords}
 use Rattle.pattern.specs.Pattern.{Class, one}
 use Rattle.pattern.specs.Marks.{bar, openGroup, closeGroup, starSign, plusSign, questionMark, among}
 use Rattle.pattern.specs.Kinds.{signs}
 use Rattle.parts.specs.declared.Part.{Part}
 use Rattle.parts.specs.Rows.{Rows}
-use Rattle.parts.specs.Parts.{positionWords, pointWords, positionsIn, Told}
+use Rattle.parts.specs.Parts.{positionsIn, Told}
 use Rattle.parts.specs.Leading.{Leads}
 use Rattle.parts.specs.Reading.{GoesOn, ItemRead}
 
@@ -24,7 +24,9 @@ pub record Refused (at : ℕ) (r : Part) : Type 0 where
 
 -- one position more: a byte or a class, where no group opens
 pub record SingleRead (text : List ℕ) (at n : ℕ) (readers : List ℕ) (r : Part) (after : List ℕ) : Type 0 where
-  pub item : getD text at 0 ≢ openGroup → (room : ℕ) (follow : List ℕ) → ItemRead text room at n readers follow r after follow
+  pub item : getD text at 0 ≢ openGroup
+      → (room : ℕ) (follow : List ℕ)
+      → ItemRead text room at n readers follow r after follow
 
 -- a part of one position, whatever its class is
 pub record Lone (good : Bool) (at count : ℕ) (r : Part) : Type 0 where

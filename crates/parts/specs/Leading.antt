@@ -5,8 +5,9 @@ use mathlib.Core.List.{List}
 use Prim.Native.Nat.{ℕ, _-_, _≤_}
 use Rattle.sets.specs.Sets.{member}
 use Rattle.points.specs.Points.{pointsAt}
+use Rattle.answers.specs.Limits.{positionWords, pointWords}
 use Rattle.parts.specs.Rows.{Rows}
-use Rattle.parts.specs.Parts.{positionWords, pointWords, positionsIn}
+use Rattle.parts.specs.Parts.{positionsIn}
 
 -- each position of `last` leads to each point of `next`
 pub record Leads (last next p q : ℕ) : Type 0 where

@@ -1,4 +1,3 @@
-pub mod Widths
 pub mod Rows
 pub mod Letters
 pub mod Parts

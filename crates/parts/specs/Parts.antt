@@ -1,5 +1,6 @@
--- What a part of a pattern tells of its positions, and what it adds to the two tables: for byte b the positions that read it,
--- and for position p the points that can come after it. Working definitions, which no public contract of a crate above cites.
+-- What a part of a pattern tells of its positions, and what it adds to the two tables: for byte b the positions that
+-- read it, and for position p the points that can come after it. Working definitions, which no public contract of a
+-- crate above cites.
 use mathlib.Core.Path.{_≡_}
 use mathlib.Core.List.{List}
 use Prim.Native.Nat.{ℕ, suc, _+_, _≤_, min}
@@ -7,10 +8,9 @@ use Rattle.sets.specs.Sets.{Exactly}
 use Rattle.sets.specs.Calls.{Decides}
 use Rattle.sets.specs.Words.{places}
 use Rattle.points.specs.Points.{pointsAt}
-use Rattle.answers.specs.Limits.{mostPositions}
+use Rattle.answers.specs.Limits.{mostPositions, positionWords, pointWords}
 use Rattle.pattern.specs.Pattern.{Expression}
 use Rattle.pattern.specs.Positions.{size, Null, FirstPosition, LastPosition, FollowPosition, Reads}
-pub use Rattle.parts.specs.Widths.{positionWords, pointWords}
 use Rattle.parts.specs.declared.Part.{Part}
 use Rattle.parts.specs.Rows.{Rows}
 
@@ -22,7 +22,8 @@ positionsIn words = pointsAt words 0 positionWords
 abbrev pub capped : ℕ → ℕ
 capped n = min n (suc mostPositions)
 
--- of the part r, whose positions are those of x from n on: their count, whether it can be empty, what can come first and last
+-- of the part r, whose positions are those of x from n on: their count, whether it can be empty, what can come first
+-- and last
 pub record Told (n : ℕ) (x : Expression) (r : Part) : Type 0 where
   pub count : r .count ≡ capped (n + size x)
   pub empty : Decides (r .empty) (Null x)

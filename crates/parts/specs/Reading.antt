@@ -1,6 +1,6 @@
--- What reading a part of a pattern comes to, for any groups open around it: what the reader of one byte at a time says from
--- the place before is what it says from the place after, with the meaning read in between, or the place is refused.
--- Working definitions, which no public contract of a crate above cites.
+-- What reading a part of a pattern comes to, for any groups open around it: what the reader of one byte at a time says
+-- from the place before is what it says from the place after, with the meaning read in between, or the place is
+-- refused. Working definitions, which no public contract of a crate above cites.
 use mathlib.Core.Path.{_≡_}
 use mathlib.Core.Logic.{_≢_}
 use mathlib.Core.Bool.{true, false}
@@ -89,16 +89,20 @@ pub record PartRead (text : List ℕ) (at : ℕ) (Passed : ℕ → Expression �
 
 module _ (text : List ℕ) (room at n : ℕ) (readers follow : List ℕ) (r : Part) (readersAfter followAfter : List ℕ) where
   abbrev pub ItemRead : Type 0
-  ItemRead = PartRead text at (ItemPassed text room at) (ItemStopped text room at) n readers follow r readersAfter followAfter
+  ItemRead =
+      PartRead text at (ItemPassed text room at) (ItemStopped text room at) n readers follow r readersAfter
+      followAfter
 
   abbrev pub RepetitionRead : Type 0
   RepetitionRead =
-      PartRead text at (RepetitionPassed text room at) (ItemStopped text room at) n readers follow r readersAfter followAfter
+      PartRead text at (RepetitionPassed text room at) (ItemStopped text room at) n readers follow r readersAfter
+      followAfter
 
   -- the repetitions of an alternative so far
   abbrev pub RepetitionsRead : Type 0
   RepetitionsRead =
-      PartRead text at (SequencePassed text room at) (SequenceStopped text room at) n readers follow r readersAfter followAfter
+      PartRead text at (SequencePassed text room at) (SequenceStopped text room at) n readers follow r readersAfter
+      followAfter
 
   -- all of them: the text does not go on behind them
   pub record SequenceRead : Type 0 where

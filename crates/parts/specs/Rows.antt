@@ -1,5 +1,5 @@
--- Sets kept one behind the other in a slice, and what is added to each. Working definitions, which no public contract of a
--- crate above cites.
+-- Sets kept one behind the other in a slice, and what is added to each. Working definitions, which no public contract
+-- of a crate above cites.
 use mathlib.Core.Path.{_≡_}
 use mathlib.Core.Bool.{true}
 use mathlib.Core.Logic.{_⊎_}

@@ -1,12 +1,13 @@
 // Classes: which bytes a position reads.
 ghost use mathlib.Core.Path.{_≡_};
 ghost use Rattle.sets.specs.Calls.{Decides};
-ghost use Rattle.parts.specs.Classes.{SpanRead, noSpan, Spread, ElementRead, ElementFollows, ClassRead, classPending};
-use crate::POSITION_WORDS;
+ghost use Rattle.parts.specs.Classes.{SpanRead, noSpan, Spread, ElementRead, ElementFollows, ClassRead};
+ghost use Rattle.parts.specs.Classes.{classPending};
 use crate::letters::CLOSE_CLASS;
 use crate::letters::DASH;
 use crate::letters::byte_at;
 use crate::letters::class_letter_at;
+use answers::limits::POSITION_WORDS;
 use points::put;
 
 // Bytes from low to high that stand in a class and the place behind them, or the place refused.
@@ -106,7 +107,14 @@ fn element_follows(pattern: &[u8], good: bool, at: usize) -> bool
 
 // A class from behind its opening on.
 pub(crate) fn class(pattern: &[u8], at: usize, position: usize, readers: &mut [u64]) -> Place
-    ensures { λ r. ⌜ ClassRead (now (pattern .entry)) at classPending position (now (readers .entry)) r (now (readers .exit)) ⌝ }
+    ensures { λ r. ⌜ ClassRead
+        (now (pattern .entry))
+        at
+        classPending
+        position
+        (now (readers .entry))
+        r
+        (now (readers .exit)) ⌝ }
 {
     let mut read = element(pattern, at, position, readers);
     while element_follows(pattern, read.good, read.at) {

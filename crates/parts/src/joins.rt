@@ -3,8 +3,8 @@ ghost use mathlib.Core.Path.{_≡_};
 ghost use Prim.Native.Nat.{_+_, _<_, _^_};
 ghost use Rattle.sets.specs.Calls.{Decides};
 ghost use Rattle.parts.specs.Parts.{capped};
-ghost use Rattle.parts.specs.Joins.{Refused, Lone, Only, LedOn, Through, behind, SignRead, CloseRead, InTurn, EitherOf, Continues, Divides};
-use crate::POSITION_WORDS;
+ghost use Rattle.parts.specs.Joins.{Refused, Lone, Only, LedOn, Through, behind, SignRead, CloseRead, InTurn};
+ghost use Rattle.parts.specs.Joins.{EitherOf, Continues, Divides};
 use crate::Part;
 use crate::leading::lead;
 use crate::letters::BAR;
@@ -14,6 +14,7 @@ use crate::letters::QUESTION;
 use crate::letters::STAR;
 use crate::letters::byte_at;
 use answers::limits::MOST_POSITIONS;
+use answers::limits::POSITION_WORDS;
 use points::put;
 use points::unite;
 

@@ -5,8 +5,8 @@ ghost use Prim.Native.Nat.{_<_, _^_};
 ghost use lib.ListN.{getD};
 ghost use Rattle.sets.specs.Sets.{member};
 ghost use Rattle.parts.specs.Leading.{LedWord, Led};
-use crate::POINT_WORDS;
-use crate::POSITION_WORDS;
+use answers::limits::POINT_WORDS;
+use answers::limits::POSITION_WORDS;
 use points::WORD_WIDTH;
 use points::unite;
 

@@ -5,8 +5,8 @@ pub mod joins;
 pub mod leading;
 pub mod letters;
 
-// A part of a pattern that was read and the place behind it, or the place refused; how many positions there are up to its
-// end, whether it can be empty, and which of them can come first and last.
+// A part of a pattern that was read and the place behind it, or the place refused; how many positions there are up to
+// its end, whether it can be empty, and which of them can come first and last.
 pub struct Part {
     pub good: bool,
     pub at: usize,
@@ -15,8 +15,3 @@ pub struct Part {
     pub first: [u64; 4],
     pub last: [u64; 4],
 }
-
-// The words of a set of positions, and of a set of points.
-pub const POSITION_WORDS: usize = 4;
-
-pub const POINT_WORDS: usize = 5;

@@ -22,3 +22,14 @@ pub use Rattle.pattern.proofs.ByteKinds.{plain-kind, sign-kind, outside
 -- every byte has one kind, and which
 pub use Rattle.pattern.proofs.ByteKinds.{KindIs, plain-is, dash-is, backslash-is, close-class-is, open-class-is}
 pub use Rattle.pattern.proofs.ByteKinds.{open-group-is, close-group-is, bar-is, sign-is, kind-is, impossible}
+-- what can be passed without a byte, as it is decided
+unfoldable pub use Rattle.pattern.proofs.Nullable.{nullable}
+pub use Rattle.pattern.proofs.Nullable.{matches-null, null-matches}
+-- a pattern that stands in the list has a number below its length
+pub use Rattle.pattern.proofs.PlacedPatterns.{below-length}
+-- the theorems of the page of results that they cite
+pub use Rattle.pattern.proofs.Theorems.{after-end-below, bad-texts, first-bad-not-all-good, first-bad-unique}
+pub use Rattle.pattern.proofs.Theorems.{house-sizes, meaning-unique, moved-same, null-exact, onward-below}
+pub use Rattle.pattern.proofs.Theorems.{onward-end-below, onward-position-below, pattern-place, patterns-length}
+pub use Rattle.pattern.proofs.Theorems.{read-exact, reads-below, refused-exact, start-end-below}
+pub use Rattle.pattern.proofs.Theorems.{start-position-below, state-exact}

@@ -7,12 +7,14 @@ use Prim.Native.Nat.{ℕ, suc, _≤_, _<_}
 use lib.ListN.{length, take, getElem?}
 use Rattle.pattern.specs.Pattern.{Expression, Matches, star, Pattern}
 use Rattle.pattern.specs.Marks.{mostOpenGroups}
-use Rattle.pattern.specs.Written.{IsPattern, Viable, Malformed, BadAt, Good, patternsOf, FirstBad, AllGood, Written, alternation}
+use Rattle.pattern.specs.Written.{IsPattern, Viable, Malformed, BadAt, Good, patternsOf, FirstBad, AllGood}
+use Rattle.pattern.specs.Written.{Written, alternation}
 use Rattle.pattern.specs.Reader.{Standing, start, after, means, refused, readPattern}
 use Rattle.pattern.specs.Text.{Bytes, Writable, textOf, groupsOf}
 use Rattle.pattern.specs.House.{Sample, house, codes, housePatterns}
 use Rattle.pattern.specs.Examples.{Row, badTexts, goodTexts}
-use Rattle.pattern.specs.Positions.{size, Null, positions, Point, position, end-of, Start, Onward, ReadsIn, Moved, After}
+use Rattle.pattern.specs.Positions.{size, Null, positions, Point, position, end-of, Start, Onward, ReadsIn, Moved}
+use Rattle.pattern.specs.Positions.{After}
 use Rattle.pattern.proofs.Complete.{pattern-read}
 use Rattle.pattern.proofs.Sound.{read-pattern}
 use Rattle.pattern.proofs.Place as place

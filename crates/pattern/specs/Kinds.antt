@@ -4,7 +4,8 @@ use mathlib.Core.List.{List, [], _∷_}
 use Prim.Native.Nat.{ℕ}
 use lib.Dec.{eqb}
 use Rattle.pattern.specs.Pattern.{Expression, plus, opt, star}
-use Rattle.pattern.specs.Marks.{openGroup, closeGroup, openClass, closeClass, bar, starSign, plusSign, questionMark, backslash, dash}
+use Rattle.pattern.specs.Marks.{openGroup, closeGroup, openClass, closeClass, bar, starSign, plusSign}
+use Rattle.pattern.specs.Marks.{questionMark, backslash, dash}
 
 -- the marks that no class has; a sign is what it makes of the meaning before it
 pub data Mark : Type 0 where

@@ -9,7 +9,8 @@ use lib.ListN.{drop}
 use Rattle.pattern.specs.Pattern.{Class, Expression, one, cat, alt}
 use Rattle.pattern.specs.Marks.{mostOpenGroups}
 use Rattle.pattern.specs.Written.{range}
-use Rattle.pattern.specs.Kinds.{Mark, opens-group, closes-group, opens-class, divides, repeats, Kind, is-plain, is-dash, is-backslash, closes-class, marks, kindOf}
+use Rattle.pattern.specs.Kinds.{Mark, opens-group, closes-group, opens-class, divides, repeats, Kind, is-plain}
+use Rattle.pattern.specs.Kinds.{is-dash, is-backslash, closes-class, marks, kindOf}
 
 -- an alternation begun: the alternatives before its last bar, and the items of the last one
 pub record Begun : Type 0 where

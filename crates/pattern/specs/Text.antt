@@ -5,7 +5,8 @@ use mathlib.Core.List.{List, [], _∷_, _++_}
 use Prim.Native.Nat.{ℕ, suc, _≤_, _<_, max}
 use lib.Dec.{eqb, ltb}
 use Rattle.pattern.specs.Pattern.{Range, Class, Expression, one, cat, alt, plus, opt}
-use Rattle.pattern.specs.Marks.{openGroup, closeGroup, openClass, closeClass, bar, starSign, plusSign, questionMark, backslash, dash, special, specialInClass, among}
+use Rattle.pattern.specs.Marks.{openGroup, closeGroup, openClass, closeClass, bar, starSign, plusSign}
+use Rattle.pattern.specs.Marks.{questionMark, backslash, dash, special, specialInClass, among}
 use Rattle.pattern.specs.Written.{Sort, alternation, sequence, repetition, item}
 
 pub data Bytes : List ℕ → Type 0 where

@@ -7,7 +7,8 @@ use mathlib.Core.Option.{some}
 use Prim.Native.Nat.{ℕ, suc, _≤_, _<_}
 use lib.ListN.{length, take, drop, getElem?}
 use Rattle.pattern.specs.Pattern.{Range, Class, Expression, one, cat, alt, plus, opt, star, Matches}
-use Rattle.pattern.specs.Marks.{mostOpenGroups, openGroup, closeGroup, openClass, closeClass, bar, starSign, plusSign, questionMark, backslash, dash, special, specialInClass, among}
+use Rattle.pattern.specs.Marks.{mostOpenGroups, openGroup, closeGroup, openClass, closeClass, bar, starSign}
+use Rattle.pattern.specs.Marks.{plusSign, questionMark, backslash, dash, special, specialInClass, among}
 
 -- the bytes s stand for the byte b: b where it is plain, or b behind a backslash
 pub data Byte (marks : List ℕ) : List ℕ → ℕ → Type 0 where

@@ -13,11 +13,10 @@ use Rattle.sets.proofs.Promise.{member-none, exactly-alike}
 use Rattle.points.specs.Points.{pointsAt}
 use Rattle.points.proofs.Promise.{points-fit, points-alike, points-none}
 use Rattle.answers.specs.Buffers.{cleared}
-use Rattle.answers.specs.Limits.{mostPositions}
+use Rattle.answers.specs.Limits.{mostPositions, positionWords, pointWords}
 use Rattle.pattern.specs.Pattern.{Expression}
 use Rattle.pattern.specs.Positions.{Start, Onward, ReadsIn}
 use Rattle.parts.specs.Rows.{Grown, rowAt, Rows}
-use Rattle.parts.specs.Parts.{positionWords, pointWords}
 use Rattle.patterns.specs.Calls.{pointAt, readersLength, followLength, TablesFit, TablesOf}
 use Rattle.patterns.specs.Gathering.{NextIn, after-position, at-the-start}
 

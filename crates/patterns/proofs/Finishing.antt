@@ -6,14 +6,14 @@ use mathlib.Core.List.{List, [], _∷_}
 use Prim.Native.Nat.{ℕ, _+_, _*_, _<_}
 use native.Mathlib.Omega.{arith}
 use lib.ListN.{length}
-use Rattle.answers.specs.Limits.{mostPatterns, mostPositions}
+use Rattle.answers.specs.Limits.{mostPatterns, mostPositions, positionWords, pointWords}
 use Rattle.sets.specs.Sets.{member, Exactly}
 use Rattle.sets.specs.Words.{places, valueOf}
 use Rattle.sets.proofs.Promise.{places-are, exactly-none, exactly-alike}
 use Rattle.points.specs.Points.{wordsAt, pointsAt, Put, Unite}
 use Rattle.points.proofs.Promise.{put-exactly}
 use Rattle.parts.specs.Rows.{Rows}
-use Rattle.parts.specs.Parts.{positionWords, pointWords, positionsIn}
+use Rattle.parts.specs.Parts.{positionsIn}
 use Rattle.parts.specs.Leading.{pointsIn, Leads, Led}
 use Rattle.parts.proofs.Promise.{rows-then, rows-alike, rows-unite, positions-points}
 use Rattle.patterns.specs.Gathering.{Finishes, ends, starts}

@@ -11,17 +11,17 @@ use lib.ListN.{length, take, drop, getD, length-append, drop-of-length-le}
 use borrow.Author.Tests.{lt-ltb, le-ltb}
 use Rattle.sets.specs.Calls.{Decides}
 use Rattle.answers.specs.Answers.{done, refusal}
-use Rattle.answers.specs.Limits.{mostPatterns, mostPositions}
+use Rattle.answers.specs.Limits.{mostPatterns, mostPositions, positionWords, pointWords}
 use Rattle.answers.specs.Refusals.{limit, pattern}
 use Rattle.pattern.specs.Pattern.{Expression}
 use Rattle.pattern.specs.Written.{Good, patternsOf, FirstBad, AllGood}
 use Rattle.pattern.specs.Positions.{size, positions, Point, Start, start-position, start-end, ReadsIn}
 use Rattle.pattern.proofs.Promise.{positions-append, reads-in-more}
-use Rattle.pattern.proofs.Theorems.{null-exact, onward-below, reads-below}
+use Rattle.pattern.proofs.Promise.{null-exact, onward-below, reads-below}
 use Rattle.parts.specs.declared.Part.{Part}
 use Rattle.parts.specs.Classes.{oneIf}
 use Rattle.parts.specs.Rows.{Rows}
-use Rattle.parts.specs.Parts.{positionWords, pointWords, positionsIn, Told, Tabled}
+use Rattle.parts.specs.Parts.{positionsIn, Told, Tabled}
 use Rattle.parts.proofs.Promise.{rows-none, rows-then, rows-alike}
 use Rattle.positions.specs.Whole.{PatternMeant, PatternRead}
 use Rattle.patterns.specs.declared.gathering.Judged.{Judged}
@@ -249,9 +249,10 @@ module _ {patterns lengths R F : List ℕ} where
             rw (le-ltb mostPositions (j .count) (omega arith))
             (gathers (record { few = few; means = means-all is; good = good-all is; fit = fit }) (g .reads fit) (g .follows fit))
 
-    pub gathered : GatherOutcome patterns lengths R F R₁ F₁ (answerOf j)
+    pub gathered : GatherOutcome patterns lengths R F R₁ F₁ (answerOf (j .good) (j .place) (j .number) (j .count))
     gathered = go (j .good) refl
       where
-        go : (b : Bool) → j .good ≡ b → GatherOutcome patterns lengths R F R₁ F₁ (answerOf j)
+        go : (b : Bool) → j .good ≡ b
+            → GatherOutcome patterns lengths R F R₁ F₁ (answerOf (j .good) (j .place) (j .number) (j .count))
         go true is = rw is (told-good is)
         go false bad = rw bad (refuses (bad-pattern few (all .judged .bad bad)))

@@ -17,8 +17,8 @@ use Rattle.pattern.specs.Pattern.{Expression}
 use Rattle.pattern.specs.Written.{BadAt, malformed, empty, Good, patternsOf, FirstBad, AllGood}
 use Rattle.pattern.specs.Reader.{Outcome, means, refused, readPattern}
 use Rattle.pattern.specs.Positions.{positions}
-use Rattle.pattern.proofs.Nullable.{nullable, null-matches, matches-null}
-use Rattle.pattern.proofs.Theorems.{read-exact, refused-exact}
+use Rattle.pattern.proofs.Promise.{nullable, null-matches, matches-null}
+use Rattle.pattern.proofs.Promise.{read-exact, refused-exact}
 use Rattle.patterns.specs.Calls.{Meanings, no-texts, text-means, many-patterns, bad-pattern, many-positions}
 use Rattle.patterns.specs.Calls.{JudgePatterns, accepted, refused as told-refused}
 

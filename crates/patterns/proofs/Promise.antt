@@ -1,25 +1,27 @@
--- What crates above cite of reading patterns: done gives what the texts mean, none of it matching the empty string, at most
--- 256 positions, and the rows of both tables; each refusal says what is wrong.
+-- What crates above cite of reading patterns: done gives what the texts mean, none of it matching the empty string, at
+-- most 256 positions, and the rows of both tables; each refusal says what is wrong.
 use mathlib.Core.Path.{_≡_, refl, _∙_, subst}
 use mathlib.Core.Logic.{_≢_, _⊎_, inl, inr}
 use mathlib.Core.List.{List, []}
 use mathlib.Core.Option.{some}
-use Prim.Native.Nat.{ℕ, zero, suc}
+use Prim.Native.Nat.{ℕ, zero, suc, _≤_, max}
 use native.Mathlib.Omega.{arith}
 use lib.ListN.{length, getElem?}
 use Rattle.answers.specs.declared.Answer.{Answer}
 use Rattle.answers.specs.Answers.{done, refusal}
+use Rattle.answers.specs.Limits.{mostPatterns, mostPositions}
 use Rattle.answers.specs.Refusals.{served, limit, room, pattern}
 use Rattle.pattern.specs.Pattern.{Expression, Matches, Pattern}
 use Rattle.pattern.specs.Written.{IsPattern, patternsOf, FirstBad}
 use Rattle.pattern.specs.Positions.{positions}
-use Rattle.pattern.proofs.Theorems.{meaning-unique, patterns-length}
+use Rattle.pattern.proofs.Promise.{meaning-unique, pattern-place, patterns-length}
 use Rattle.patterns.specs.Calls.{Meanings, no-texts, text-means, Accepted, RefusesPatterns, many-patterns}
 use Rattle.patterns.specs.Calls.{bad-pattern, many-positions, JudgePatterns, refused, accepted, TablesFit}
 use Rattle.patterns.specs.Calls.{ReadOutcome, no-room, refused as tables-refused, served as tables-served}
 use Rattle.patterns.specs.Promised.{TextOf, OverLimit, over-patterns, over-positions, ReadServed, ReadRefused}
-use Rattle.patterns.proofs.Texts.{meanings-length}
+use Rattle.patterns.proofs.Texts.{meanings-length, text-length, text-below}
 pub use Rattle.patterns.proofs.Unique.{meanings-unique, refuses-unique, refused-not-accepted}
+pub use Rattle.patterns.proofs.Worked.{examples-judged, house-accepted}
 pub use Rattle.patterns.proofs.Unique.{judge-patterns-unique, tables-unique, read-outcome-unique}
 
 text-of : {texts : List (List ℕ)} {rs : List Expression} → Meanings texts rs → (k : ℕ) {x : Expression}
@@ -32,7 +34,8 @@ text-of (text-means p m) (suc k) e =
     record { text = t .text; at = t .at; pattern = t .pattern }
 
 module _ {patterns lengths : List ℕ} where
-  -- patterns that are accepted: as many meanings as lengths, each the meaning of its text, and none matches the empty string
+  -- patterns that are accepted: as many meanings as lengths, each the meaning of its text, and none matches the empty
+  -- string
   module _ {rs : List Expression} (accept : Accepted patterns lengths rs) where
     pub accepted-length : length rs ≡ length lengths
     accepted-length = meanings-length (accept .means) ∙ patterns-length patterns lengths
@@ -69,11 +72,26 @@ module _ {patterns lengths : List ℕ} where
   refuses-bad (many-positions few means good past) e = absurd (omega arith)
 
   -- 4 tells by its place which limit is passed
-  pub refuses-limit : {a : Answer} → RefusesPatterns patterns lengths a → a .number ≡ limit → OverLimit patterns lengths (a .place)
+  pub refuses-limit : {a : Answer}
+      → RefusesPatterns patterns lengths a
+      → a .number ≡ limit
+      → OverLimit patterns lengths (a .place)
   unfolding refusal
   refuses-limit (many-patterns past) e = over-patterns past
   refuses-limit (bad-pattern few bad) e = absurd (omega arith)
   refuses-limit (many-positions few means good past) e = over-positions means good past
+
+  -- a refusal's place lies within the bytes lent or is a limit, and its detail is the number of a pattern or 0
+  pub refuses-bounded : {a : Answer}
+      → RefusesPatterns patterns lengths a
+      → (a .place ≤ max (length patterns) mostPositions) × (a .detail ≤ mostPatterns)
+  unfolding refusal
+  refuses-bounded (many-patterns past) = (omega arith, omega arith)
+  refuses-bounded (bad-pattern {k = k} few bad) = (
+    omega (arith, pattern-place (bad .bad) .0, text-length patterns lengths k (bad .at)),
+    omega (arith, text-below (patternsOf patterns lengths) k (bad .at), patterns-length patterns lengths),
+  )
+  refuses-bounded (many-positions few means good past) = (omega arith, omega arith)
 
   not-served : {a : Answer} → RefusesPatterns patterns lengths a → a .number ≢ served
   not-served r = go (refuses-number r)
@@ -105,8 +123,8 @@ module _ {patterns lengths : List ℕ} where
   judged-refused (refused r) other = r
   judged-refused (accepted accept) other = absurd (other refl)
 
-  -- read: by the number, the meanings with the rows of both tables, no room and nothing changed, or a refusal with no word
-  -- other than 0; with tables long enough it is what the patterns are judged
+  -- read: by the number, the meanings with the rows of both tables, no room and nothing changed, or a refusal with no
+  -- word other than 0; with tables long enough it is what the patterns are judged
   module _ {readers follow : List ℕ} where
     pub read-done : {a : Answer} {xs ys : List ℕ}
         → ReadOutcome patterns lengths readers follow a xs ys

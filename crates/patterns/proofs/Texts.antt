@@ -2,10 +2,10 @@
 use mathlib.Core.Path.{_≡_, refl, ap, subst}
 use mathlib.Core.List.{List, [], _∷_, _++_}
 use mathlib.Core.Option.{some}
-use Prim.Native.Nat.{ℕ, zero, suc, _+_, _-_, _<_, min}
+use Prim.Native.Nat.{ℕ, zero, suc, _+_, _-_, _≤_, _<_, min}
 use native.Mathlib.Decide.{decLt}
 use native.Mathlib.Omega.{arith}
-use lib.ListN.{length, take, drop, getD, getElem?, length-drop, drop-of-length-le}
+use lib.ListN.{length, take, drop, getD, getElem?, length-take, length-drop, drop-of-length-le}
 use lib.Seq.{drop-cons, take-all, drop-drop}
 use Rattle.pattern.specs.Pattern.{Expression}
 use Rattle.pattern.specs.Written.{IsPattern, BadAt, Good, patternsOf, FirstBad, AllGood}
@@ -43,6 +43,23 @@ next-text patterns lengths start number end below ends =
     let size : min n (length rest) ≡ end - start = omega (arith, length-drop start patterns) in
     let whole : start + min n (length rest) ≡ end = omega (arith, length-drop start patterns) in
     rw (drop-cons lengths number 0 below, take-min n rest, drop-min n rest, drop-drop (min n (length rest)) start patterns, whole, size)
+
+pub text-below : (texts : List (List ℕ)) (k : ℕ) {s : List ℕ} → getElem? texts k ≡ some s → k < length texts
+text-below [] k e = let bad : _≡_ {A = ℕ} 0 1 = cc in absurd (omega arith)
+text-below (t ∷ texts) zero e = omega arith
+text-below (t ∷ texts) (suc k) e = omega (arith, text-below texts k e)
+
+-- no text is longer than the bytes lent
+pub text-length : (patterns lengths : List ℕ) (k : ℕ) {s : List ℕ}
+    → getElem? (patternsOf patterns lengths) k ≡ some s
+    → length s ≤ length patterns
+unfolding patternsOf
+text-length patterns [] k e = let bad : _≡_ {A = ℕ} 0 1 = cc in absurd (omega arith)
+text-length patterns (n ∷ lengths) zero {s} e =
+    let first : take n patterns ≡ s = cc in
+    omega (arith, ap length first, length-take n patterns)
+text-length patterns (n ∷ lengths) (suc k) e =
+    omega (arith, text-length (drop n patterns) lengths k e, length-drop n patterns)
 
 -- the text right behind others
 pub text-there : (gone : List (List ℕ)) (s : List ℕ) (rest : List (List ℕ))

@@ -12,7 +12,7 @@ use Rattle.pattern.specs.Written.{Viable, patternsOf, FirstBad}
 use Rattle.pattern.specs.Positions.{positions}
 use Rattle.pattern.specs.House.{housePatterns}
 use Rattle.pattern.specs.Examples.{Row, badTexts}
-use Rattle.pattern.proofs.Theorems as pattern-theorems
+use Rattle.pattern.proofs.Promise as pattern-theorems
 use Rattle.patterns.specs.Calls.{Accepted, RefusesPatterns, JudgePatterns, ReadOutcome, ReadResult}
 use Rattle.patterns.specs.Promised.{TextOf, OverLimit}
 use Rattle.patterns.specs.Examples.{Example, houseBytes, houseLengths, examples}

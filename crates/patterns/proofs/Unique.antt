@@ -12,11 +12,10 @@ use Rattle.sets.proofs.Promise.{exactly-unique}
 use Rattle.points.specs.Points.{pointsAt}
 use Rattle.points.proofs.Promise.{points-same}
 use Rattle.answers.specs.declared.Answer.{Answer}
-use Rattle.answers.specs.Limits.{mostPositions}
+use Rattle.answers.specs.Limits.{mostPositions, positionWords, pointWords}
 use Rattle.pattern.specs.Pattern.{Expression}
 use Rattle.pattern.specs.Positions.{positions}
-use Rattle.pattern.proofs.Theorems.{meaning-unique, first-bad-unique, first-bad-not-all-good}
-use Rattle.parts.specs.Widths.{positionWords, pointWords}
+use Rattle.pattern.proofs.Promise.{meaning-unique, first-bad-unique, first-bad-not-all-good}
 use Rattle.patterns.specs.Calls.{Meanings, no-texts, text-means, Accepted, RefusesPatterns, many-patterns}
 use Rattle.patterns.specs.Calls.{bad-pattern, many-positions, JudgePatterns, refused, accepted, TablesOf}
 use Rattle.patterns.specs.Calls.{ReadOutcome, no-room, ReadResult, refused as tables-refused, served}

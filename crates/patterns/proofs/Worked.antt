@@ -15,8 +15,8 @@ use Rattle.pattern.specs.Reader.{closed, divided, marked, byteRead, classRead, 
 use Rattle.pattern.specs.Reader.{readFrom, says, readPattern}
 use Rattle.pattern.specs.Positions.{size, positions}
 use Rattle.pattern.specs.House.{along, word, parish, house, housePatterns}
-use Rattle.pattern.proofs.Nullable.{nullable}
-use Rattle.pattern.proofs.Theorems.{house-sizes}
+use Rattle.pattern.proofs.Promise.{nullable}
+use Rattle.pattern.proofs.Promise.{house-sizes}
 use Rattle.patterns.specs.Calls.{Accepted, JudgePatterns, refused, bad-pattern}
 use Rattle.patterns.specs.Examples.{Example, houseBytes, houseLengths, examples}
 use Rattle.patterns.proofs.Judging.{meant, behind, scan, scan-meant, foundAnswer, judgedOf, judged-of}

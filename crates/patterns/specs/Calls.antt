@@ -12,12 +12,11 @@ use Rattle.points.specs.Points.{pointsAt}
 use Rattle.answers.specs.declared.Answer.{Answer}
 use Rattle.answers.specs.Answers.{done, refusal}
 use Rattle.answers.specs.Buffers.{cleared}
-use Rattle.answers.specs.Limits.{mostPatterns, mostPositions}
+use Rattle.answers.specs.Limits.{mostPatterns, mostPositions, positionWords, pointWords}
 use Rattle.answers.specs.Refusals.{limit, room, pattern}
 use Rattle.pattern.specs.Pattern.{Expression}
 use Rattle.pattern.specs.Written.{IsPattern, patternsOf, FirstBad, AllGood}
 use Rattle.pattern.specs.Positions.{positions, Point, position, end-of, Start, Onward, ReadsIn}
-use Rattle.parts.specs.Widths.{positionWords, pointWords}
 
 -- what the texts mean, one meaning each
 pub data Meanings : List (List ℕ) → List Expression → Type 0 where

@@ -9,7 +9,7 @@ use lib.ListN.{length, drop}
 use Rattle.sets.specs.Sets.{member}
 use Rattle.answers.specs.declared.Answer.{Answer}
 use Rattle.answers.specs.Answers.{done, refusal}
-use Rattle.answers.specs.Limits.{mostPatterns, mostPositions}
+use Rattle.answers.specs.Limits.{mostPatterns, mostPositions, positionWords, pointWords}
 use Rattle.answers.specs.Refusals.{limit, pattern}
 use Rattle.pattern.specs.Pattern.{Expression}
 use Rattle.pattern.specs.Written.{patternsOf, FirstBad, AllGood}
@@ -17,7 +17,7 @@ use Rattle.pattern.specs.Positions.{positions, Start, Onward, ReadsIn}
 use Rattle.parts.specs.declared.Part.{Part}
 use Rattle.parts.specs.Classes.{oneIf}
 use Rattle.parts.specs.Rows.{Rows}
-use Rattle.parts.specs.Parts.{positionWords, pointWords, positionsIn, capped}
+use Rattle.parts.specs.Parts.{positionsIn, capped}
 use Rattle.patterns.specs.declared.gathering.Judged.{Judged}
 pub use Rattle.patterns.specs.Calls.{TablesFit}
 use Rattle.patterns.specs.Calls.{Meanings, Accepted, RefusesPatterns, pointAt, TablesOf}
@@ -90,11 +90,11 @@ pub record AllJudged (patterns lengths readers follow : List ℕ)
   pub ended : ¬ Further (j .good) (j .number) (length lengths)
 
 -- what is told of them
-abbrev pub answerOf : Judged → Answer
-answerOf j =
-    cond (j .good)
-    (cond (ltb mostPositions (j .count)) (refusal limit mostPositions 0) (done 0))
-    (refusal pattern (j .place) (j .number))
+abbrev pub answerOf : Bool → ℕ → ℕ → ℕ → Answer
+answerOf good place number count =
+    cond good
+    (cond (ltb mostPositions count) (refusal limit mostPositions 0) (done 0))
+    (refusal pattern place number)
 
 -- all patterns: a refusal, or the tables with what they add
 pub data GatherOutcome (patterns lengths readers follow readersAfter followAfter : List ℕ) : Answer → Type 0 where

@@ -11,10 +11,10 @@ use answers::Answer;
 use answers::done;
 use answers::limits::MOST_PATTERNS;
 use answers::limits::MOST_POSITIONS;
+use answers::limits::POINT_WORDS;
 use answers::refusal;
 use answers::refusals::LIMIT;
 use answers::refusals::PATTERN;
-use parts::POINT_WORDS;
 use parts::Part;
 use parts::leading::lead;
 use points::put;
@@ -41,7 +41,7 @@ fn finish(part: Part, number: usize, follow: &mut [u64])
     if MOST_PATTERNS <= number {
         return;
     }
-    let mut end = [0u64; 5];
+    let mut end = [0u64; POINT_WORDS];
     put(&mut end, 0, POINT_WORDS, MOST_POSITIONS + number);
     let last = part.last;
     lead(follow, &last, &end);
@@ -67,10 +67,11 @@ fn moved_on(judged: Judged, end: usize, part: Part) -> Judged
     requires { ⌜ judged .number + 1 < 2 ^ 64 ⌝ }
     ensures { λ r. ⌜ r ≡ movedOn judged end part ⌝ }
 {
+    let next = judged.number + 1;
     if part.good {
         return Judged {
             good: true,
-            number: judged.number + 1,
+            number: next,
             start: end,
             place: 0,
             count: part.count,
@@ -135,13 +136,13 @@ fn judge_all(patterns: &[u8], lengths: &[u64], readers: &mut [u64], follow: &mut
 }
 
 // What is told of them: a bad pattern, then too many positions.
-fn answer_of(judged: Judged) -> Answer
-    ensures { λ r. ⌜ r ≡ answerOf judged ⌝ }
+fn answer_of(good: bool, place: usize, number: usize, count: usize) -> Answer
+    ensures { λ r. ⌜ r ≡ answerOf good place number count ⌝ }
 {
-    if !judged.good {
-        return refusal(PATTERN, judged.place as u64, judged.number as u64);
+    if !good {
+        return refusal(PATTERN, place as u64, number as u64);
     }
-    if MOST_POSITIONS < judged.count {
+    if MOST_POSITIONS < count {
         return refusal(LIMIT, MOST_POSITIONS as u64, 0);
     }
     done(0)
@@ -162,5 +163,5 @@ pub(crate) fn gather(
         return refusal(LIMIT, MOST_PATTERNS as u64, 0);
     }
     let judged = judge_all(patterns, lengths, readers, follow);
-    answer_of(judged)
+    answer_of(judged.good, judged.place, judged.number, judged.count)
 }

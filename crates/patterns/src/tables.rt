@@ -5,9 +5,9 @@ ghost use lib.Dec.{eqb};
 ghost use Rattle.answers.specs.Buffers.{cleared};
 ghost use Rattle.answers.specs.Refusals.{served};
 use answers::limits::MOST_POSITIONS;
+use answers::limits::POINT_WORDS;
+use answers::limits::POSITION_WORDS;
 use answers::refusals::DONE;
-use parts::POINT_WORDS;
-use parts::POSITION_WORDS;
 
 // For each byte the positions that read it.
 pub const READERS_LENGTH: usize = 256 * POSITION_WORDS;

@@ -5,7 +5,8 @@ use mathlib.Core.Logic.{_↔_, _⊎_, inl, inr}
 use Prim.Native.Nat.{ℕ, _+_, _*_, _≤_, _<_}
 use native.Mathlib.Omega.{arith}
 use lib.ListN.{length, length-append, List·getD-append}
-use Rattle.pieces.specs.Rows.{byteCells, rowCells, mostRows, rowsIn, cellAt, Walk, here, on, Says, Closed}
+use Rattle.answers.specs.Limits.{byteValues, rowCells, mostStates}
+use Rattle.pieces.specs.Rows.{rowsIn, cellAt, Walk, here, on, Says, Closed}
 use Rattle.pieces.proofs.Walks.{walk-start, walk-end}
 
 module _ (cells more : List ℕ) {rows : ℕ} (closed : Closed cells rows) where
@@ -25,10 +26,10 @@ module _ (cells more : List ℕ) {rows : ℕ} (closed : Closed cells rows) where
       (subst (λ (q : ℕ). Walk (cells ++ more) q u s) (sym (cell-same r b (omega (arith, rows-are)) (omega arith))) (walk-longer walk))
 
   -- a cell that names a row of the whole names one of the beginning
-  named : (r b : ℕ) → r < rows → b < byteCells → cellAt (cells ++ more) r b < rowsIn (cells ++ more) → cellAt cells r b < rows
+  named : (r b : ℕ) → r < rows → b < byteValues → cellAt (cells ++ more) r b < rowsIn (cells ++ more) → cellAt cells r b < rows
   named r b inside byte below = go (closed .names r b inside byte)
     where
-      go : (cellAt cells r b < rows) ⊎ (mostRows ≤ cellAt cells r b) → cellAt cells r b < rows
+      go : (cellAt cells r b < rows) ⊎ (mostStates ≤ cellAt cells r b) → cellAt cells r b < rows
       go (inl names) = names
       go (inr none) = absurd (omega (arith, cell-same r b inside (omega arith)))
 
@@ -49,7 +50,7 @@ module _ (cells more : List ℕ) {rows : ℕ} (closed : Closed cells rows) where
           record {
             row = says .row;
             walk = walk-longer (says .walk);
-            token = says .token ∙ sym (cell-same (says .row) byteCells (omega (arith, rows-are, walk-end (says .walk))) (omega arith));
+            token = says .token ∙ sym (cell-same (says .row) byteValues (omega (arith, rows-are, walk-end (says .walk))) (omega arith));
             counts = says .counts;
           }
 
@@ -59,6 +60,6 @@ module _ (cells more : List ℕ) {rows : ℕ} (closed : Closed cells rows) where
           record {
             row = says .row;
             walk = walk;
-            token = says .token ∙ cell-same (says .row) byteCells (omega (arith, rows-are, walk-end walk)) (omega arith);
+            token = says .token ∙ cell-same (says .row) byteValues (omega (arith, rows-are, walk-end walk)) (omega arith);
             counts = says .counts;
           }

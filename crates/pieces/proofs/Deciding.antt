@@ -9,14 +9,14 @@ use lib.ListN.{length, take, drop, getD, length-append, length-drop}
 use lib.Seq.{take-suc, take-all, take-length}
 use Rattle.answers.specs.declared.Answer.{Answer}
 use Rattle.answers.specs.Buffers.{over}
-use Rattle.answers.specs.Limits.{mostPatterns}
+use Rattle.answers.specs.Limits.{mostPatterns, byteValues}
 use Rattle.pieces.specs.declared.Ending.{Ending}
 use Rattle.pieces.specs.declared.Ending.the-variants.{Whole, NoToken, NoRoom}
 use Rattle.pieces.specs.Cut.{space, Piece, piece, numbersOf, endsOf, answerOf}
 use Rattle.pieces.specs.Cut.{TokenAt, NoTokenAt, Cut, end-of-line, space-dropped, token-cut, no-token, no-room}
 use Rattle.pieces.specs.Calls.{CutWithOutcome}
 use Rattle.pieces.specs.Meanings.{Decided}
-use Rattle.pieces.specs.Rows.{byteCells, rowsIn, cellAt, Walk, here, on, Says}
+use Rattle.pieces.specs.Rows.{rowsIn, cellAt, Walk, here, on, Says}
 use Rattle.pieces.proofs.Best.{NoneBeyond, none-at-end, token-kept, none-kept, token-whole}
 use Rattle.pieces.proofs.Walks.{walk-start, says-token}
 
@@ -119,16 +119,16 @@ module _ (cells : List ℕ) where
       go : Dec (r < rowsIn cells) → ((s : ℕ) × Walk cells r [] s) ⊎ ((s : ℕ) → Walk cells r [] s → ⊥)
       go (yes inside) = inl (r, here inside)
       go (no outside) = inr (λ s walk. outside (walk-start walk))
-  walk-found r (b ∷ u) = go (decLt r (rowsIn cells)) (decLt b byteCells) (walk-found (cellAt cells r b) u)
+  walk-found r (b ∷ u) = go (decLt r (rowsIn cells)) (decLt b byteValues) (walk-found (cellAt cells r b) u)
     where
-      byte-of : {s : ℕ} → Walk cells r (b ∷ u) s → b < byteCells
+      byte-of : {s : ℕ} → Walk cells r (b ∷ u) s → b < byteValues
       byte-of (on inside byte walk) = byte
 
       rest-of : {s : ℕ} → Walk cells r (b ∷ u) s → Walk cells (cellAt cells r b) u s
       rest-of (on inside byte walk) = walk
 
       go : Dec (r < rowsIn cells)
-          → Dec (b < byteCells)
+          → Dec (b < byteValues)
           → ((s : ℕ) × Walk cells (cellAt cells r b) u s) ⊎ ((s : ℕ) → Walk cells (cellAt cells r b) u s → ⊥)
           → ((s : ℕ) × Walk cells r (b ∷ u) s) ⊎ ((s : ℕ) → Walk cells r (b ∷ u) s → ⊥)
       go (no outside) byte rest = inr (λ s walk. outside (walk-start walk))
@@ -140,13 +140,13 @@ module _ (cells : List ℕ) where
   pub says-decidable : (k : ℕ) (u : List ℕ) → Dec (Says cells k u)
   says-decidable k u = go (walk-found 0 u)
     where
-      said : {row : ℕ} → Walk cells 0 u row → Dec (k ≡ cellAt cells row byteCells) → Dec (k < mostPatterns) → Dec (Says cells k u)
+      said : {row : ℕ} → Walk cells 0 u row → Dec (k ≡ cellAt cells row byteValues) → Dec (k < mostPatterns) → Dec (Says cells k u)
       said walk (yes token) (yes counts) = yes (record { row = _; walk = walk; token = token; counts = counts })
       said walk (yes token) (no past) = no (λ says. past (says .counts))
       said walk (no other) counts = no (λ says. other (says-token walk says))
 
       go : ((s : ℕ) × Walk cells 0 u s) ⊎ ((s : ℕ) → Walk cells 0 u s → ⊥) → Dec (Says cells k u)
-      go (inl walk) = said (walk .1) (ℕ-discrete k (cellAt cells (walk .0) byteCells)) (decLt k mostPatterns)
+      go (inl walk) = said (walk .1) (ℕ-discrete k (cellAt cells (walk .0) byteValues)) (decLt k mostPatterns)
       go (inr none) = no (λ says. none (says .row) (says .walk))
 
   pub says-decided : (w : List ℕ) → Decided (Says cells) w

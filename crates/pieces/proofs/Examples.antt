@@ -8,13 +8,13 @@ use lib.Dec.{lit<}
 use lib.ListN.{take, replicate, getD-replicate, List·getD-append}
 use Rattle.sets.specs.Calls.{noSet}
 use Rattle.answers.specs.Answers.{done, stop}
-use Rattle.answers.specs.Limits.{mostPatterns}
-use Rattle.answers.specs.Refusals.{noToken, room}
+use Rattle.answers.specs.Limits.{mostPatterns, byteValues}
+use Rattle.answers.specs.Refusals.{noToken, room, tokenRoom}
 use Rattle.pieces.specs.declared.Ending.the-variants.{Whole, NoToken, NoRoom}
-use Rattle.pieces.specs.Cut.{space, tokenRoom, piece, numbersOf, endsOf, answerOf}
+use Rattle.pieces.specs.Cut.{space, piece, numbersOf, endsOf, answerOf}
 use Rattle.pieces.specs.Cut.{TokenAt, NoTokenAt, Cut, end-of-line, space-dropped, token-cut, no-token, no-room}
 use Rattle.pieces.specs.Calls.{CutWithOutcome}
-use Rattle.pieces.specs.Rows.{byteCells, rowsIn, cellAt, Walk, here, on, Says}
+use Rattle.pieces.specs.Rows.{rowsIn, cellAt, Walk, here, on, Says}
 use Rattle.pieces.proofs.Walks.{walk-start, walk-end, walk-next}
 
 -- " ab c", and what is left of it behind the space
@@ -29,7 +29,7 @@ abbrev pub oneRow : (next token : ℕ) → List ℕ
 oneRow next token = replicate 256 next ++ (token ∷ [])
 
 -- by a byte the row leads to itself
-round : {k b : ℕ} {u : List ℕ} → b < byteCells → Walk (oneRow 0 k) 0 u 0 → Walk (oneRow 0 k) 0 (b ∷ u) 0
+round : {k b : ℕ} {u : List ℕ} → b < byteValues → Walk (oneRow 0 k) 0 u 0 → Walk (oneRow 0 k) 0 (b ∷ u) 0
 round {k} {b} {u} byte walk =
     let same : cellAt (oneRow 0 k) 0 b ≡ 0 =
     List·getD-append (replicate 256 0) (k ∷ []) 0 (0 + b) (omega arith) ∙ getD-replicate 256 (0 + b) 0 0 (omega arith) in
@@ -43,7 +43,7 @@ one-row-walk k = round (lit< tt) (round (lit< tt) (round (lit< tt) (round (lit< 
 one-row-token : {next k j : ℕ} {u : List ℕ} → Says (oneRow next k) j u → j ≡ k
 one-row-token {next} {k} says = go (says .row) (walk-end (says .walk)) (says .token)
   where
-    go : {j : ℕ} (row : ℕ) → row < rowsIn (oneRow next k) → j ≡ cellAt (oneRow next k) row byteCells → j ≡ k
+    go : {j : ℕ} (row : ℕ) → row < rowsIn (oneRow next k) → j ≡ cellAt (oneRow next k) row byteValues → j ≡ k
     go zero inside token = token
     go (suc row) inside token = absurd (omega arith)
 

@@ -6,6 +6,7 @@ pub mod Written
 pub mod Progress
 pub mod Unique
 pub mod Exact
+pub mod Parts
 pub mod Laying
 pub mod Standing
 pub mod Matching

@@ -7,12 +7,12 @@ use native.Mathlib.Nat.{add-zero}
 use native.Mathlib.Omega.{arith}
 use lib.ListN.{length, take, drop, getD, length-append, drop-of-length-le}
 use lib.Seq.{drop-cons, take-all, take-append-add}
-use Rattle.answers.specs.Limits.{mostPatterns}
+use Rattle.answers.specs.Limits.{mostPatterns, byteValues}
 use Rattle.pieces.specs.declared.Match.{Match}
 use Rattle.pieces.specs.declared.Match.the-variants.{Token, Nothing}
 use Rattle.pieces.specs.Cut.{TokenAt, NoTokenAt}
 use Rattle.pieces.specs.Moves.{Noted, longer, kept, Matched, token, nothing}
-use Rattle.pieces.specs.Rows.{byteCells, rowsIn, cellAt, Walk, here, Says}
+use Rattle.pieces.specs.Rows.{rowsIn, cellAt, Walk, here, Says}
 use Rattle.pieces.proofs.Walks.{walk-start, walk-more, walk-stuck, says-token}
 use Rattle.pieces.proofs.Best.{NoneBeyond, none-at-end, token-kept, none-kept, token-whole}
 
@@ -39,23 +39,23 @@ stuck-beyond {cells} b u v walk outside j m past within says =
 -- nor of a string whose row has no token
 tokenless-beyond : {cells : List ℕ} {row : ℕ} (b : ℕ) (u : List ℕ)
     → Walk cells 0 (u ++ (b ∷ [])) row
-    → mostPatterns ≤ cellAt cells row byteCells
+    → mostPatterns ≤ cellAt cells row byteValues
     → NoneBeyond (Says cells) u (b ∷ [])
 tokenless-beyond {cells} b u walk none j m past within says =
     let whole : take m (u ++ (b ∷ [])) ≡ u ++ (b ∷ []) = take-all m (u ++ (b ∷ [])) (simp length-append (omega arith)) in
-    let said : j ≡ cellAt cells _ byteCells = says-token walk (subst (λ (w : List ℕ). Says cells j w) whole says) in
+    let said : j ≡ cellAt cells _ byteValues = says-token walk (subst (λ (w : List ℕ). Says cells j w) whole says) in
     omega (arith, said, says .counts)
 
 -- the longest match once one more byte was read
 noted-found : {cells : List ℕ} {row from at : ℕ} {best best′ : Match} (b : ℕ) (u : List ℕ)
     → Walk cells 0 (u ++ (b ∷ [])) row
     → Matched (Says cells) u from best
-    → Noted best (cellAt cells row byteCells) at best′
+    → Noted best (cellAt cells row byteValues) at best′
     → at ≡ from + length (u ++ (b ∷ []))
     → Matched (Says cells) (u ++ (b ∷ [])) from best′
 noted-found {cells} {row} {from} b u walk found (longer counts) e =
     let w = u ++ (b ∷ []) in
-    let k = cellAt cells row byteCells in
+    let k = cellAt cells row byteValues in
     let whole : TokenAt (Says cells) w k (length w) =
     token-whole w (simp length-append (omega arith)) (record { row = row; walk = walk; token = refl; counts = counts })
     (λ j lower says. omega (arith, says-token walk says)) in
@@ -93,10 +93,10 @@ module _ {cells line : List ℕ} {from : ℕ} where
     -- one byte more
     pub looked-more : {next number : ℕ} {best′ : Match}
         → at < length line
-        → getD line at 0 < byteCells
+        → getD line at 0 < byteValues
         → next ≡ cellAt cells row (getD line at 0)
         → next < rowsIn cells
-        → number ≡ cellAt cells next byteCells
+        → number ≡ cellAt cells next byteValues
         → Noted best number (at + 1) best′
         → Looked cells line from (at + 1) next best′
     looked-more {next} {number} {best′} below byte is-next inside is-number noted =
@@ -104,7 +104,7 @@ module _ {cells line : List ℕ} {from : ℕ} where
         let read = looked .read ++ (b ∷ []) in
         let walk : Walk cells 0 read next =
         rw is-next (walk-more (looked .walk) byte (rw is-next at inside)) in
-        let noted′ : Noted best (cellAt cells next byteCells) (at + 1) best′ = rw is-number at noted in
+        let noted′ : Noted best (cellAt cells next byteValues) (at + 1) best′ = rw is-number at noted in
         let split : drop from line ≡ read ++ drop (at + 1) line =
         rw (add-one, append-assoc) (looked .split ∙ ap (λ (w : List ℕ). looked .read ++ w) (drop-cons line at 0 below)) in
         let counted : at + 1 ≡ from + length read =

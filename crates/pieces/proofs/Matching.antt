@@ -1,13 +1,14 @@
--- Each piece is matched by its pattern, and a line has no more pieces than bytes.
+-- Each piece is matched by its pattern, a line has no more pieces than bytes, and what an answer names lies in it.
 use mathlib.Core.Path.{_≡_, subst}
 use mathlib.Core.List.{List, [], _∷_}
 use mathlib.Core.Option.{some}
-use Prim.Native.Nat.{ℕ, zero, suc, _<_}
+use Prim.Native.Nat.{ℕ, zero, suc, _+_, _≤_, _<_}
 use native.Mathlib.Omega.{arith}
 use lib.ListN.{length, take, drop, getElem?, length-drop}
 use Rattle.pieces.specs.declared.Ending.{Ending}
 use Rattle.pieces.specs.declared.Ending.the-variants.{NoRoom}
-use Rattle.pieces.specs.Cut.{Piece, piece, Cut, end-of-line, space-dropped, token-cut, no-token, no-room}
+use Rattle.answers.specs.Answers.{done, stop}
+use Rattle.pieces.specs.Cut.{Piece, piece, Cut, end-of-line, space-dropped, token-cut, no-token, no-room, answerOf}
 
 module _ {M : ℕ → List ℕ → Type 0} where
   -- what a piece's number says of its bytes
@@ -33,3 +34,27 @@ module _ {M : ℕ → List ℕ → Type 0} where
   room-lacking (token-cut {b = b} {n = n} {w = w} no-space t cut) =
       omega (arith, room-lacking cut, length-drop n (b ∷ w), t .some-byte)
   room-lacking (no-room no-space t) = omega arith
+
+  -- a line has no more pieces than bytes
+  pub pieces-few : {room place : ℕ} {w : List ℕ} {pieces : List Piece} {ending : Ending}
+      → Cut M room place w pieces ending
+      → length pieces ≤ length w
+  pieces-few end-of-line = omega arith
+  pieces-few (space-dropped cut) = omega (arith, pieces-few cut)
+  pieces-few (token-cut {b = b} {n = n} {w = w} no-space t cut) =
+      omega (arith, pieces-few cut, length-drop n (b ∷ w), t .some-byte, t .within)
+  pieces-few (no-token no-space none) = omega arith
+  pieces-few (no-room no-space t) = omega arith
+
+  -- and the place that the answer names lies in it, or at its end
+  pub place-inside : {room place : ℕ} {w : List ℕ} {pieces : List Piece} {ending : Ending}
+      → Cut M room place w pieces ending
+      → (n : ℕ)
+      → answerOf ending n .place ≤ place + length w
+  unfolding answerOf done stop
+  place-inside end-of-line n = omega arith
+  place-inside (space-dropped cut) n = omega (arith, place-inside cut n)
+  place-inside (token-cut {b = b} {n = m} {w = w} no-space t cut) n =
+      omega (arith, place-inside cut n, length-drop m (b ∷ w), t .within)
+  place-inside (no-token no-space none) n = omega arith
+  place-inside (no-room no-space t) n = omega arith

@@ -10,13 +10,13 @@ use Rattle.sets.specs.Calls.{noSet}
 use Rattle.answers.specs.declared.Answer.{Answer}
 use Rattle.answers.specs.Answers.{done, stop}
 use Rattle.answers.specs.Limits.{mostPatterns}
-use Rattle.answers.specs.Refusals.{noToken, room}
+use Rattle.answers.specs.Refusals.{noToken, room, tokenRoom}
 use Rattle.pieces.specs.declared.Ending.{Ending}
 use Rattle.pieces.specs.declared.Ending.the-variants.{Whole, NoRoom}
-use Rattle.pieces.specs.Cut.{tokenRoom, Piece, endsOf, TokenAt, NoTokenAt, Cut}
+use Rattle.pieces.specs.Cut.{Piece, endsOf, TokenAt, NoTokenAt, Cut}
 use Rattle.pieces.specs.Calls.{CutWithOutcome}
 use Rattle.pieces.specs.Laid.{Laid, Stopped, StandsIn, endBefore}
-use Rattle.pieces.specs.Meanings.{Agree, Picks, Decided}
+use Rattle.pieces.specs.Meanings.{Agree, Picks, Only, OfParts, Decided}
 use Rattle.pieces.specs.Rows.{Says, Closed}
 use Rattle.pieces.proofs.Beginning as beginning
 use Rattle.pieces.proofs.Deciding as deciding
@@ -24,6 +24,7 @@ use Rattle.pieces.proofs.Exact as exact
 use Rattle.pieces.proofs.Examples as examples
 use Rattle.pieces.proofs.Examples.{line, oneRow}
 use Rattle.pieces.proofs.Laying as laying
+use Rattle.pieces.proofs.Parts as parts
 use Rattle.pieces.proofs.Matching as matching
 use Rattle.pieces.proofs.Standing as standing
 use Rattle.pieces.proofs.Unique as unique
@@ -117,6 +118,13 @@ module _ {M N : ℕ → List ℕ → Type 0} where
       → Picks N M
       → Cut N room place w pieces ending ↔ Cut M room place w pieces ending
   cut-lowest picks = exact.cut-lowest picks
+
+-- what a meaning says of strings that are no parts of the line does not matter
+pub cut-parts : {M : ℕ → List ℕ → Type 0} {Q : List ℕ → Type 0} {room place : ℕ} {w : List ℕ} {pieces : List Piece}
+    {ending : Ending}
+    → OfParts Q w
+    → Cut M room place w pieces ending ↔ Cut (Only Q M) room place w pieces ending
+cut-parts has = parts.cut-parts has
 
 module _ {cells : List ℕ} where
   -- cells say one token at most of a string

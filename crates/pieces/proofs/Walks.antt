@@ -3,7 +3,8 @@ use mathlib.Core.Path.{_≡_, refl, sym, ap, subst, _∙_}
 use mathlib.Core.List.{List, [], _∷_, _++_}
 use Prim.Native.Nat.{ℕ, _≤_, _<_}
 use native.Mathlib.Omega.{arith}
-use Rattle.pieces.specs.Rows.{byteCells, rowsIn, cellAt, Walk, here, on, Says}
+use Rattle.answers.specs.Limits.{byteValues}
+use Rattle.pieces.specs.Rows.{rowsIn, cellAt, Walk, here, on, Says}
 
 module _ {cells : List ℕ} where
   -- a walk starts at a row that is there
@@ -35,7 +36,7 @@ module _ {cells : List ℕ} where
   -- one byte more
   pub walk-more : {r s b : ℕ} {u : List ℕ}
       → Walk cells r u s
-      → b < byteCells
+      → b < byteValues
       → cellAt cells s b < rowsIn cells
       → Walk cells r (u ++ (b ∷ [])) (cellAt cells s b)
   walk-more walk byte inside = walk-joined walk (on (walk-end walk) byte (here inside))
@@ -57,9 +58,9 @@ module _ {cells : List ℕ} where
       omega (arith, subst (λ (q : ℕ). cellAt cells q b < rowsIn cells) (sym same) inside)
 
   -- of a string the cells say the token of the row where its walk ends
-  pub says-token : {k row : ℕ} {u : List ℕ} → Walk cells 0 u row → Says cells k u → k ≡ cellAt cells row byteCells
+  pub says-token : {k row : ℕ} {u : List ℕ} → Walk cells 0 u row → Says cells k u → k ≡ cellAt cells row byteValues
   says-token walk says =
-      says .token ∙ ap (λ (q : ℕ). cellAt cells q byteCells) (walk-unique (says .walk) walk)
+      says .token ∙ ap (λ (q : ℕ). cellAt cells q byteValues) (walk-unique (says .walk) walk)
 
   -- and so one token at most
   pub says-unique : {j k : ℕ} {u : List ℕ} → Says cells j u → Says cells k u → j ≡ k

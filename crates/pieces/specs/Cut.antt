@@ -8,17 +8,13 @@ use lib.ListN.{length, take, drop}
 use Rattle.sets.specs.Calls.{noSet}
 use Rattle.answers.specs.declared.Answer.{Answer}
 use Rattle.answers.specs.Answers.{done, stop}
-use Rattle.answers.specs.Refusals.{noToken, room}
+use Rattle.answers.specs.Refusals.{noToken, room, tokenRoom}
 use Rattle.pieces.specs.declared.Ending.{Ending}
 use Rattle.pieces.specs.declared.Ending.the-variants.{Whole, NoToken, NoRoom}
 
 -- the byte that is dropped where a token would start
 abbrev pub space : ℕ
 space = 32
-
--- the detail of refusal 7 for the token buffer
-abbrev pub tokenRoom : ℕ
-tokenRoom = 2
 
 -- a token of the line: its pattern's number, the place of its first byte, its bytes
 pub record Piece : Type 0 where

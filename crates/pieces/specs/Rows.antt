@@ -6,21 +6,10 @@ use mathlib.Core.List.{List, [], _∷_}
 use mathlib.Core.Logic.{_⊎_}
 use Prim.Native.Nat.{ℕ, _+_, _*_, _/_, _≤_, _<_, min}
 use lib.ListN.{length, getD}
-use Rattle.answers.specs.Limits.{mostPatterns}
-
--- the bytes that a row has a next state for
-abbrev pub byteCells : ℕ
-byteCells = 256
-
--- these and the token
-abbrev pub rowCells : ℕ
-rowCells = 257
-
-abbrev pub mostRows : ℕ
-mostRows = 256
+use Rattle.answers.specs.Limits.{mostPatterns, mostStates, byteValues, rowCells}
 
 abbrev pub rowsIn : List ℕ → ℕ
-rowsIn cells = min (length cells / rowCells) mostRows
+rowsIn cells = min (length cells / rowCells) mostStates
 
 -- cell c of row r
 abbrev pub cellAt : List ℕ → ℕ → ℕ → ℕ
@@ -30,18 +19,18 @@ module _ (cells : List ℕ) where
   -- walking u leads from row r to row s, and each number met on the way names a row
   pub data Walk : ℕ → List ℕ → ℕ → Type 0 where
     here : {r : ℕ} → r < rowsIn cells → Walk r [] r
-    on : {r b s : ℕ} {u : List ℕ} → r < rowsIn cells → b < byteCells → Walk (cellAt cells r b) u s → Walk r (b ∷ u) s
+    on : {r b s : ℕ} {u : List ℕ} → r < rowsIn cells → b < byteValues → Walk (cellAt cells r b) u s → Walk r (b ∷ u) s
 
   -- walking u from row 0 ends at a row whose token is k
   pub record Says (k : ℕ) (u : List ℕ) : Type 0 where
     pub row : ℕ
     pub walk : Walk 0 u row
-    pub token : k ≡ cellAt cells row byteCells
+    pub token : k ≡ cellAt cells row byteValues
     pub counts : k < mostPatterns
 
 -- so many whole rows, of which each cell for a byte names one of them or none at all
 pub record Closed (cells : List ℕ) (rows : ℕ) : Type 0 where
   pub some-row : 0 < rows
-  pub few : rows ≤ mostRows
+  pub few : rows ≤ mostStates
   pub whole : length cells ≡ rows * rowCells
-  pub names : (r b : ℕ) → r < rows → b < byteCells → (cellAt cells r b < rows) ⊎ (mostRows ≤ cellAt cells r b)
+  pub names : (r b : ℕ) → r < rows → b < byteValues → (cellAt cells r b < rows) ⊎ (mostStates ≤ cellAt cells r b)

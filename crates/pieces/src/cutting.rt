@@ -17,13 +17,11 @@ use answers::Answer;
 use answers::done;
 use answers::refusals::NO_TOKEN;
 use answers::refusals::ROOM;
+use answers::refusals::TOKEN_ROOM;
 use answers::stop;
 use sets::none;
 
 const SPACE: u8 = 32;
-
-// The detail of refusal 7 for the token buffer.
-pub const TOKEN_ROOM: u64 = 2;
 
 // What is done at a place with room for so many tokens.
 fn move_at(machine: &[u16], rows: usize, line: &[u8], at: usize, room: usize) -> Move

@@ -3,28 +3,29 @@ ghost use mathlib.Core.Path.{_≡_};
 ghost use Prim.Native.Nat.{_/_, _≤_, _<_, min};
 ghost use lib.ListN.{length, drop};
 ghost use Rattle.pieces.specs.Moves.{Noted, Matched};
-ghost use Rattle.pieces.specs.Rows.{byteCells, mostRows, rowCells, rowsIn, cellAt, Says};
+ghost use Rattle.answers.specs.Limits.{mostStates, byteValues, rowCells};
+ghost use Rattle.pieces.specs.Rows.{rowsIn, cellAt, Says};
 use crate::Match;
+use answers::limits::BYTE_VALUES;
 use answers::limits::MOST_PATTERNS;
-
-// The bytes that a row has a next state for, and these and the token.
-const BYTE_CELLS: usize = 256;
-
-const ROW_CELLS: usize = 257;
-
-const MOST_ROWS: usize = 256;
+use answers::limits::MOST_STATES;
+use answers::limits::ROW_CELLS;
 
 // How many rows so many cells are.
 pub(crate) fn rows_in(cells: usize) -> usize
-    ensures { λ r. ⌜ r ≡ min (cells / rowCells) mostRows ⌝ }
+    ensures { λ r. ⌜ r ≡ min (cells / rowCells) mostStates ⌝ }
 {
     let whole = cells / ROW_CELLS;
-    if whole < MOST_ROWS { whole } else { MOST_ROWS }
+    if whole < MOST_STATES {
+        whole
+    } else {
+        MOST_STATES
+    }
 }
 
 // A byte's column.
 fn column(byte: u8) -> usize
-    ensures { λ r. ⌜ (r ≡ byte) × (r < byteCells) ⌝ }
+    ensures { λ r. ⌜ (r ≡ byte) × (r < byteValues) ⌝ }
 {
     byte as usize
 }
@@ -74,7 +75,7 @@ pub(crate) fn longest(machine: &[u16], rows: usize, line: &[u8], from: usize) ->
         }
         row = next;
         at += 1;
-        best = noted(best, cell_at(machine, row, BYTE_CELLS), at);
+        best = noted(best, cell_at(machine, row, BYTE_VALUES), at);
     }
     best
 }

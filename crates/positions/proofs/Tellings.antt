@@ -5,7 +5,7 @@ use mathlib.Core.Bool.{Bool, true, false, cond, _&&_, _||_}
 use mathlib.Core.List.{List}
 use Prim.Native.Nat.{ℕ, _+_, _≤_}
 use native.Mathlib.Omega.{arith}
-use Rattle.answers.specs.Limits.{mostPositions}
+use Rattle.answers.specs.Limits.{mostPositions, positionWords, pointWords}
 use Rattle.sets.specs.Sets.{member, Exactly, united}
 use Rattle.sets.specs.Calls.{Decides}
 use Rattle.sets.specs.Words.{places}
@@ -15,7 +15,7 @@ use Rattle.pattern.specs.Positions.{size, Null, null-opt, FirstPosition, LastPo
 use Rattle.pattern.proofs.Promise.{null-of-cat, null-of-alt, null-of-plus, first-of-cat, first-of-alt, first-of-plus, first-of-opt, last-of-cat, last-of-alt, last-of-plus, last-of-opt, follow-of-cat, follow-of-alt, follow-of-plus, follow-of-opt, reads-of-cat, reads-of-alt, reads-of-plus, reads-of-opt}
 use Rattle.parts.specs.declared.Part.{Part}
 use Rattle.parts.specs.Rows.{Rows}
-use Rattle.parts.specs.Parts.{positionWords, pointWords, positionsIn, Told, Tabled}
+use Rattle.parts.specs.Parts.{positionsIn, Told, Tabled}
 use Rattle.parts.specs.Leading.{Leads}
 use Rattle.parts.specs.Joins.{LedOn, behind, Turns, Splits}
 use Rattle.parts.proofs.Promise.{rows-then, rows-alike}

@@ -16,7 +16,7 @@ use Rattle.pattern.specs.Reader.{Begun, outside, standing, start, settled, clos
 use Rattle.pattern.specs.Reader.{means, says, readPattern}
 use Rattle.pattern.specs.Positions.{Null}
 use Rattle.pattern.proofs.Promise.{says-ends, says-no-kind}
-use Rattle.pattern.proofs.Theorems.{read-exact, refused-exact, null-exact}
+use Rattle.pattern.proofs.Promise.{read-exact, refused-exact, null-exact}
 use Rattle.parts.specs.declared.Part.{Part}
 use Rattle.parts.specs.Reading.{AlternationRead}
 use Rattle.parts.proofs.Promise.{mark-inside}

@@ -6,8 +6,8 @@ use Prim.Native.Nat.{ℕ, _-_, _≤_}
 use native.Mathlib.Omega.{arith}
 use lib.ListN.{length}
 use Rattle.sets.specs.Words.{AreWords}
+use Rattle.answers.specs.Limits.{positionWords, pointWords}
 use Rattle.parts.specs.Rows.{Rows}
-use Rattle.parts.specs.Parts.{positionWords, pointWords}
 use Rattle.parts.specs.Leading.{pointsIn}
 use Rattle.parts.proofs.LeadingOn.{Below, below-none, below-more, below-all}
 use Rattle.parts.proofs.leading.lead.Statement.{statement}

@@ -8,8 +8,8 @@ use Rattle.sets.specs.Sets.{Subset}
 use Rattle.sets.specs.Words.{wordWidth}
 use Rattle.sets.proofs.Promise.{fits-members, shifted-one}
 use Rattle.points.proofs.Promise.{unite-length}
+use Rattle.answers.specs.Limits.{pointWords}
 use Rattle.parts.specs.Rows.{Rows}
-use Rattle.parts.specs.Parts.{pointWords}
 use Rattle.parts.specs.Leading.{pointsIn}
 use Rattle.parts.proofs.LeadingOn.{without, without-keeps, without-falls, Gone, led-none, led-more, led-all}
 use Rattle.parts.proofs.leading.lead_word.Statement.{statement}

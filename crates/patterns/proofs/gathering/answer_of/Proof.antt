@@ -11,26 +11,25 @@ refusal-requires c κs = search needs
 
 returns : tie.Need-returns
 returns c =
-    let judged = c .before .before .before .args .judged in
-    c .refusal .ensures ∙ rw (not-true (judged .good) (c .before .if1 .taken))
+    c .refusal .ensures ∙ rw (not-true (c .before .before .args .good) (c .before .if1 .taken))
 
 refusal-requires-2 : tie.Need-refusal-requires-2
 refusal-requires-2 c κs = search needs
 
 returns-2 : tie.Need-returns-2
 returns-2 c =
-    let judged = c .before .before .before .before .before .args .judged in
+    let args = c .before .before .before .args in
     c .refusal2 .ensures
-    ∙ rw (not-false (judged .good) (c .before .before .before .if1 .left), lt-ltb mostPositions (judged .count) (c .before .if2 .taken))
+    ∙ rw (not-false (args .good) (c .before .before .if1 .left), lt-ltb mostPositions (args .count) (c .before .if2 .taken))
 
 done-requires : tie.Need-done-requires
 done-requires c κs = search needs
 
 returns-3 : tie.Need-returns-3
 returns-3 c =
-    let judged = c .before .before .before .before .before .args .judged in
+    let args = c .before .before .before .args in
     c .done .ensures
-    ∙ rw (not-false (judged .good) (c .before .before .before .if1 .left), le-ltb mostPositions (judged .count) (c .before .if2 .left))
+    ∙ rw (not-false (args .good) (c .before .before .if1 .left), le-ltb mostPositions (args .count) (c .before .if2 .left))
 
 pub answer-of-spec : {M : Type 1} → statement M
 answer-of-spec =

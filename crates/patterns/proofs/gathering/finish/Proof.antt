@@ -5,7 +5,7 @@ use mathlib.Core.Bool.{false≢true}
 use native.Mathlib.Omega.{arith}
 use lib.ListN.{length}
 use borrow.Author.Tests.{not-true}
-use Rattle.parts.specs.Parts.{positionWords}
+use Rattle.answers.specs.Limits.{positionWords}
 use Rattle.patterns.proofs.Finishing.{finished}
 use Rattle.patterns.proofs.gathering.finish.Statement.{statement}
 use Rattle.patterns.proofs.gathering.finish.Tie as tie

@@ -1,0 +1,14 @@
+pub mod Pointing
+pub mod Alike
+pub mod Tokens
+pub mod Some
+pub mod Walking
+pub mod Exact
+pub mod Unique
+pub mod Outcomes
+pub mod Again
+pub mod Preparing
+pub mod Examples
+pub mod OneLetter
+pub mod Theorems
+pub mod Promise

@@ -1,0 +1,4 @@
+pub mod Patterns
+pub mod Calls
+pub mod Promised
+pub mod Preparing
