@@ -7,6 +7,10 @@ use lib.ListN.{length, set}
 use Rattle.sets.specs.Calls.{number}
 use Rattle.answers.specs.declared.Answer.{Answer}
 use Rattle.answers.specs.Buffers.{over}
+use Rattle.patterns.specs.Calls.{JudgePatterns}
+use Rattle.patterns.proofs.Promise.{judge-patterns-unique}
+use Rattle.pieces.specs.Calls.{CutWithOutcome}
+use Rattle.pieces.proofs.Promise.{cut-with-unique}
 use Rattle.book.specs.declared.Reading.{Reading}
 use Rattle.book.proofs.Promise.{judged-unique}
 use Rattle.first.specs.declared.SetAnswer.{SetAnswer}
@@ -68,6 +72,20 @@ set-outcome-unique {cells = cells} same x y o p =
 pub judge-outcome-unique : (book : List ℕ) → Unique (λ (x : Answer × Unit {0}). JudgeOutcome book (x .0))
 judge-outcome-unique book x y o p =
     let same : x .0 ≡ y .0 = sym (o .answer) ∙ ap (λ (r : Reading). r .answer) (judged-unique (o .judged) (p .judged)) ∙ p .answer in
+    λ i. (same i, tt)
+
+-- a cut with given cells has one outcome
+pub cut-with-same : (machine line tokens ends : List ℕ)
+    → Unique (λ (r : Answer × List ℕ × List ℕ). CutWithOutcome machine line tokens ends (r .0) (r .1) (r .2))
+cut-with-same machine line tokens ends r q o p =
+    let (answer, numbers, places) = cut-with-unique o p in
+    λ i. (answer i, numbers i, places i)
+
+-- patterns are judged one way
+pub patterns-outcome-unique : (patterns lengths : List ℕ)
+    → Unique (λ (x : Answer × Unit {0}). JudgePatterns patterns lengths (x .0))
+patterns-outcome-unique patterns lengths x y o p =
+    let same : x .0 ≡ y .0 = judge-patterns-unique o p in
     λ i. (same i, tt)
 
 first-written : (cells : List ℕ) (n : ℕ) → 1 ≤ length cells → set cells 0 n ≡ over (n ∷ []) cells

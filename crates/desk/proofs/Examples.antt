@@ -6,7 +6,11 @@ use native.Mathlib.Omega.{arith}
 use lib.ListN.{replicate}
 use Rattle.grammar.proofs.Every.{every-at}
 use Rattle.grammar.proofs.Tests.{below}
-use Rattle.answers.specs.Answers.{done}
+use Rattle.answers.specs.Answers.{done, refusal}
+use Rattle.patterns.specs.Calls.{accepted}
+use Rattle.patterns.specs.Examples as patterns
+use Rattle.patterns.specs.Examples.{houseBytes, houseLengths}
+use Rattle.patterns.proofs.Promise.{examples-judged, house-accepted}
 use Rattle.book.specs.Examples.{houseBook}
 use Rattle.first.specs.Examples.{houseFirstSets}
 use Rattle.follow.specs.Examples.{houseFollowSets}
@@ -15,7 +19,7 @@ use Rattle.table.proofs.Promise.{house-build}
 use Rattle.demands.specs.Demands.{Premises}
 use Rattle.demands.specs.Examples.{Allowed, answering, runs, expands, exampleA, exampleF, exampleK, examples}
 use Rattle.demands.proofs.Promise.{house-premises, examples-allowed}
-use Rattle.desk.specs.Desk.{littleEndian, answerBytes, Lent, short, answered, BuildCall, RunCall, ExpandCall}
+use Rattle.desk.specs.Desk.{littleEndian, answerBytes, Lent, short, answered, PatternsCall, BuildCall, RunCall, ExpandCall}
 use Rattle.desk.proofs.AnswerBytes.{answerSize-is}
 
 -- an answer buffer that is longer than an answer, and one that is too short
@@ -55,6 +59,23 @@ pub example-k-called : ExpandCall houseBook (0 ∷ 1 ∷ 3 ∷ 5 ∷ []) (replic
     0 (replicate 3 0) (0 ∷ 1 ∷ 9 ∷ []) (replicate 16 0 ++ (6 ∷ replicate 15 0) ++ replicate 8 9)
 unfolding examples Allowed exampleK expands answering answerBytes littleEndian
 example-k-called = record { call = answered long-lent (every-at examples-allowed 10 exampleK refl) }
+
+-- the house patterns are good
+pub house-patterns-called : PatternsCall houseBytes houseLengths long 0 (replicate 32 0 ++ replicate 8 9)
+unfolding done answerBytes littleEndian
+house-patterns-called = record { call = answered long-lent (accepted house-accepted) }
+
+-- of `a`, `b*` and `(` the second is told: 14, place 2, detail 1
+pub bad-pattern-called : PatternsCall (97 ∷ 98 ∷ 42 ∷ 40 ∷ []) (1 ∷ 2 ∷ 1 ∷ []) long
+    14 ((2 ∷ replicate 7 0) ++ (1 ∷ replicate 23 0) ++ replicate 8 9)
+unfolding patterns.examples refusal answerBytes littleEndian
+bad-pattern-called =
+    record {
+      call =
+          answered long-lent
+          (examples-judged 2
+          (record { patterns = 97 ∷ 98 ∷ 42 ∷ 40 ∷ []; lengths = 1 ∷ 2 ∷ 1 ∷ []; answer = refusal 14 2 1 }) refl);
+    }
 
 -- H is built
 pub house-built-called : BuildCall houseBook (replicate 5 9) (replicate 5 9) (replicate 21 9) long

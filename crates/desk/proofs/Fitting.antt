@@ -16,6 +16,16 @@ use Rattle.sets.proofs.Promise.{added-fits}
 use Rattle.answers.specs.declared.Answer.{Answer}
 use Rattle.answers.specs.Answers.{done, refusal, stop}
 use Rattle.answers.specs.Buffers.{counted}
+use Rattle.patterns.specs.Calls.{JudgePatterns}
+use Rattle.patterns.specs.Calls as patterns
+use Rattle.patterns.proofs.Promise.{refuses-bounded}
+use Rattle.pieces.specs.declared.Ending.{Ending}
+use Rattle.pieces.specs.declared.Ending.the-variants.{Whole, NoToken, NoRoom}
+use Rattle.pieces.specs.Cut.{Piece, Cut, answerOf}
+use Rattle.pieces.specs.Calls.{CutWithOutcome}
+use Rattle.pieces.proofs.Promise.{pieces-few, place-inside}
+use Rattle.cut.specs.Calls.{CutOutcome}
+use Rattle.cut.specs.Calls as cuts
 use Rattle.reader.specs.Book.{Limits}
 use Rattle.reader.proofs.Promise.{refused-kinds, read-limits}
 use Rattle.book.specs.declared.Reading.{Reading}
@@ -187,3 +197,48 @@ first-fits b (first-calls.refused r k) = rw (k .answer) (refused-fits b r)
 first-fits b (first-calls.too-long s h k) = rw (k .answer) (refusal-fits 4 (omega arith) (omega arith))
 first-fits b (first-calls.strange s h f k) = rw (k .answer) (refusal-fits 5 (omega (arith, f .inside)) (omega arith))
 first-fits b (first-calls.served s h e is) = rw (is .answer) (done-fits 0 (omega arith))
+
+pub patterns-fits : {patterns lengths : List ℕ} {a : Answer}
+    → length patterns < 2 ^ 64
+    → JudgePatterns patterns lengths a
+    → FitsWords a
+unfolding refusal
+patterns-fits short (patterns.refused (patterns.many-patterns past)) = refusal-fits 4 (omega arith) (omega arith)
+patterns-fits short (patterns.refused (patterns.bad-pattern few bad)) =
+    let bounds = refuses-bounded (patterns.bad-pattern few bad) in
+    refusal-fits 14 (omega (arith, bounds .0)) (omega (arith, bounds .1))
+patterns-fits short (patterns.refused (patterns.many-positions few means good past)) =
+    refusal-fits 4 (omega arith) (omega arith)
+patterns-fits short (patterns.accepted accept) = done-fits 0 (omega arith)
+
+-- of a cut along the line
+line-fits : {M : ℕ → List ℕ → Type 0} {room : ℕ} {line : List ℕ} {pieces : List Piece} {ending : Ending}
+    → length line < 2 ^ 64
+    → Cut M room 0 line pieces ending
+    → FitsWords (answerOf ending (length pieces))
+unfolding answerOf done stop
+line-fits {line = line} {pieces = pieces} {ending = ending} short cut = go ending (place-inside cut (length pieces))
+  where
+    steps : length pieces < 2 ^ 64
+    steps = omega (arith, pieces-few cut)
+
+    go : (e : Ending) → answerOf e (length pieces) .place ≤ 0 + length line → FitsWords (answerOf e (length pieces))
+    go Whole h = record { place = omega arith; detail = omega arith; steps = steps; expected = omega arith }
+    go (NoToken place) h = record { place = omega arith; detail = omega arith; steps = steps; expected = omega arith }
+    go (NoRoom place) h = record { place = omega arith; detail = omega arith; steps = steps; expected = omega arith }
+
+pub cut-fits : {patterns lengths line machine tokens machine′ tokens′ : List ℕ} {a : Answer}
+    → length patterns < 2 ^ 64
+    → length line < 2 ^ 64
+    → CutOutcome patterns lengths line machine tokens a machine′ tokens′
+    → FitsWords a
+cut-fits short line-short (cuts.refused r) = patterns-fits short (patterns.refused r)
+cut-fits short line-short (cuts.too-many accept many) = refusal-fits 16 (omega arith) (omega arith)
+cut-fits short line-short (cuts.no-cells accept f few lacking) = refusal-fits 7 (omega arith) (omega arith)
+cut-fits short line-short (cuts.cut accept f few fits c) = line-fits line-short c
+
+pub cut-with-fits : {machine line tokens ends tokens′ ends′ : List ℕ} {a : Answer}
+    → length line < 2 ^ 64
+    → CutWithOutcome machine line tokens ends a tokens′ ends′
+    → FitsWords a
+cut-with-fits short o = rw (o .answered) (line-fits short (o .cut))

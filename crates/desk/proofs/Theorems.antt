@@ -3,10 +3,16 @@
 use mathlib.Core.Path.{_≡_, refl, sym, _∙_, subst}
 use mathlib.Core.List.{List}
 use Prim.Native.Nat.{ℕ, _^_, _<_}
+use native.Mathlib.Nat.{mul-le-mul}
 use native.Mathlib.Omega.{arith}
 use lib.ListN.{length}
 use Rattle.grammar.specs.Machine.{Longest}
 use Rattle.answers.specs.Buffers.{counted}
+use Rattle.patterns.specs.Calls.{JudgePatterns}
+use Rattle.pieces.specs.Calls.{CutWithOutcome}
+use Rattle.cut.specs.Calls.{CutOutcome}
+use Rattle.cut.proofs.Promise.{cut-outcome-unique}
+use Rattle.book.proofs.Promise.{serves-limits}
 use Rattle.first.specs.Calls.{FirstOutcome}
 use Rattle.follow.specs.Calls.{SetsOutcome, LookaheadOutcome}
 use Rattle.table.specs.Calls.{BuildOutcome}
@@ -18,16 +24,17 @@ use Rattle.run.specs.Running.{RunOutcome}
 use Rattle.run.proofs.Promise.{run-outcome-unique}
 use Rattle.expand.specs.Expanding.{ExpandOutcome}
 use Rattle.expand.proofs.Promise.{expand-outcome-unique}
+use Rattle.demands.specs.Formula.{RunWithinFormula}
 use Rattle.demands.specs.Demands.{BuildMeets2, ExpandMeets2, RunMeets2, RunMeets3, RunStepsAdd, ExpandStepsAdd}
-use Rattle.demands.proofs.Promise.{build-meets2, run-meets3, run-meets2, run-steps-add, expand-meets2, expand-steps-add}
+use Rattle.demands.proofs.Promise.{build-meets2, run-meets3, run-meets2, run-steps-add, run-formula, expand-meets2, expand-steps-add}
 use Rattle.desk.specs.Desk.{littleEndian, answerBytes, answerSize, Lent, LentCell, JudgeOutcome, SetOutcome}
-use Rattle.desk.specs.Desk.{JudgeCall, SetsCall, BuildCall, RunCall, ExpandCall, LookaheadCall, FirstCall}
+use Rattle.desk.specs.Desk.{JudgeCall, PatternsCall, CutCall, CutWithCall, SetsCall, BuildCall, RunCall, ExpandCall, LookaheadCall, FirstCall}
 use Rattle.desk.specs.Demands.{answerFrom}
 use Rattle.desk.proofs.Calls.{called-answer, called-unique, two-unique, three-unique, judge-outcome-unique}
-use Rattle.desk.proofs.Calls.{set-outcome-unique}
+use Rattle.desk.proofs.Calls.{patterns-outcome-unique, cut-with-same, set-outcome-unique}
 use Rattle.desk.proofs.ReadBack.{FitsWords, answer-read, called-exact}
 use Rattle.desk.proofs.Fitting.{ran-bounded, run-fits, expand-fits, judge-fits, sets-fits, build-fits}
-use Rattle.desk.proofs.Fitting.{lookahead-fits, first-fits}
+use Rattle.desk.proofs.Fitting.{lookahead-fits, first-fits, patterns-fits, cut-fits, cut-with-fits}
 
 -- any two outcomes that a call allows are equal: the number returned, and every lent buffer
 pub run-call-unique : (book table tokens stack list answer : List ℕ) {n m : ℕ} {s t l k x y : List ℕ}
@@ -53,6 +60,28 @@ pub judge-call-unique : (book answer : List ℕ) {n m : ℕ} {x y : List ℕ}
 judge-call-unique book answer c d =
     let (number, none, bytes) = called-unique (judge-outcome-unique book) (c .call) (d .call) in
     (number, bytes)
+
+pub patterns-call-unique : (patterns lengths answer : List ℕ) {n m : ℕ} {x y : List ℕ}
+    → PatternsCall patterns lengths answer n x
+    → PatternsCall patterns lengths answer m y
+    → (n ≡ m) × (x ≡ y)
+patterns-call-unique patterns lengths answer c d =
+    let (number, none, bytes) = called-unique (patterns-outcome-unique patterns lengths) (c .call) (d .call) in
+    (number, bytes)
+
+pub cut-call-unique : (patterns lengths line machine tokens answer : List ℕ) {n m : ℕ} {s t l k x y : List ℕ}
+    → CutCall patterns lengths line machine tokens answer n s l x
+    → CutCall patterns lengths line machine tokens answer m t k y
+    → (n ≡ m) × (s ≡ t) × (l ≡ k) × (x ≡ y)
+cut-call-unique patterns lengths line machine tokens answer c d =
+    two-unique (CutOutcome patterns lengths line machine tokens) (λ r q o p. cut-outcome-unique o p) (c .call) (d .call)
+
+pub cut-with-call-unique : (machine line tokens ends answer : List ℕ) {n m : ℕ} {s t l k x y : List ℕ}
+    → CutWithCall machine line tokens ends answer n s l x
+    → CutWithCall machine line tokens ends answer m t k y
+    → (n ≡ m) × (s ≡ t) × (l ≡ k) × (x ≡ y)
+cut-with-call-unique machine line tokens ends answer c d =
+    two-unique (CutWithOutcome machine line tokens ends) (cut-with-same machine line tokens ends) (c .call) (d .call)
 
 pub sets-call-unique : (book first follow answer : List ℕ) {n m : ℕ} {f g w v x y : List ℕ}
     → SetsCall book first follow answer n f w x
@@ -103,6 +132,27 @@ expand-call-exact b lent c = called-exact (λ a o. expand-fits b o) lent (c .cal
 pub judge-call-exact : {book answer : List ℕ} {n : ℕ} {x : List ℕ} → length book < 2 ^ 64
     → Lent answer → JudgeCall book answer n x → JudgeOutcome book (answerFrom n x)
 judge-call-exact b lent c = called-exact (λ a o. subst FitsWords (o .answer) (judge-fits b (o .judged))) lent (c .call)
+
+pub patterns-call-exact : {patterns lengths answer : List ℕ} {n : ℕ} {x : List ℕ} → length patterns < 2 ^ 64
+    → Lent answer
+    → PatternsCall patterns lengths answer n x
+    → JudgePatterns patterns lengths (answerFrom n x)
+patterns-call-exact b lent c = called-exact (λ a o. patterns-fits b o) lent (c .call)
+
+pub cut-call-exact : {patterns lengths line machine tokens answer : List ℕ} {n : ℕ} {s l x : List ℕ}
+    → length patterns < 2 ^ 64
+    → length line < 2 ^ 64
+    → Lent answer
+    → CutCall patterns lengths line machine tokens answer n s l x
+    → CutOutcome patterns lengths line machine tokens (answerFrom n x) s l
+cut-call-exact b w lent c = called-exact (λ a o. cut-fits b w o) lent (c .call)
+
+pub cut-with-call-exact : {machine line tokens ends answer : List ℕ} {n : ℕ} {s l x : List ℕ}
+    → length line < 2 ^ 64
+    → Lent answer
+    → CutWithCall machine line tokens ends answer n s l x
+    → CutWithOutcome machine line tokens ends (answerFrom n x) s l
+cut-with-call-exact w lent c = called-exact (λ a o. cut-with-fits w o) lent (c .call)
 
 pub sets-call-exact : {book first follow answer : List ℕ} {n : ℕ} {f w x : List ℕ} → length book < 2 ^ 64
     → Lent answer → SetsCall book first follow answer n f w x → SetsOutcome book first follow (answerFrom n x) f w
@@ -184,6 +234,25 @@ module _ {answer : List ℕ} (lent : Lent answer) where
               read .steps (omega (arith, admits .short)) ∙ counted;
           listed = adds .listed;
           none = λ m. let zero = adds .none m in read .steps (omega arith) ∙ zero;
+        }
+
+    -- room by formula: with N × n list cells and 1 + 15 × N × n stack cells, both counted, it is never refused for room
+    pub desk-run-formula :
+        RunWithinFormula book table tokens stack list (record { answer = answerFrom n x; stack = s; list = l })
+    desk-run-formula =
+        let told = called-answer lent (c .call) in
+        let read = answer-read told in
+        let within =
+        run-formula book table tokens stack list (record { answer = told .told; stack = s; list = l })
+        (told .outcome) in
+        record {
+          listed = λ h full.
+              let (lists, steps) = within .listed h full in
+              let (few, matched) = ran-bounded (h .built .grammar) table tokens stack list in
+              let small = mul-le-mul (serves-limits (h .built .serves) .nonterminals-fit) (h .short) in
+              (lists, rw (read .steps (omega (arith, steps, matched, small, h .short))) steps);
+          held = within .held;
+          never-room = λ h full k m e. within .never-room h full k m (sym (read .number) ∙ e);
         }
 
   -- demand 2 of an expansion: given room, a complete list expands to the string that it derives

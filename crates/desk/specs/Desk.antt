@@ -9,6 +9,9 @@ use Rattle.answers.specs.declared.Answer.{Answer}
 use Rattle.answers.specs.Answers.{done}
 use Rattle.answers.specs.Refusals.{room}
 use Rattle.answers.specs.Buffers.{over}
+use Rattle.patterns.specs.Calls.{JudgePatterns}
+use Rattle.pieces.specs.Calls.{CutWithOutcome}
+use Rattle.cut.specs.Calls.{CutOutcome}
 use Rattle.book.specs.declared.Reading.{Reading}
 use Rattle.book.specs.Judging.{Judged}
 use Rattle.first.specs.declared.SetAnswer.{SetAnswer}
@@ -56,6 +59,27 @@ pub record JudgeOutcome (book : List ℕ) (a : Answer) : Type 0 where
 -- judging changes no other buffer
 pub record JudgeCall (book answer : List ℕ) (number : ℕ) (answer′ : List ℕ) : Type 0 where
   pub call : Called {Buffers = Unit {0}} (Lent answer) (λ a after. JudgeOutcome book a) tt answer number tt answer′
+
+-- patterns judged, by their bytes and lengths
+pub record PatternsCall (patterns lengths answer : List ℕ) (number : ℕ) (answer′ : List ℕ) : Type 0 where
+  pub call :
+      Called {Buffers = Unit {0}} (Lent answer) (λ a after. JudgePatterns patterns lengths a) tt answer number tt answer′
+
+-- a line cut by patterns, and their machine
+pub record CutCall (patterns lengths line machine tokens answer
+    : List ℕ) (number : ℕ) (machine′ tokens′ answer′ : List ℕ) : Type 0 where
+  pub call :
+      Called {Buffers = List ℕ × List ℕ} (Lent answer)
+      (λ a after. CutOutcome patterns lengths line machine tokens a (after .0) (after .1)) (machine, tokens) answer
+      number (machine′, tokens′) answer′
+
+-- a line cut with given machine cells
+pub record CutWithCall (machine line tokens ends answer
+    : List ℕ) (number : ℕ) (tokens′ ends′ answer′ : List ℕ) : Type 0 where
+  pub call :
+      Called {Buffers = List ℕ × List ℕ} (Lent answer)
+      (λ a after. CutWithOutcome machine line tokens ends a (after .0) (after .1)) (tokens, ends) answer number
+      (tokens′, ends′) answer′
 
 -- FIRST and FOLLOW of each nonterminal
 pub record SetsCall (book first follow answer : List ℕ) (number : ℕ) (first′ follow′ answer′ : List ℕ) : Type 0 where

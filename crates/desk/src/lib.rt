@@ -2,11 +2,13 @@
 // buffer; where that is too short, or the buffer for a set has no cell, the answer is 7 before all else, and nothing
 // changes.
 ghost use Rattle.desk.specs.Desk.{JudgeCall, SetsCall, BuildCall, RunCall, ExpandCall, LookaheadCall, FirstCall};
+ghost use Rattle.desk.specs.Desk.{PatternsCall, CutCall, CutWithCall};
 use crate::words::ANSWER_SIZE;
 use crate::words::write_answer;
 use answers::refusals::ROOM;
 use book::judging::judge;
 use expand::expand;
+use pieces::cutting::cut_with;
 use run::running::run;
 
 mod words;
@@ -81,6 +83,78 @@ pub extern "C" fn desk_judge(book: &[u8], answer: &mut [u8]) -> u32
     let judged = reading.answer;
     write_answer(answer, judged);
     judged.number
+}
+
+// The refusal 4 or 14 of patterns lent as their bytes and lengths, or done.
+#[no_mangle]
+pub extern "C" fn desk_patterns(patterns: &[u8], lengths: &[u64], answer: &mut [u8]) -> u32
+    ensures { λ r. ⌜ PatternsCall (now (patterns .entry)) (now (lengths .entry)) (now (answer .entry))
+        r (now (answer .exit)) ⌝ }
+{
+    if answer.len() < ANSWER_SIZE {
+        return ROOM;
+    }
+    let told = patterns::judge(patterns, lengths);
+    write_answer(answer, told);
+    told.number
+}
+
+// A line cut by patterns into tokens, with the machine that is made of them.
+#[no_mangle]
+pub extern "C" fn desk_cut(
+    patterns: &[u8],
+    lengths: &[u64],
+    line: &[u8],
+    machine: &mut [u16],
+    tokens: &mut [u8],
+    answer: &mut [u8],
+) -> u32
+    ensures { λ r. ⌜ CutCall
+        (now (patterns .entry))
+        (now (lengths .entry))
+        (now (line .entry))
+        (now (machine .entry))
+        (now (tokens .entry))
+        (now (answer .entry))
+        r
+        (now (machine .exit))
+        (now (tokens .exit))
+        (now (answer .exit)) ⌝ }
+{
+    if answer.len() < ANSWER_SIZE {
+        return ROOM;
+    }
+    let told = cut::cut(patterns, lengths, line, machine, tokens);
+    write_answer(answer, told);
+    told.number
+}
+
+// A line cut with the cells of a machine, and the places behind its tokens.
+#[no_mangle]
+pub extern "C" fn desk_cut_with(
+    machine: &[u16],
+    line: &[u8],
+    tokens: &mut [u8],
+    ends: &mut [u64],
+    answer: &mut [u8],
+) -> u32
+    ensures { λ r. ⌜ CutWithCall
+        (now (machine .entry))
+        (now (line .entry))
+        (now (tokens .entry))
+        (now (ends .entry))
+        (now (answer .entry))
+        r
+        (now (tokens .exit))
+        (now (ends .exit))
+        (now (answer .exit)) ⌝ }
+{
+    if answer.len() < ANSWER_SIZE {
+        return ROOM;
+    }
+    let told = cut_with(machine, line, tokens, ends);
+    write_answer(answer, told);
+    told.number
 }
 
 // FIRST and FOLLOW of each nonterminal into the lent buffers.
