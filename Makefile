@@ -2,6 +2,7 @@
 # make also-fail          more wrong programs, each refused (half an hour); CRATE=NAME for those of one crate
 # make list BOOK=FILE     lists a book
 # make restore            the example program in C, target/c/restore
+# make cut LINE=..        cuts a line as typed and runs its tokens; without LINE, the lines on standard input
 # make bench              the benchmark
 # make stack              the machine stack that each C function uses
 SHELL := /bin/bash

@@ -1,17 +1,14 @@
-#define _POSIX_C_SOURCE 200809L
-
 #include "desk.h"
 #include "house.h"
 #include "plain.h"
 #include "source.h"
+#include "timing.h"
 
 #include <stdbool.h>
-#include <stdio.h>
 #include <stdlib.h>
 #include <string.h>
-#include <time.h>
 
-enum { STRINGS = 256, LONG_STRING = 4000, SHORT_STRING = 6, STACK = 1024, LIST = 16384, DEFAULT_ROUNDS = 25 };
+enum { STRINGS = 256, LONG_STRING = 4000, SHORT_STRING = 6, STACK = 1024, LIST = 16384 };
 
 /* A grammar with strings of one length, their production lists, and how often a round goes through the strings. */
 struct workload {
@@ -29,13 +26,9 @@ struct workload {
     int (*bison)(struct source *source);
 };
 
-typedef void job(void);
-
 static const struct workload *work;
 static uint8_t stack[STACK], list[LIST], tokens[LONG_STRING], table[DESK_MOST_TABLE_CELLS], answer[DESK_ANSWER_SIZE];
 static uint64_t first[64], follow[64];
-static unsigned long failures;
-static unsigned rounds = DEFAULT_ROUNDS;
 
 /* Tokens { } [ ] : , string number true false null; nonterminals value, members, more members, pair, elements, more. */
 static const uint8_t json_book[] = {
@@ -135,12 +128,6 @@ static uint8_t *make_json_value(uint8_t *at, size_t length)
 static void make_json_string(uint8_t *at, size_t length)
 {
     make_json_value(at, length);
-}
-
-static void fail(const char *what)
-{
-    fprintf(stderr, "bench: %s\n", what);
-    exit(1);
 }
 
 /* Makes the table and the strings of a workload, and their lists with the plain run. */
@@ -255,7 +242,7 @@ static job *const bison_job = NULL;
 #define JSON_PARSER NULL
 #endif
 
-static void clear_buffers(void)
+void clear_buffers(void)
 {
     memset(stack, 0, sizeof stack);
     memset(list, 0, sizeof list);
@@ -266,34 +253,12 @@ static void clear_buffers(void)
     memset(follow, 0, sizeof follow);
 }
 
-static double time_once(job *run)
+/* Prints a figure of the workload, with bison's parser as the third where it is timed. */
+static void print_work(const char *what, const struct workload *workload, const char *unit, size_t units, job *desk,
+                       job *plain, job *bison)
 {
-    struct timespec before, after;
-    clear_buffers();
-    clock_gettime(CLOCK_PROCESS_CPUTIME_ID, &before);
-    run();
-    clock_gettime(CLOCK_PROCESS_CPUTIME_ID, &after);
-    return (double)(after.tv_sec - before.tv_sec) * 1e9 + (double)(after.tv_nsec - before.tv_nsec);
-}
-
-/* Times two or three ways of doing the same, round by round in turn, and prints the best round of each. */
-static void print_figure(const char *what, const struct workload *workload, const char *unit, size_t units,
-                         job *desk, job *plain, job *bison)
-{
-    job *const jobs[] = { desk, plain, bison };
-    double best[3] = { 0 };
     work = workload;
-    for (unsigned round = 0; round < rounds; round++)
-        for (size_t i = 0; i < 3; i++) {
-            double time = jobs[i] ? time_once(jobs[i]) : 0;
-            best[i] = round == 0 || time < best[i] ? time : best[i];
-        }
-    double scale = 1 / (double)(units * work->times);
-    printf("%-7s %-24s desk %10.2f  plain %10.2f  ns a %-5s  ratio %5.2f", what, work->name, best[0] * scale,
-           best[1] * scale, unit, best[0] / best[1]);
-    if (bison)
-        printf("   bison %8.2f  ratio %5.2f", best[2] * scale, best[0] / best[2]);
-    printf("\n");
+    print_figure(&(struct figure){ what, work->name, unit, (double)(units * work->times), desk, plain, bison, "bison" });
 }
 
 static void print_string_figures(struct workload *workload)
@@ -301,16 +266,16 @@ static void print_string_figures(struct workload *workload)
     bool calls = workload->length == SHORT_STRING;
     size_t units = STRINGS * (calls ? 1 : workload->length);
     const char *unit = calls ? "call" : "token";
-    print_figure("run", workload, unit, units, run_desk, run_plain, bison_job);
-    print_figure("expand", workload, unit, units, expand_desk, expand_plain, NULL);
+    print_work("run", workload, unit, units, run_desk, run_plain, bison_job);
+    print_work("expand", workload, unit, units, expand_desk, expand_plain, NULL);
     free(workload);
 }
 
 static void print_book_figures(struct workload *workload)
 {
-    print_figure("judge", workload, "call", 1, judge_desk, judge_plain, NULL);
-    print_figure("sets", workload, "call", 1, sets_desk, sets_plain, NULL);
-    print_figure("build", workload, "call", 1, build_desk, build_plain, NULL);
+    print_work("judge", workload, "call", 1, judge_desk, judge_plain, NULL);
+    print_work("sets", workload, "call", 1, sets_desk, sets_plain, NULL);
+    print_work("build", workload, "call", 1, build_desk, build_plain, NULL);
     free(workload);
 }
 
@@ -318,8 +283,7 @@ static void print_book_figures(struct workload *workload)
 int main(int argc, char **argv)
 {
     static uint8_t largest[DESK_MOST_BOOK_BYTES];
-    if (argc > 1 && strtoul(argv[1], NULL, 10) > 0)
-        rounds = (unsigned)strtoul(argv[1], NULL, 10);
+    read_rounds(argc, argv);
     print_string_figures(make_workload("house, 4000 tokens", house_book, sizeof house_book, make_house_string,
                                        LONG_STRING, HOUSE_PARSER));
     print_string_figures(make_workload("json, 4000 tokens", json_book, sizeof json_book, make_json_string,

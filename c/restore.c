@@ -1,16 +1,9 @@
-#include "desk.h"
+#include "answers.h"
 
 #include <inttypes.h>
 #include <stdio.h>
 #include <stdlib.h>
 #include <string.h>
-
-static const char *const refusals[] = {
-    "done", "a byte of the book is missing", "a mark of the book is wrong", "bytes follow the book",
-    "a number or a length is out of range", "a symbol is not of the grammar", "a nonterminal is useless", "a buffer is too small",
-    "a cell has two claimants", "the table does not fit the book", "a token is not of the grammar", "syntax",
-    "a production does not fit",
-};
 
 /* A file's bytes, as far as 65,536: more than any input allowed, so that the desk itself refuses what is too long. */
 struct file {
@@ -34,21 +27,6 @@ static void load(const char *path, struct file *file)
         exit(2);
     }
     fclose(stream);
-}
-
-/* Reads one of the four little-endian words of an answer: 0 place, 1 detail, 2 steps, 3 expected set. */
-static uint64_t word(const uint8_t *answer, size_t index)
-{
-    uint64_t value = 0;
-    for (size_t i = 8; i > 0; i--)
-        value = value << 8 | answer[8 * index + i - 1];
-    return value;
-}
-
-/* The number in words. */
-static const char *words(uint32_t number)
-{
-    return number < sizeof refusals / sizeof *refusals ? refusals[number] : "refused";
 }
 
 static int refused(const char *what, uint32_t number, const uint8_t *answer)

@@ -22,12 +22,12 @@ extern "C" {
    cell holds the number of a production of its row, or 255 for none.
 
    Every pointer comes with a length in elements. A null pointer with length 0 is an empty slice; a null pointer
-   with any other length is not allowed. Bytes need no alignment, 64-bit numbers that of uint64_t. Lent buffers must
-   not overlap one another or anything the call reads. What is passed as const is only read.
+   with any other length is not allowed. Bytes need no alignment, 16-bit and 64-bit numbers that of uint16_t and
+   uint64_t. Lent buffers must not overlap one another or anything the call reads. What is passed as const is only read.
 
    Every call returns one of the numbers below and writes four words of 64 bits, lowest byte first whatever the
-   machine, into the lent answer buffer: place, detail, steps and expected set, from bytes 0, 8, 16 and 24. The
-   words that the comments below do not name are 0; after DESK_DONE only the steps of a run or an expansion can be
+   machine, into the lent answer buffer: place, detail, steps and expected set, from bytes 0, 8, 16 and 24. The words
+   that the comments below do not name are 0; after DESK_DONE only the steps of a run, an expansion or a cut can be
    other than 0. The answer is written on every refusal too. Bytes of the answer buffer past 32 stay as they were.
    There is one exception: where the answer buffer has less than 32 bytes, or a set is answered and its buffer has no
    cell, the call returns DESK_ROOM before all else and writes nothing at all, to the answer buffer or to any other. */
@@ -40,21 +40,30 @@ extern "C" {
 #define DESK_MOST_SYMBOLS 16
 #define DESK_MOST_NONTERMINALS 64
 #define DESK_MOST_TABLE_CELLS 4032
+#define DESK_MOST_PATTERNS 62
+#define DESK_MOST_POSITIONS 256
+#define DESK_MOST_OPEN_GROUPS 8
+#define DESK_MOST_STATES 256
+#define DESK_ROW_CELLS 257
+#define DESK_MOST_MACHINE_CELLS 65792
 
 /* How many cells the table of a book has that desk_judge finds done: N x (T+1). */
 #define DESK_TABLE_CELLS(book) ((size_t)(book)[3] * ((book)[2] + 1u))
 
 /* Room by formula: how many list and stack cells are enough for a run over that many tokens, before any string is
    seen. Let no right side of the book be empty, the table be the one of desk_build, and the tokens be at most 4,096,
-   each below T, derivable or not. The run then lists at most N x tokens productions and holds at most
-   1 + 15 x N x tokens stack cells, however it ends; so where both are lent, and neither is above 65,535, the answer
-   is never DESK_ROOM. They say nothing of a book with an empty right side, of another table, or where one of the two
-   is above 65,535. */
+   each below T, derivable or not. The run then lists at most N x tokens productions and holds at most 1 + 15 x N x
+   tokens stack cells, however it ends; so where both are lent, and neither is above 65,535, with an answer buffer long
+   enough the answer is never DESK_ROOM. They say nothing of a book with an empty right side, of another table, or
+   where one of the two is above 65,535. */
 #define DESK_LIST_ROOM(nonterminals, tokens) ((size_t)(nonterminals) * (size_t)(tokens))
 #define DESK_STACK_ROOM(nonterminals, tokens) (1 + 15 * DESK_LIST_ROOM(nonterminals, tokens))
 
 #define DESK_NONTERMINAL 128
 #define DESK_NO_PRODUCTION 255
+
+/* In a cell of a machine: no next state, or no token. */
+#define DESK_CUT_NONE 65535
 
 #define DESK_END_MARK (UINT64_C(1) << 62)
 #define DESK_EMPTY_STRING (UINT64_C(1) << 63)
@@ -73,7 +82,10 @@ enum {
     DESK_TABLE = 9,
     DESK_TOKEN = 10,
     DESK_SYNTAX = 11,
-    DESK_PRODUCTION = 12
+    DESK_PRODUCTION = 12,
+    DESK_PATTERN = 14,
+    DESK_NO_TOKEN = 15,
+    DESK_STATES = 16
 };
 
 /* The details of DESK_ROOM: which buffer is too small. */
@@ -84,6 +96,12 @@ enum {
     DESK_ROOM_FIRST = 4,
     DESK_ROOM_FOLLOW = 5,
     DESK_ROOM_TABLE = 6
+};
+
+/* The details of DESK_ROOM where a line is cut. */
+enum {
+    DESK_CUT_ROOM_MACHINE = 1,
+    DESK_CUT_ROOM_TOKENS = 2
 };
 
 /* Runs a token string over an LL(1) table of the book.
@@ -217,6 +235,69 @@ uint32_t desk_lookahead(const uint8_t *book, size_t book_len, uint64_t productio
    The first cell of `set` holds FIRST of the string, or 0 if refused; cells beyond it are unchanged. */
 uint32_t desk_first_of(const uint8_t *book, size_t book_len, const uint8_t *symbols, size_t symbols_len,
                        uint64_t *set, size_t set_len, uint8_t *answer, size_t answer_len);
+
+/* Judges patterns, one for each token, and changes nothing but the answer.
+
+   The patterns are one slice of bytes and their lengths: pattern k is the next lengths[k] of the bytes, or as many as
+   are left; bytes left over are not used. So any byte can stand in a pattern, 0 and line feed too. A pattern has
+     bytes             each matches itself; case counts, `.` is a dot, and `^ $ { } "` are plain as well;
+     classes           [abc], [a-z], [a-z_]: one of these bytes, ends of a range rising or equal; nothing negates;
+     groups            ( ), up to 8 open inside one another;
+     alternation       a|b;
+     repetitions       a* a+ a?: any number of times, at least once, at most once; one sign on an item at the most,
+                       an item being a byte, a class or a group.
+   \ makes the next byte plain, whichever it is (\n is the letter n). [ ] ( ) | * + ? \, and in a class - too, are
+   plain only so. No class, group or alternative is empty, and no pattern matches the empty string. Bytes are no
+   letters: in UTF-8 an accented letter is two of them, and a class with it a class of two bytes; write a group of
+   alternatives, or the range of bytes 128 to 255.
+
+   Refusals, in this order:
+     DESK_LIMIT    more than 62 patterns: place 62;
+     DESK_PATTERN  a pattern is bad: place, counted from the pattern's own first byte, is the first byte that no pattern
+                   could have there, or the pattern's length where it ends too early or matches the empty string;
+                   detail is its number, the lowest of the bad ones;
+     DESK_LIMIT    more than 256 bytes and classes in all patterns together: place 256. */
+uint32_t desk_patterns(const uint8_t *patterns, size_t patterns_len, const uint64_t *lengths, size_t lengths_len,
+                       uint8_t *answer, size_t answer_len);
+
+/* Makes the machine of the patterns and cuts a line into tokens: the longest match wins, and among equals the lowest
+   pattern; a space (byte 32) where a token would start is dropped, even if a pattern could begin with one. A tab, a
+   carriage return and a line feed are no spaces: lend the line without its end.
+
+   Refusals, in this order; up to and including the last of this list nothing but the answer changes:
+     the refusals of desk_patterns;
+     DESK_STATES   the machine would have more than 256 states: place 256;
+     DESK_ROOM     detail DESK_CUT_ROOM_MACHINE: the machine has more cells than were lent: place is how many it has.
+   Then the machine is written, 257 cells for each state, and cells beyond it are unchanged. A state is a row: the next
+   state for each byte, then the token, DESK_CUT_NONE where there is none. Along the line, place is the byte, counted
+   from 0, where that token starts:
+     DESK_NO_TOKEN no pattern matches what begins there;
+     DESK_ROOM     detail DESK_CUT_ROOM_TOKENS: a token is there, and `tokens` is full.
+   steps is the number of tokens written, done or refused along the line; cells of `tokens` beyond them are unchanged.
+
+   Room: 65,792 machine cells are always enough, and a call that lends none, with at least one pattern, is told how
+   many; line_len token cells are always enough (a run takes 4,096 tokens). An empty line makes the machine alone. With
+   no pattern there is no machine, and every byte but a space gives DESK_NO_TOKEN. Machine
+   stack: some 34 KB, and up to 46 KB with eight nested groups.
+
+   The longest match can take time that is quadratic in the line's length (with `a` and `a*b` on many `a`): who takes
+   lines from strangers bounds their length. */
+uint32_t desk_cut(const uint8_t *patterns, size_t patterns_len, const uint64_t *lengths, size_t lengths_len,
+                  const uint8_t *line, size_t line_len, uint16_t *machine, size_t machine_len,
+                  uint8_t *tokens, size_t tokens_len, uint8_t *answer, size_t answer_len);
+
+/* Cuts a line with the cells of a machine that desk_cut made: it answers, and writes to `tokens`, what desk_cut does
+   along the line, in time that can be quadratic too, and tells which bytes each token is. The whole buffer that was
+   lent to desk_cut may be lent, since no row behind the machine's is reached; with no pattern there is no machine, so
+   lend 0 cells. Of any other cells, rows are the whole 257s, at most 256 of them; a next state that names no row, and
+   a token that is not below 62, count as none.
+
+   Of the tokens written, the first as many as `ends` has cells get theirs: cell i is the place behind token i's last
+   byte. Cells beyond them are unchanged, and too few are no refusal; `ends` may be null with length 0. A token starts
+   at the first byte that is no space from the end of the one before on. */
+uint32_t desk_cut_with(const uint16_t *machine, size_t machine_len, const uint8_t *line, size_t line_len,
+                       uint8_t *tokens, size_t tokens_len, uint64_t *ends, size_t ends_len,
+                       uint8_t *answer, size_t answer_len);
 
 #ifdef __cplusplus
 }

@@ -8,7 +8,7 @@
 #include <sys/mman.h>
 #include <unistd.h>
 
-enum { ODD_GUARD = 67, WORD_GUARD = 64, SLOT_SIZE = 1 << 17 };
+enum { ODD_GUARD = 67, WORD_GUARD = 64, SLOT_SIZE = 1 << 21 };
 
 bool empty_is_null;
 
@@ -65,6 +65,11 @@ struct lent lend_bytes(size_t cells)
     return lend(cells, ODD_GUARD);
 }
 
+struct lent lend_halves(size_t cells)
+{
+    return lend(cells * sizeof(uint16_t), WORD_GUARD);
+}
+
 struct lent lend_words(size_t cells)
 {
     return lend(cells * sizeof(uint64_t), WORD_GUARD);
@@ -80,6 +85,11 @@ uint8_t *lent_bytes(const struct lent *lent)
     return cells_of(lent, lent->memory);
 }
 
+uint16_t *lent_halves(const struct lent *lent)
+{
+    return (uint16_t *)(void *)cells_of(lent, lent->memory);
+}
+
 uint64_t *lent_words(const struct lent *lent)
 {
     return (uint64_t *)(void *)cells_of(lent, lent->memory);
@@ -88,6 +98,11 @@ uint64_t *lent_words(const struct lent *lent)
 uint8_t *wanted_bytes(const struct lent *lent)
 {
     return cells_of(lent, lent->wanted);
+}
+
+uint16_t *wanted_halves(const struct lent *lent)
+{
+    return (uint16_t *)(void *)cells_of(lent, lent->wanted);
 }
 
 uint64_t *wanted_words(const struct lent *lent)

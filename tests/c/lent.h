@@ -24,14 +24,17 @@ extern bool empty_is_null;
 uint64_t next_random(void);
 void seed_random(uint64_t seed);
 
-/* Lends cells of one byte, which begin at an odd address, or of 64 bits. */
+/* Lends cells of one byte, which begin at an odd address, of 16 bits, or of 64 bits. */
 struct lent lend_bytes(size_t cells);
+struct lent lend_halves(size_t cells);
 struct lent lend_words(size_t cells);
 
 /* The first cell of the buffer itself, and of what it must hold. */
 uint8_t *lent_bytes(const struct lent *lent);
+uint16_t *lent_halves(const struct lent *lent);
 uint64_t *lent_words(const struct lent *lent);
 uint8_t *wanted_bytes(const struct lent *lent);
+uint16_t *wanted_halves(const struct lent *lent);
 uint64_t *wanted_words(const struct lent *lent);
 
 /* Whether the buffer and its guards hold what they must. */

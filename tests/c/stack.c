@@ -29,6 +29,7 @@ static size_t table_length;
 static uint8_t tokens[DESK_MOST_CELLS], list[DESK_MOST_CELLS], stack[DESK_MOST_CELLS];
 static size_t tokens_length, list_length;
 static uint64_t first[DESK_MOST_NONTERMINALS], follow[DESK_MOST_NONTERMINALS], set[1];
+static uint16_t machine[DESK_MOST_MACHINE_CELLS];
 static uint8_t answer[DESK_ANSWER_SIZE];
 
 static const uint8_t growing[] = { 'G', 'R', 1, 1, 0, 2, 'P', 'R', 0, 2, N(0), 0, 'P', 'R', 0, 1, 0 };
@@ -72,6 +73,44 @@ static void call_run(void)
                       list, sizeof list, answer, sizeof answer);
 }
 
+/* Eight nested groups, the most that may be open. */
+static void call_patterns(void)
+{
+    static const uint8_t nested[] = "((((((((a))))))))";
+    static const uint64_t lengths[] = { sizeof nested - 1 };
+    number = desk_patterns(nested, sizeof nested - 1, lengths, 1, answer, sizeof answer);
+}
+
+static void cut_by(const uint8_t *texts, const uint64_t *lengths, size_t count, const uint8_t *line, size_t length)
+{
+    size_t size = 0;
+    for (size_t k = 0; k < count; k++)
+        size += (size_t)lengths[k];
+    number = desk_cut(texts, size, lengths, count, line, length, machine, DESK_MOST_MACHINE_CELLS,
+                      tokens, sizeof tokens, answer, sizeof answer);
+}
+
+static void call_cut(void)
+{
+    static const uint8_t house[] = "restore(St )?[A-Z][a-z]+inand", line[] = "restore Anne in Ghent and Mary";
+    static const uint64_t lengths[] = { 7, 17, 2, 3 };
+    cut_by(house, lengths, 4, line, sizeof line - 1);
+}
+
+static void call_cut_nested(void)
+{
+    static const uint8_t nested[] = "((((((((a))))))))+", line[] = "aaaa aaaa";
+    static const uint64_t lengths[] = { sizeof nested - 1 };
+    cut_by(nested, lengths, 1, line, sizeof line - 1);
+}
+
+static void call_cut_with(void)
+{
+    static const uint8_t line[] = "aaaa aaaa";
+    number = desk_cut_with(machine, DESK_MOST_MACHINE_CELLS, line, sizeof line - 1, tokens, sizeof tokens, NULL, 0,
+                           answer, sizeof answer);
+}
+
 static void call_expand(void)
 {
     number = desk_expand(book, book_length, list, list_length, stack, sizeof stack, tokens, sizeof tokens,
@@ -86,12 +125,16 @@ struct function {
 };
 
 static const struct function judge = { "desk_judge", call_judge, 3400 };
-static const struct function sets = { "desk_sets", call_sets, 4700 };
-static const struct function build = { "desk_build", call_build, 9900 };
-static const struct function lookahead = { "desk_lookahead", call_lookahead, 4700 };
+static const struct function sets = { "desk_sets", call_sets, 5350 };
+static const struct function build = { "desk_build", call_build, 11350 };
+static const struct function lookahead = { "desk_lookahead", call_lookahead, 5350 };
 static const struct function first_of = { "desk_first_of", call_first_of, 4100 };
 static const struct function run = { "desk_run", call_run, 4400 };
 static const struct function expand = { "desk_expand", call_expand, 4600 };
+static const struct function patterns = { "desk_patterns", call_patterns, 18300 };
+static const struct function cut = { "desk_cut", call_cut, 40960 };
+static const struct function cut_nested = { "desk_cut", call_cut_nested, 50300 };
+static const struct function cut_with = { "desk_cut_with", call_cut_with, 1024 };
 
 #ifdef __x86_64__
 static const bool bounded = true;
@@ -239,6 +282,14 @@ static void print_run_depths(void)
     print_depth(&expand, "65535 productions, stack and tokens");
 }
 
+static void print_line_depths(void)
+{
+    print_depth(&patterns, "eight nested groups");
+    print_depth(&cut, "house");
+    print_depth(&cut_nested, "eight nested groups");
+    print_depth(&cut_with, "one pattern");
+}
+
 int main(void)
 {
     map_stack();
@@ -247,5 +298,6 @@ int main(void)
     set_longest();
     print_book_depths("longest book");
     print_run_depths();
+    print_line_depths();
     return exceeded == 0 ? 0 : 1;
 }

@@ -10,6 +10,8 @@ void check_expansions(void);
 void check_rooms(void);
 void check_trees(void);
 void check_formula(void);
+void check_all_patterns(void);
+void check_cut_lines(void);
 
 struct grammar;
 
