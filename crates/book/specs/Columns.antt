@@ -1,5 +1,5 @@
--- The columns of an index: T, N, start and P of a reading, the grammar that its places find in a book, and by production
--- the left side and the length of the right side. For every book and every reading. Document 01, "The book".
+-- The columns of an index: T, N, start and P of a reading, the grammar that its places find in a book, and by
+-- production the left side and the length of the right side. For every book and every reading. Document 01, "The book".
 use mathlib.Core.Path.{_≡_}
 use mathlib.Core.List.{List, [], _∷_}
 use Prim.Native.Nat.{ℕ, zero, suc, _%_, _≤_, _<_}

@@ -1,14 +1,16 @@
 -- What LL(1) promises, one page: each theorem under the sentence that it proves.
 use mathlib.Core.Path.{_≡_, refl}
-use mathlib.Core.Logic.{_↔_}
+use mathlib.Core.Logic.{_↔_, _⊎_, _≢_}
 use mathlib.Core.List.{List, [], _∷_, _++_}
 use mathlib.Core.Option.{Option}
 use Prim.Native.Nat.{ℕ, _<_}
 use lib.ListN.{length}
 use Rattle.grammar.specs.declared.Symbol.the-variants.{Nonterminal}
-use Rattle.grammar.specs.Grammar.{Form, spelled, Grammar, Column, Derives, itself, Derivable, LeftmostSteps, Leftmost, Complete, Conflict, WellFormed, Useful}
+use Rattle.grammar.specs.Grammar.{Form, spelled, Grammar, Column, Derives, itself, Derivable, LeftmostSteps}
+use Rattle.grammar.specs.Grammar.{Member, empty, First, Leftmost, Complete, Conflict, WellFormed, Useful}
 use Rattle.grammar.specs.Machine.{Exact, Run, Accepts, Stopped, Halted, Longest}
 use Rattle.grammar.proofs.Leftmost.{leftmost-steps, steps-leftmost, derives-leftmost, leftmost-derives}
+use Rattle.grammar.proofs.Append as append
 use Rattle.grammar.proofs.Unique.{unique-from}
 use Rattle.grammar.proofs.Useful.{useful-all}
 use Rattle.grammar.proofs.Machine.{run-from, run-leftmost, blocked}
@@ -47,6 +49,12 @@ module _ {g : Grammar} where
   -- no conflict: one string, one list
   pub leftmost-unique : ¬ Conflict g → {ps qs w : List ℕ} → Complete g ps w → Complete g qs w → ps ≡ qs
   leftmost-unique n d e = unique-from n [] itself d e
+
+  -- FIRST of two forms put together is FIRST of the first without the empty string and, if the first can vanish, FIRST
+  -- of the second
+  pub first-append : (α β : Form) (m : Member)
+      → First g (α ++ β) m ↔ ((First g α m × (m ≢ empty)) ⊎ (First g α empty × First g β m))
+  first-append = append.first-append
 
   module _ {cell : ℕ → Column → Option ℕ} (exact : Exact g cell) where
     -- the machine accepts w with the list ps exactly if ps is the leftmost derivation of w

@@ -56,7 +56,8 @@ module _ {book before after : List ℕ} {r : TextAnswer} where
   listed-front = whole.listed-front
 
 -- a longer book is listed by its first 2,567 bytes
-pub listing-by-beginning : (book : List ℕ) {text : List ℕ} → Listing (take (longestBook + 1) book) text ↔ Listing book text
+pub listing-by-beginning : (book : List ℕ) {text : List ℕ}
+    → Listing (take (longestBook + 1) book) text ↔ Listing book text
 listing-by-beginning = beginning.listing-by-beginning (longestBook + 1) (omega arith)
 
 -- so a program that reads no more of its input, and has room for the longest listing, writes the listing of all of it

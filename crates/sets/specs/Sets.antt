@@ -1,5 +1,5 @@
--- A set is a number: bit k of it says whether k is a member. Membership, the operations on such numbers, and the places that
--- stand for no token. Document 01, "Sets and table".
+-- A set is a number: bit k of it says whether k is a member. Membership, the operations on such numbers, and the places
+-- that stand for no token. Document 01, "Sets and table".
 use mathlib.Core.Path.{_≡_}
 use mathlib.Core.Bool.{Bool, true, cond}
 use Prim.Native.Nat.{ℕ, _/_, _%_, _^_, _<_}

@@ -1,5 +1,5 @@
--- A set of more places than one word has is a list of words, lowest first: the number that such a list spells, the words of
--- a number, and union and adding word by word. Document 02, W3 (sets of points) and W13 (sets of two words).
+-- A set of more places than one word has is a list of words, lowest first: the number that such a list spells, the
+-- words of a number, and union and adding word by word. Document 02, W3 (sets of points) and W13 (sets of two words).
 use mathlib.Core.List.{List, [], _∷_}
 use Prim.Native.Nat.{ℕ, zero, suc, _+_, _*_, _/_, _%_, _^_, _<_}
 use lib.ListN.{getD, set}

@@ -1,4 +1,5 @@
-// Sets as numbers: bit k of a set's word says whether k is a member. A set goes by value, a family of sets is kept flat.
+// Sets as numbers: bit k of a set's word says whether k is a member. A set goes by value, a family of sets is kept
+// flat.
 ghost use mathlib.Core.Path.{_≡_};
 ghost use Rattle.sets.specs.Sets.{member, columnPlace};
 ghost use Rattle.sets.specs.Calls.{number, None, Single, With, Without, Union, Join, Within, Same, Load, stored};
@@ -102,7 +103,8 @@ pub fn same(x: Set, y: Set) -> bool
     x.word == y.word
 }
 
-// The bit of a column of a table: after the tokens comes the end mark's column, and its bit is the same for every number of tokens.
+// The bit of a column of a table: after the tokens comes the end mark's column, and its bit is the same for every
+// number of tokens.
 pub fn column_bit(column: u8, tokens: u8) -> u8
     ensures { λ r. ⌜ r ≡ columnPlace column tokens ⌝ }
 {

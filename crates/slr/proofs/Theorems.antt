@@ -29,7 +29,8 @@ use Rattle.slr.proofs.TableUnique.{same-count, same-in, same-cells, tab
 -- in any run, whatever the table, steps are productions listed and tokens matched, and there is room for what is held
 pub use Rattle.slr.proofs.Spent.{slr-run-spent}
 -- the textbook's left-recursive grammar has states and a table that is exact, and accepts a string
-pub use Rattle.slr.proofs.Example.{left-formed, left-numbered, left-table, left-exact, left-derivation, left-held}
+pub use Rattle.slr.proofs.Example.{left-formed, left-numbered, left-table, left-exact, left-derivation}
+pub use Rattle.slr.proofs.Example.{left-held}
 pub use Rattle.slr.proofs.Example.{slr-example}
 -- the machine with room on small tables, built and not, ends as it should
 pub use Rattle.slr.proofs.Runs.{trials-pass}
@@ -47,7 +48,9 @@ module _ {g : Grammar} where
   derives-rightmost w = (λ d. derives-rightmost-of w d, λ r. rightmost-derives (r .1))
 
   -- two numberings of a grammar have as many states, the same sets in the same order, and the same cells
-  pub numbering-unique : {paths paths′ : List Form} (numbered : NumberedStates g paths) (other : NumberedStates g paths′)
+  pub numbering-unique : {paths paths′ : List Form}
+      (numbered : NumberedStates g paths)
+      (other : NumberedStates g paths′)
       → (length paths ≡ length paths′)
       × ((s : ℕ) (i : Item) → InState g paths s i ↔ InState g paths′ s i)
       × (numbered .cells ≡ other .cells)

@@ -1,6 +1,6 @@
--- Numbers as text, and what it is to write a text into a lent buffer. Characters are their ASCII codes.
--- Document 01, "The lister and the examples": "Numbers are decimal, highest digit first, without leading zeros", and sets
--- "in 16 lower-case hex digits".
+-- Numbers as text, and what it is to write a text into a lent buffer. Characters are their ASCII codes. Document 01,
+-- "The lister and the examples": "Numbers are decimal, highest digit first, without leading zeros", and sets "in 16
+-- lower-case hex digits".
 use mathlib.Core.Path.{_≡_}
 use mathlib.Core.Bool.{true, false, cond}
 use mathlib.Core.List.{List, [], _∷_, _++_}
@@ -31,7 +31,8 @@ hexDigits (suc places) n = digit (n / 16 ^ places % 16) ∷ hexDigits places n
 unfoldable pub hexadecimal : ℕ → List ℕ
 hexadecimal n = hexDigits 16 n
 
--- the text stands in the buffer from `at` on, as far as there is room; all else is as before; the next place is behind it
+-- the text stands in the buffer from `at` on, as far as there is room; all else is as before; the next place is behind
+-- it
 pub record Put (before : List ℕ) (at : ℕ) (text : List ℕ) (after : List ℕ) (next : ℕ) : Type 0 where
   pub cells : after ≡ sets before at text
   pub place : next ≡ min (at + length text) (max at (length before))

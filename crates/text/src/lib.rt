@@ -1,4 +1,5 @@
-// Texts and numbers written into a lent buffer. A place goes in and the next one comes back; what finds no room is not written.
+// Texts and numbers written into a lent buffer. A place goes in and the next one comes back; what finds no room is not
+// written.
 ghost use mathlib.Core.Path.{_≡_};
 ghost use mathlib.Core.List.{[], _∷_};
 ghost use Prim.Native.Nat.{_<_};
