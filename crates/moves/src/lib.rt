@@ -31,13 +31,8 @@ pub fn after(
     byte: u8,
     follow: &[u64],
 )
-    ensures { λ r. ⌜ After
-        (now (sets .entry))
-        state
-        (now (readers .entry))
-        byte
-        (now (follow .entry))
-        (now (next .exit)) ⌝ }
+    ensures { λ r. ⌜ After (now (sets .entry)) state (now (readers .entry)) byte
+        (now (follow .entry)) (now (next .exit)) ⌝ }
 {
     *next = [0u64; POINT_WORDS];
     let from = state as usize * POINT_WORDS;

@@ -1,52 +1,65 @@
--- Bytes that have the readers of the byte before: what comes after by one comes after by the other.
+-- Bytes that have the same readers: up to where they go, and that the same comes after by each of them.
 use mathlib.Core.Path.{_≡_, refl, sym, ap, _∙_}
-use mathlib.Core.Logic.{_↔_}
-use mathlib.Core.Bool.{Bool, true, false, false≢true}
+use mathlib.Core.Bool.{Bool, true}
 use mathlib.Core.List.{List}
-use Prim.Native.Nat.{ℕ, _+_, _-_, _*_, _≤_, _<_}
+use Prim.Native.Nat.{ℕ, _+_, _*_, _≤_, _<_}
 use native.Mathlib.Decide.{decLt}
 use native.Mathlib.Omega.{arith}
-use lib.ListN.{length, getD, set, List·getD-eq-default}
-use lib.Seq.{getD-set-same, getD-set-other, set-out}
-use Rattle.sets.specs.Sets.{member, Exactly}
-use Rattle.sets.specs.Calls.{Decides}
+use lib.ListN.{length, getD, set, length-set}
+use lib.Seq.{getD-set-same, getD-set-other}
+use Rattle.sets.specs.Sets.{Exactly}
 use Rattle.sets.specs.Words.{places}
 use Rattle.sets.proofs.Promise.{decides-true}
-use Rattle.points.specs.Points.{pointsAt, Same}
-use Rattle.answers.specs.Limits.{positionWords, pointWords}
+use Rattle.points.specs.Points.{Same}
+use Rattle.answers.specs.Limits.{positionWords, pointWords, byteValues}
 use Rattle.moves.specs.Tables.{readersOf, Next}
-use Rattle.states.specs.Searching.{Repeats}
+use Rattle.states.specs.Searching.{RunEnd, Runs}
 
-pub repeats-none : (readers : List ℕ) (alike : List Bool) → Repeats readers 1 (set alike 0 false)
-repeats-none readers alike = record { repeats = λ b low m. absurd (go b low m (decLt 0 (length alike))) }
-  where
-    go : (b : ℕ) → b < 1 → getD (set alike 0 false) b false ≡ true → Dec (0 < length alike) → ⊥
-    go b low m (yes inside) =
-        let first : b ≡ 0 = omega arith in
-        false≢true (sym (getD-set-same alike 0 false false inside) ∙ rw first at m)
-    go b low m (no past) =
-        false≢true (sym (List·getD-eq-default alike false (omega arith)) ∙ rw (set-out alike 0 false (omega arith)) at m)
+-- a byte by itself
+pub run-one : (readers : List ℕ) (b : ℕ) → b < byteValues → RunEnd readers b (b + 1)
+run-one readers b inside =
+    record {
+      above = omega arith;
+      within = omega arith;
+      same = λ c low high. let here : c ≡ b = omega arith in ap (readersOf readers) here;
+    }
 
-pub repeats-more : {readers : List ℕ} {n : ℕ} {alike : List Bool} (r : Bool) → 0 < n
-    → Repeats readers n alike
-    → Same readers (n * positionWords) readers ((n - 1) * positionWords) positionWords r
-    → Repeats readers (n + 1) (set alike n r)
+-- a byte with the readers of the next
+pub run-on : {readers : List ℕ} {b e : ℕ} (r : Bool)
+    → Same readers ((b + 1) * positionWords) readers (b * positionWords) positionWords r
+    → r ≡ true
+    → RunEnd readers (b + 1) e
+    → RunEnd readers b e
 unfolding readersOf
-repeats-more {readers} {n} {alike} r above h same =
-    record { repeats = λ b low m. go b low m (decLt b n) (decLt n (length alike)) }
+run-on {readers} {b} {e} r answer told run =
+    record {
+      above = omega (arith, run .above);
+      within = run .within;
+      same = λ c low high. go c low high (decLt b c);
+    }
   where
-    go : (b : ℕ) → b < n + 1 → getD (set alike n r) b false ≡ true → Dec (b < n) → Dec (n < length alike)
-        → (0 < b) × (readersOf readers b ≡ readersOf readers (b - 1))
-    go b low m (yes before) inside =
-        h .repeats b before (sym (getD-set-other alike n b r false (λ e. omega arith)) ∙ m)
-    go b low m (no last) (yes inside) =
-        let here : b ≡ n = omega arith in
-        let said : r ≡ true = sym (getD-set-same alike n r false inside) ∙ rw here at m in
-        (omega arith, rw here (decides-true (readersOf readers n ≡ readersOf readers (n - 1)) r same said))
-    go b low m (no last) (no past) =
-        absurd
-        (false≢true
-        (sym (List·getD-eq-default alike false (omega arith)) ∙ rw (set-out alike n r (omega arith)) at m))
+    next : readersOf readers (b + 1) ≡ readersOf readers b
+    next = decides-true (readersOf readers (b + 1) ≡ readersOf readers b) r answer told
+
+    go : (c : ℕ) → b ≤ c → c < e → Dec (b < c) → readersOf readers c ≡ readersOf readers b
+    go c low high (yes later) = run .same c (omega arith) high ∙ next
+    go c low high (no here) = let same : c ≡ b = omega arith in ap (readersOf readers) same
+
+pub runs-more : {readers : List ℕ} {b : ℕ} {ends : List ℕ} (e : ℕ) → b < byteValues
+    → Runs readers (b + 1) ends
+    → RunEnd readers b e
+    → Runs readers b (set ends b e)
+runs-more {readers} {b} {ends} e inside h run =
+    record {
+      long = length-set ends b e ∙ h .long;
+      run = λ c low high. go c low high (decLt b c);
+    }
+  where
+    go : (c : ℕ) → b ≤ c → c < byteValues → Dec (b < c) → RunEnd readers c (getD (set ends b e) c 0)
+    go c low high (yes later) = rw (getD-set-other ends b c e 0 (λ d. omega arith)) (h .run c (omega arith) high)
+    go c low high (no here) =
+        let same : c ≡ b = omega arith in
+        rw (same, getD-set-same ends b e 0 (omega (arith, h .long))) run
 
 -- by bytes with the same readers the same comes after
 pub next-repeats : (readers follow : List ℕ) (x b b′ : ℕ) → readersOf readers b ≡ readersOf readers b′

@@ -51,7 +51,9 @@ token-is = refl
 
 fits : only < 2 ^ places pointWords
 unfolding pointsAt wordsAt valueOf only
-fits = points-fit (1 ∷ 0 ∷ 0 ∷ 0 ∷ 1 ∷ []) 0 pointWords (more-words one (more-words nil (more-words nil (more-words nil (more-words one no-words)))))
+fits =
+    points-fit (1 ∷ 0 ∷ 0 ∷ 0 ∷ 1 ∷ []) 0 pointWords
+    (more-words one (more-words nil (more-words nil (more-words nil (more-words one no-words)))))
   where
     one : 1 < 2 ^ wordWidth
     one = omega arith

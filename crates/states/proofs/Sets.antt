@@ -123,4 +123,5 @@ first-set follow first unite =
     let none : pointsAt (replicate pointWords 0) 0 pointWords ≡ 0 =
     points-none (replicate pointWords 0) 0 pointWords .0
     (λ j inside. rw zero-add (getD-replicate {A = ℕ} pointWords j 0 0 inside)) in
-    unite-unites unite (omega (arith, length-replicate {A = ℕ} pointWords 0)) ∙ rw none (or-zero-l (pointsAt follow (mostPositions * pointWords) pointWords))
+    unite-unites unite (omega (arith, length-replicate {A = ℕ} pointWords 0))
+    ∙ rw none (or-zero-l (pointsAt follow (mostPositions * pointWords) pointWords))

@@ -7,20 +7,19 @@ use Prim.Native.Nat.{ℕ, _+_, _*_, _≤_, _<_}
 use native.Mathlib.Omega.{arith}
 use lib.ListN.{length, getD, getElem?}
 use Rattle.answers.specs.Answers.{done, refusal}
-use Rattle.answers.specs.Buffers.{over}
 use Rattle.answers.specs.Limits.{byteValues, mostStates, rowCells}
 use Rattle.answers.specs.Refusals.{served, states}
-use Rattle.numbering.specs.Numbering.{Automaton, Lawful, IsState, FoundAll, TooMany, Ending, whole, Reached}
-use Rattle.numbering.specs.Numbering.{ManyReached}
+use Rattle.numbering.specs.Numbering.{Automaton, Lawful, FoundAll, whole, Reached, ManyReached}
 use Rattle.numbering.specs.Numbering as numbering
 use Rattle.numbering.proofs.Promise as found
 use Rattle.states.specs.declared.MachineMade.{MachineMade}
 use Rattle.states.specs.Machine.{Moved, tables, noCell, cellOf, rowsOf}
 use Rattle.states.specs.Making.{madeOf, notMade, Made, too-many, no-room, made, MadeOutcome}
+use Rattle.states.proofs.Rows.{rows-next}
 -- the tables' machine has one start and by each byte one next state
 pub use Rattle.states.proofs.Turning.{tables-lawful}
 -- where the cells of rows stand
-pub use Rattle.states.proofs.Rows.{rows-length, rows-next, rows-token}
+pub use Rattle.states.proofs.Rows.{rows-length, rows-token}
 -- a state's token is the lowest pattern whose end it has, and none if it has none
 pub use Rattle.states.proofs.Ends.{end-lowest, end-none}
 

@@ -1,12 +1,11 @@
 -- The search of the tables' machine, cell by cell: nothing comes after, a state met before, a new state, or what came after by the
 -- byte before; where it begins, and where it ends.
 use mathlib.Core.Path.{_≡_, refl, sym, ap, _∙_}
-use mathlib.Core.Logic.{_≢_, _⊎_, inl, inr}
+use mathlib.Core.Logic.{_≢_, _↔_}
 use mathlib.Core.List.{List, [], _∷_, _++_}
 use mathlib.Core.Option.{Option, some, none, Option·some-injective}
 use Prim.Native.Nat.{ℕ, zero, suc, _+_, _-_, _*_, _≤_, _<_}
 use native.Mathlib.Numerals.{add-one}
-use native.Mathlib.Decide.{decLt}
 use native.Mathlib.Omega.{arith}
 use lib.Arith.{lt-of-le-ne}
 use lib.ListN.{length, getElem?, length-append}
@@ -18,7 +17,7 @@ use Rattle.numbering.specs.Numbering.{Lawful, IsState, Follows, Found, FoundAll
 use Rattle.numbering.proofs.Promise.{element, inside, found-nothing, found-begun, follows-at, turn-nothing, turn-met, turn-new}
 use Rattle.moves.specs.Tables.{readersOf, firstOf, setOf, Next}
 use Rattle.states.specs.Machine.{Started, Moved, tables, noCell}
-use Rattle.states.specs.Searching.{statesOf, setsRoom, Kept, Sought, Numbered, nothing, numbered, Target, Repeats, Searching, Begun, Turned, RowFound, Searched}
+use Rattle.states.specs.Searching.{statesOf, Kept, Numbered, nothing, numbered, Target, RunEnd, Searching, Begun}
 use Rattle.states.proofs.Sets.{states-length, state-at, states-alike}
 use Rattle.states.proofs.Bytes.{exactly-repeats}
 
@@ -38,6 +37,12 @@ module _ (readers follow : List ℕ) where
       {cells : List (Option ℕ)}
       (found : Found (tables readers follow) (statesOf sets n) cells)
       (turns : length cells ≡ i * byteValues + b) where
+    -- what follows in a cell of this row is where the row's state leads
+    cell-at : (t c y : ℕ) → t ≡ i * byteValues + c → c < byteValues
+        → Follows (tables readers follow) (statesOf sets n) t y ↔ Moved readers follow (setOf sets i) c y
+    cell-at t c y e inside =
+        follows-at {m = tables readers follow} (statesOf sets n) t i c (setOf sets i) y e inside (state-at sets n i row)
+
     room : length cells < byteValues * length (statesOf sets n)
     room = omega (arith, states-length sets n)
 
@@ -45,13 +50,12 @@ module _ (readers follow : List ℕ) where
     module _ (y : ℕ) (exact : Exactly (places pointWords) y (Next readers follow (setOf sets i) b)) where
       follows : y ≢ 0 → Follows (tables readers follow) (statesOf sets n) (length cells) y
       follows full =
-          follows-at {m = tables readers follow} (statesOf sets n) (length cells) i b (setOf sets i) y turns short (state-at sets n i row) .1
-          (record { exact = exact; nonempty = full })
+          cell-at (length cells) b y turns short .1 (record { exact = exact; nonempty = full })
 
       only : (z : ℕ) → Follows (tables readers follow) (statesOf sets n) (length cells) z → (z ≡ y) × (z ≢ 0)
       only z f =
           let moved : Moved readers follow (setOf sets i) b z =
-          follows-at {m = tables readers follow} (statesOf sets n) (length cells) i b (setOf sets i) z turns short (state-at sets n i row) .0 f in
+          cell-at (length cells) b z turns short .0 f in
           (exactly-unique z y (moved .exact) exact, moved .nonempty)
 
       pub turned-nothing : y ≡ 0 → Found (tables readers follow) (statesOf sets n) (cells ++ (none ∷ []))
@@ -80,17 +84,18 @@ module _ (readers follow : List ℕ) where
           → Follows (tables readers follow) (statesOf sets n) (length cells) y
       moved-now y f =
           let moved : Moved readers follow (setOf sets i) (b - 1) y =
-          follows-at {m = tables readers follow} (statesOf sets n) (length cells - 1) i (b - 1) (setOf sets i) y earlier (omega arith) (state-at sets n i row) .0 f in
-          follows-at {m = tables readers follow} (statesOf sets n) (length cells) i b (setOf sets i) y turns short (state-at sets n i row) .1
-          (record { exact = exactly-repeats readers follow (setOf sets i) (b - 1) b (sym repeats) (moved .exact); nonempty = moved .nonempty })
+          cell-at (length cells - 1) (b - 1) y earlier (omega arith) .0 f in
+          let exact = exactly-repeats readers follow (setOf sets i) (b - 1) b (sym repeats) (moved .exact) in
+          cell-at (length cells) b y turns short .1 (record { exact = exact; nonempty = moved .nonempty })
 
       moved-before : (y : ℕ) → Follows (tables readers follow) (statesOf sets n) (length cells) y
           → Follows (tables readers follow) (statesOf sets n) (length cells - 1) y
       moved-before y f =
           let moved : Moved readers follow (setOf sets i) b y =
-          follows-at {m = tables readers follow} (statesOf sets n) (length cells) i b (setOf sets i) y turns short (state-at sets n i row) .0 f in
-          follows-at {m = tables readers follow} (statesOf sets n) (length cells - 1) i (b - 1) (setOf sets i) y earlier (omega arith) (state-at sets n i row) .1
-          (record { exact = exactly-repeats readers follow (setOf sets i) b (b - 1) repeats (moved .exact); nonempty = moved .nonempty })
+          cell-at (length cells) b y turns short .0 f in
+          let exact = exactly-repeats readers follow (setOf sets i) b (b - 1) repeats (moved .exact) in
+          cell-at (length cells - 1) (b - 1) y earlier (omega arith) .1
+          (record { exact = exact; nonempty = moved .nonempty })
 
       pub turned-again : (v : Option ℕ) × Found (tables readers follow) (statesOf sets n) (cells ++ (v ∷ []))
       turned-again = go (element cells (length cells - 1) (omega arith))
@@ -132,7 +137,8 @@ module _ (readers follow sets : List ℕ) (n i b : ℕ) (short : b < byteValues)
           go {r′} e (numbered full sought) =
               let lower : r′ < n = lt-of-le-ne (sought .within) (λ d. old (sym e ∙ d)) in
               longer (s .cells) (some r′) sets n (s .turns)
-              (turned-met readers follow sets n i b short row (s .found) (s .turns) (setOf next 0) (t .exact) r′ full lower (sought .there lower))
+              (turned-met readers follow sets n i b short row (s .found) (s .turns) (setOf next 0) (t .exact) r′ full lower
+              (sought .there lower))
               refl
 
       -- or it is new
@@ -153,6 +159,32 @@ module _ (readers follow sets : List ℕ) (n i b : ℕ) (short : b < byteValues)
               (turned-new readers follow sets n i b short row (s .found) (s .turns) (setOf next 0) (t .exact) full
               (λ j lower. sought .before j (omega arith)))
               states
+
+-- and up to the end of a byte's run
+module _ (readers follow sets : List ℕ) (n i b e : ℕ) (row : i < n) (run : RunEnd readers b e) where
+  run-step : (k : ℕ) → b + 1 + k < e → Searching readers follow sets n (i * byteValues + (b + 1 + k))
+      → Searching readers follow sets n (i * byteValues + (b + 1 + suc k))
+  run-step k inside s =
+      let c = b + 1 + k in
+      let repeats : readersOf readers c ≡ readersOf readers (c - 1) =
+      run .same c (omega arith) inside ∙ sym (run .same (c - 1) (omega arith) (omega arith)) in
+      let next : Searching readers follow sets n (i * byteValues + c + 1) =
+      search-again readers follow sets n i c (omega (arith, run .within)) row s (omega arith, repeats) in
+      let same : i * byteValues + c + 1 ≡ i * byteValues + (b + 1 + suc k) = omega arith in
+      rw same at next
+
+  run-all : (k : ℕ) → b + 1 + k ≤ e → Searching readers follow sets n (i * byteValues + b + 1)
+      → Searching readers follow sets n (i * byteValues + (b + 1 + k))
+  run-all zero inside s =
+      let same : i * byteValues + b + 1 ≡ i * byteValues + (b + 1 + 0) = omega arith in
+      rw same at s
+  run-all (suc k) inside s = run-step k (omega arith) (run-all k (omega arith) s)
+
+  pub search-run : Searching readers follow sets n (i * byteValues + b + 1)
+      → Searching readers follow sets n (i * byteValues + e)
+  search-run s =
+      let all : b + 1 + (e - (b + 1)) ≡ e = omega (arith, run .above) in
+      rw all at (run-all (e - (b + 1)) (omega (arith, run .above)) s)
 
 -- where the search begins: nowhere, or with what can come first
 pub search-begun : (readers follow : List ℕ) {before after : List ℕ} (r : ℕ) → Begun follow before after r

@@ -43,7 +43,9 @@ module _ (readers follow sets : List ℕ) (n : ℕ) {cells : List (Option ℕ)}
       (exact : Exactly (places pointWords) y (Next readers follow (setOf sets i) b)) where
     -- what a cell holds is what was found for it
     named : (r : ℕ) → y ≢ 0 → Sought sets n y r → getElem? cells (i * byteValues + b) ≡ some (some r)
-    named r full sought = go (moves-cell (tables-lawful readers follow) all i b (setOf sets i) y short (state i row) (record { exact = exact; nonempty = full }))
+    named r full sought =
+        let moved : Moved readers follow (setOf sets i) b y = record { exact = exact; nonempty = full } in
+        go (moves-cell (tables-lawful readers follow) all i b (setOf sets i) y short (state i row) moved)
       where
         go : (j : ℕ) × (getElem? cells (i * byteValues + b) ≡ some (some j)) × IsState (tables readers follow) (statesOf sets n) j y
             → getElem? cells (i * byteValues + b) ≡ some (some r)
@@ -76,23 +78,25 @@ module _ (readers follow sets : List ℕ) (n : ℕ) {cells : List (Option ℕ)}
     laid : (k : ℕ) → k < n * rowCells → getD after k 0 ≡ getD (rowsOf (statesOf sets n) cells) k 0
     laid k below = go (decLt (k % rowCells) byteValues)
       where
-        place : k ≡ k / rowCells * rowCells + k % rowCells
-        place = omega arith
+        here : k ≡ k / rowCells * rowCells + k % rowCells
+        here = omega arith
 
         go : Dec (k % rowCells < byteValues) → getD after k 0 ≡ getD (rowsOf (statesOf sets n) cells) k 0
         go (yes short) =
-            let cell : Cell readers follow sets n (k / rowCells) (k % rowCells) (getD after (k / rowCells * rowCells + k % rowCells) 0) =
+            let place = k / rowCells * rowCells + k % rowCells in
+            let cell : Cell readers follow sets n (k / rowCells) (k % rowCells) (getD after place 0) =
             filled .next (k / rowCells) (k % rowCells) short (omega arith) in
-            let right = cell-right (k / rowCells) (k % rowCells) (omega arith) short (cell .points) (cell .exact) (getD after (k / rowCells * rowCells + k % rowCells) 0) (cell .number) in
-            sym (rw (← place) at right)
+            let right : getD (rowsOf (statesOf sets n) cells) place 0 ≡ getD after place 0 =
+            cell-right (k / rowCells) (k % rowCells) (omega arith) short (cell .points) (cell .exact) (getD after place 0) (cell .number) in
+            sym (rw (← here) at right)
         go (no last) =
-            let end : k ≡ k / rowCells * rowCells + byteValues = omega arith in
+            let end = k / rowCells * rowCells + byteValues in
+            let is : k ≡ end = omega arith in
             let row : k / rowCells < n = omega arith in
-            let token : getD after (k / rowCells * rowCells + byteValues) 0 ≡ tokenOf (setOf sets (k / rowCells)) =
-            filled .token (k / rowCells) (omega arith) in
-            let right : getD (rowsOf (statesOf sets n) cells) (k / rowCells * rowCells + byteValues) 0 ≡ tokenOf (setOf sets (k / rowCells)) =
+            let token : getD after end 0 ≡ tokenOf (setOf sets (k / rowCells)) = filled .token (k / rowCells) (omega arith) in
+            let right : getD (rowsOf (statesOf sets n) cells) end 0 ≡ tokenOf (setOf sets (k / rowCells)) =
             rows-token (statesOf sets n) cells (k / rowCells) (setOf sets (k / rowCells)) long (state-at sets n (k / rowCells) row) in
-            rw (← end) at (token ∙ sym right)
+            rw (← is) at (token ∙ sym right)
 
     pub filled-rows : after ≡ over (rowsOf (statesOf sets n) cells) before
     filled-rows = ext-getD 0 after (over (rowsOf (statesOf sets n) cells) before) same-length (λ k within. go k (decLt k (n * rowCells)))

@@ -22,13 +22,19 @@ pub record Cell (readers follow sets : List ℕ) (n i b r : ℕ) : Type 0 where
   pub exact : Exactly (places pointWords) points (Next readers follow (setOf sets i) b)
   pub number : Numbered sets n points r
 
+-- the cells from one place up to another hold a value, and the others stay
+pub record Spread (before : List ℕ) (from to value : ℕ) (after : List ℕ) : Type 0 where
+  pub long : length after ≡ length before
+  pub there : (k : ℕ) → from ≤ k → k < to → getD after k 0 ≡ value
+  pub before-it : (k : ℕ) → k < from → getD after k 0 ≡ getD before k 0
+  pub behind-it : (k : ℕ) → to ≤ k → getD after k 0 ≡ getD before k 0
+
 -- the first t cells are right, and the others as they were
 pub record Filled (readers follow sets : List ℕ) (n : ℕ) (before : List ℕ) (t : ℕ) (after : List ℕ) : Type 0 where
   pub long : length after ≡ length before
   pub next : (i b : ℕ) → b < byteValues → i * rowCells + b < t
       → Cell readers follow sets n i b (getD after (i * rowCells + b) 0)
-  pub token : (i : ℕ)
-      → i * rowCells + byteValues < t
+  pub token : (i : ℕ) → i * rowCells + byteValues < t
       → getD after (i * rowCells + byteValues) 0 ≡ tokenOf (setOf sets i)
   pub rest : (k : ℕ) → t ≤ k → getD after k 0 ≡ getD before k 0
 

@@ -1,5 +1,5 @@
--- The machine that two tables make: which sets of points are its states, and the 16-bit cells of their rows. Document
--- 02, W3 ("numbered as found").
+-- The machine that two tables make: which sets of points are its states, and the 16-bit cells of their rows.
+-- Document 02, W3 ("numbered as found").
 use mathlib.Core.Path.{_≡_}
 use mathlib.Core.Bool.{cond}
 use mathlib.Core.Logic.{_≢_}

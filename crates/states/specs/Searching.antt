@@ -1,7 +1,6 @@
--- The search for the states: sets that are kept one behind the other, and what each function of the search comes to.
--- Working definitions, which no public contract cites.
+-- The search for the states: sets kept one behind the other, and what each function of the search comes to. Working
+-- definitions, which no public contract cites.
 use mathlib.Core.Path.{_≡_}
-use mathlib.Core.Bool.{Bool, true, false}
 use mathlib.Core.Logic.{_≢_}
 use mathlib.Core.List.{List, [], _∷_, _++_}
 use mathlib.Core.Option.{Option}
@@ -46,13 +45,16 @@ pub record Target (readers follow sets : List ℕ) (n i b : ℕ) (next : List �
   pub exact : Exactly (places pointWords) (setOf next 0) (Next readers follow (setOf sets i) b)
   pub number : Numbered sets n (setOf next 0) r
 
--- where it is so said, byte b has the readers of the byte before
-abbrev pub Again : List ℕ → ℕ → Bool → Type 0
-Again readers b again = again ≡ true → (0 < b) × (readersOf readers b ≡ readersOf readers (b - 1))
+-- the bytes from b up to e have the same readers
+pub record RunEnd (readers : List ℕ) (b e : ℕ) : Type 0 where
+  pub above : b < e
+  pub within : e ≤ byteValues
+  pub same : (c : ℕ) → b ≤ c → c < e → readersOf readers c ≡ readersOf readers b
 
--- of each byte below n it is said whether
-pub record Repeats (readers : List ℕ) (n : ℕ) (alike : List Bool) : Type 0 where
-  pub repeats : (b : ℕ) → b < n → Again readers b (getD alike b false)
+-- of each byte from n on it is known up to where that is so
+pub record Runs (readers : List ℕ) (n : ℕ) (ends : List ℕ) : Type 0 where
+  pub long : length ends ≡ byteValues
+  pub run : (b : ℕ) → n ≤ b → b < byteValues → RunEnd readers b (getD ends b 0)
 
 -- n states were found in t cells
 pub record Searching (readers follow sets : List ℕ) (n t : ℕ) : Type 0 where

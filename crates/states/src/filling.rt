@@ -2,11 +2,11 @@
 ghost use Prim.Native.Nat.{_+_, _-_, _*_, _^_, _≤_, _<_};
 ghost use lib.ListN.{length};
 ghost use mathlib.Core.Path.{_≡_};
-ghost use Rattle.answers.specs.Limits.{pointWords, byteValues, mostStates, rowCells};
+ghost use Rattle.answers.specs.Limits.{pointWords, mostStates, rowCells};
 ghost use Rattle.moves.specs.Tables.{setOf};
 ghost use Rattle.states.specs.Machine.{tokenOf};
-ghost use Rattle.states.specs.Searching.{setsRoom, Again, Repeats};
-ghost use Rattle.states.specs.Filling.{endCell, Cell, Filled, RowFilled};
+ghost use Rattle.states.specs.Searching.{setsRoom, Runs};
+ghost use Rattle.states.specs.Filling.{endCell, Cell, Spread, Filled, RowFilled};
 use crate::NO_CELL;
 use crate::seeking::target;
 use answers::limits::BYTE_VALUES;
@@ -46,63 +46,56 @@ fn token(sets: &[u64], state: usize) -> u16
     NO_CELL
 }
 
-// What a byte's cell holds; `again`: the byte has the readers of the byte before, whose cell holds `last`.
-fn cell(
-    sets: &[u64],
-    count: usize,
-    state: u16,
-    readers: &[u64],
-    byte: u8,
-    again: bool,
-    follow: &[u64],
-    last: u16,
-) -> u16
-    requires { ⌜ (count * pointWords ≤ length (now sets)) × (count < 2 ^ 16) × Again (now readers) byte again
-        × (0 < byte → Cell (now readers) (now follow) (now sets) count state (byte - 1) last) ⌝ }
+// What a byte's cell holds.
+fn cell(sets: &[u64], count: usize, state: u16, readers: &[u64], byte: u8, follow: &[u64]) -> u16
+    requires { ⌜ (count * pointWords ≤ length (now sets)) × (count < 2 ^ 16) ⌝ }
     ensures { λ r. ⌜ Cell (now (readers .entry)) (now (follow .entry)) (now (sets .entry)) count state byte r ⌝ }
 {
-    if again {
-        return last;
-    }
     let mut next = [0u64; POINT_WORDS];
     target(&mut next, sets, count, state, readers, byte, follow)
 }
 
-// The row of one state: its bytes, then its token.
+// The cells from one place up to another.
+fn spread(machine: &mut [u16], from: usize, to: usize, value: u16)
+    requires { ⌜ (from ≤ to) × (to ≤ length (now machine)) ⌝ }
+    ensures { λ r. ⌜ Spread (now (machine .entry)) from to value (now (machine .exit)) ⌝ }
+{
+    let mut place = from;
+    while place < to {
+        machine[place] = value;
+        place += 1;
+    }
+}
+
+// The row of one state: its bytes, of which those with the same readers have the same cell, then its token.
 fn fill_row(
     machine: &mut [u16],
     sets: &[u64],
     count: usize,
     state: usize,
     readers: &[u64],
-    alike: &[bool; BYTE_VALUES],
+    ends: &[u16; BYTE_VALUES],
     follow: &[u64],
 )
     requires { ⌜ (length (now sets) ≡ setsRoom) × (count ≤ mostStates) × (state < count)
-        × (count * rowCells ≤ length (now machine)) × Repeats (now readers) byteValues (now alike) ⌝ }
+        × (count * rowCells ≤ length (now machine)) × Runs (now readers) 0 (now ends) ⌝ }
     ensures { λ r. ⌜ RowFilled (now (readers .entry)) (now (follow .entry)) (now (sets .entry)) count state
         (now (machine .entry)) (now (machine .exit)) ⌝ }
 {
     let at = state * ROW_CELLS;
-    let mut last = NO_CELL;
     let mut byte = 0;
     while byte < BYTE_VALUES {
-        last = cell(
-            sets,
-            count,
-            state as u16,
-            readers,
-            byte as u8,
-            alike[byte],
-            follow,
-            last,
+        let end = ends[byte] as usize;
+        spread(
+            machine,
+            at + byte,
+            at + end,
+            cell(sets, count, state as u16, readers, byte as u8, follow),
         );
-        let place = at + byte;
-        machine[place] = last;
-        byte += 1;
+        byte = end;
     }
-    let end = at + BYTE_VALUES;
-    machine[end] = token(sets, state);
+    let last = at + BYTE_VALUES;
+    machine[last] = token(sets, state);
 }
 
 // The rows of all states.
@@ -111,17 +104,17 @@ pub(crate) fn fill(
     sets: &[u64],
     count: usize,
     readers: &[u64],
-    alike: &[bool; BYTE_VALUES],
+    ends: &[u16; BYTE_VALUES],
     follow: &[u64],
 )
     requires { ⌜ (length (now sets) ≡ setsRoom) × (count ≤ mostStates)
-        × (count * rowCells ≤ length (now machine)) × Repeats (now readers) byteValues (now alike) ⌝ }
+        × (count * rowCells ≤ length (now machine)) × Runs (now readers) 0 (now ends) ⌝ }
     ensures { λ r. ⌜ Filled (now (readers .entry)) (now (follow .entry)) (now (sets .entry)) count
         (now (machine .entry)) (count * rowCells) (now (machine .exit)) ⌝ }
 {
     let mut state = 0;
     while state < count {
-        fill_row(machine, sets, count, state, readers, alike, follow);
+        fill_row(machine, sets, count, state, readers, ends, follow);
         state += 1;
     }
 }

@@ -3,7 +3,7 @@ ghost use Prim.Native.Nat.{_+_, _*_, _≤_, _<_};
 ghost use lib.ListN.{length};
 ghost use mathlib.Core.Path.{_≡_};
 ghost use Rattle.answers.specs.Limits.{byteValues, mostStates};
-ghost use Rattle.states.specs.Searching.{setsRoom, Again, Repeats, Searching, Begun, Turned, RowFound, Searched};
+ghost use Rattle.states.specs.Searching.{setsRoom, RunEnd, Runs, Searching, Begun, Turned, RowFound, Searched};
 use crate::seeking::keep;
 use crate::seeking::target;
 use answers::limits::BYTE_VALUES;
@@ -15,21 +15,36 @@ use points::none;
 use points::same;
 use points::unite;
 
-// Which bytes have the readers of the byte before.
-pub(crate) fn compare(alike: &mut [bool; BYTE_VALUES], readers: &[u64])
-    ensures { λ r. ⌜ Repeats (now (readers .entry)) byteValues (now (alike .exit)) ⌝ }
+// Up to where the bytes have the readers of this one, known of the bytes above.
+fn run_end(ends: &[u16; BYTE_VALUES], readers: &[u64], byte: usize) -> u16
+    requires { ⌜ (byte < byteValues) × Runs (now readers) (byte + 1) (now ends) ⌝ }
+    ensures { λ r. ⌜ RunEnd (now (readers .entry)) byte r ⌝ }
 {
-    alike[0] = false;
-    let mut byte = 1;
-    while byte < BYTE_VALUES {
-        alike[byte] = same(
+    let next = byte + 1;
+    if next < BYTE_VALUES {
+        if same(
+            readers,
+            next * POSITION_WORDS,
             readers,
             byte * POSITION_WORDS,
-            readers,
-            (byte - 1) * POSITION_WORDS,
             POSITION_WORDS,
-        );
-        byte += 1;
+        ) {
+            return ends[next];
+        }
+    }
+    next as u16
+}
+
+// The same of each byte.
+pub(crate) fn runs(ends: &mut [u16; BYTE_VALUES], readers: &[u64])
+    requires { ⌜ length (now ends) ≡ byteValues ⌝ }
+    ensures { λ r. ⌜ Runs (now (readers .entry)) 0 (now (ends .exit)) ⌝ }
+{
+    let mut byte = BYTE_VALUES;
+    while 0 < byte {
+        byte -= 1;
+        let end = run_end(ends, readers, byte);
+        ends[byte] = end;
     }
 }
 
@@ -53,27 +68,20 @@ fn begin(sets: &mut [u64], follow: &[u64]) -> usize
     1
 }
 
-// One cell of a state's row: how many states there are then. `again`: the byte has the readers of the byte before.
+// One cell of a state's row: how many states there are then.
 fn turn(
     sets: &mut [u64],
     count: usize,
     state: u16,
     readers: &[u64],
     byte: u8,
-    again: bool,
     follow: &[u64],
 ) -> usize
-    requires { ⌜ (length (now sets) ≡ setsRoom)
-        × (count ≤ mostStates)
-        × (state < count)
-        × Again (now readers) byte again
+    requires { ⌜ (length (now sets) ≡ setsRoom) × (count ≤ mostStates) × (state < count)
         × Searching (now readers) (now follow) (now sets) count (state * byteValues + byte) ⌝ }
     ensures { λ r. ⌜ Turned (now (readers .entry)) (now (follow .entry)) (now (sets .entry)) count
         (state * byteValues + byte + 1) (now (sets .exit)) r ⌝ }
 {
-    if again {
-        return count;
-    }
     let mut next = [0u64; POINT_WORDS];
     if target(&mut next, sets, count, state, readers, byte, follow) as usize == count {
         keep(sets, count, &next);
@@ -82,42 +90,26 @@ fn turn(
     count
 }
 
-// The row of a state, as far as there are not too many.
+// The row of a state, as far as there are not too many: bytes with the same readers have the same next state.
 fn find_row(
     sets: &mut [u64],
     count: usize,
     state: usize,
     readers: &[u64],
-    alike: &[bool; BYTE_VALUES],
+    ends: &[u16; BYTE_VALUES],
     follow: &[u64],
 ) -> usize
-    requires { ⌜ (length (now sets) ≡ setsRoom)
-        × (count ≤ mostStates)
-        × (state < count)
-        × Repeats (now readers) byteValues (now alike)
+    requires { ⌜ (length (now sets) ≡ setsRoom) × (count ≤ mostStates) × (state < count)
+        × Runs (now readers) 0 (now ends)
         × Searching (now readers) (now follow) (now sets) count (state * byteValues) ⌝ }
-    ensures { λ r. ⌜ RowFound
-        (now (readers .entry))
-        (now (follow .entry))
-        (now (sets .entry))
-        count
-        state
-        (now (sets .exit))
-        r ⌝ }
+    ensures { λ r. ⌜ RowFound (now (readers .entry)) (now (follow .entry)) (now (sets .entry)) count state
+        (now (sets .exit)) r ⌝ }
 {
     let mut found = count;
     let mut byte = 0;
     while byte < BYTE_VALUES && found <= MOST_STATES {
-        found = turn(
-            sets,
-            found,
-            state as u16,
-            readers,
-            byte as u8,
-            alike[byte],
-            follow,
-        );
-        byte += 1;
+        found = turn(sets, found, state as u16, readers, byte as u8, follow);
+        byte = ends[byte] as usize;
     }
     found
 }
@@ -126,16 +118,16 @@ fn find_row(
 pub(crate) fn find(
     sets: &mut [u64],
     readers: &[u64],
-    alike: &[bool; BYTE_VALUES],
+    ends: &[u16; BYTE_VALUES],
     follow: &[u64],
 ) -> usize
-    requires { ⌜ (length (now sets) ≡ setsRoom) × Repeats (now readers) byteValues (now alike) ⌝ }
+    requires { ⌜ (length (now sets) ≡ setsRoom) × Runs (now readers) 0 (now ends) ⌝ }
     ensures { λ r. ⌜ Searched (now (readers .entry)) (now (follow .entry)) (now (sets .exit)) r ⌝ }
 {
     let mut found = begin(sets, follow);
     let mut state = 0;
     while state < found && found <= MOST_STATES {
-        found = find_row(sets, found, state, readers, alike, follow);
+        found = find_row(sets, found, state, readers, ends, follow);
         state += 1;
     }
     found

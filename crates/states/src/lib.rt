@@ -2,8 +2,8 @@
 ghost use mathlib.Core.Path.{_≡_};
 ghost use Rattle.states.specs.Making as making;
 use crate::filling::fill;
-use crate::finding::compare;
 use crate::finding::find;
+use crate::finding::runs;
 use answers::Answer;
 use answers::done;
 use answers::limits::BYTE_VALUES;
@@ -51,17 +51,13 @@ fn made_of(count: u64) -> MachineMade
 
 // The states are counted before the first cell is written.
 pub fn make(readers: &[u64], follow: &[u64], machine: &mut [u16]) -> MachineMade
-    ensures { λ r. ⌜ making.MadeOutcome
-        (now (readers .entry))
-        (now (follow .entry))
-        (now (machine .entry))
-        r
+    ensures { λ r. ⌜ making.MadeOutcome (now (readers .entry)) (now (follow .entry)) (now (machine .entry)) r
         (now (machine .exit)) ⌝ }
 {
-    let mut alike = [false; BYTE_VALUES];
-    compare(&mut alike, readers);
+    let mut ends = [0u16; BYTE_VALUES];
+    runs(&mut ends, readers);
     let mut sets = [0u64; SETS];
-    let count = find(&mut sets, readers, &alike, follow);
+    let count = find(&mut sets, readers, &ends, follow);
     if MOST_STATES < count {
         return not_made(STATES, MOST_STATES as u64, 0);
     }
@@ -69,6 +65,6 @@ pub fn make(readers: &[u64], follow: &[u64], machine: &mut [u16]) -> MachineMade
     if machine.len() < cells {
         return not_made(ROOM, cells as u64, MACHINE_ROOM);
     }
-    fill(machine, &sets, count, readers, &alike, follow);
+    fill(machine, &sets, count, readers, &ends, follow);
     made_of(count as u64)
 }

@@ -68,15 +68,8 @@ pub(crate) fn target(
     follow: &[u64],
 ) -> u16
     requires { ⌜ (count * pointWords ≤ length (now sets)) × (count < 2 ^ 16) ⌝ }
-    ensures { λ r. ⌜ Target
-        (now (readers .entry))
-        (now (follow .entry))
-        (now (sets .entry))
-        count
-        state
-        byte
-        (now (next .exit))
-        r ⌝ }
+    ensures { λ r. ⌜ Target (now (readers .entry)) (now (follow .entry)) (now (sets .entry)) count state byte
+        (now (next .exit)) r ⌝ }
 {
     after(next, sets, state, readers, byte, follow);
     if none(next, 0, POINT_WORDS) {

@@ -70,7 +70,8 @@ loop-again c =
     rw (shifted-one wordWidth place (short found)) (
       omega (arith, loop .inv .0),
       λ k m. loop .inv .1 k (without-keeps (loop .rest) place (there found) k m),
-      led-more (args .base) (args .word) (args .follow .now) (loop .rest) place (loop .inv .1) (there found) (loop .inv .2) (c .unite .ensures),
+      led-more (args .base) (args .word) (args .follow .now) (loop .rest) place (loop .inv .1) (there found) (loop .inv .2)
+          (c .unite .ensures),
     )
 
 returns : tie.Need-returns Inv-loop μ-loop

@@ -6,14 +6,14 @@ use Rattle.states.proofs.Whole.{make-too-many, make-no-room, make-whole
 use Rattle.states.proofs.make.Statement.{statement}
 use Rattle.states.proofs.make.Tie as tie
 
-compare-requires : tie.Need-compare-requires
-compare-requires c κs = search needs
+runs-requires : tie.Need-runs-requires
+runs-requires c κs = refl
 
 slice-aggregate-find : tie.Need-slice-aggregate-find
 slice-aggregate-find c = search needs
 
 find-requires : tie.Need-find-requires
-find-requires c κs = (refl, c .before .before .compare .ensures)
+find-requires c κs = (refl, c .before .before .runs .ensures)
 
 not-made-requires : tie.Need-not-made-requires
 not-made-requires c κs = search needs
@@ -43,7 +43,7 @@ fill-requires : tie.Need-fill-requires
 fill-requires c κs =
     let compared = c .before .before .before .before .before .before .before .before .before in
     let found = c .before .before .before .before .before .before in
-    (found .find .kept .0, c .before .before .before .before .if1 .left, c .before .before .before .if2 .left, compared .compare .ensures)
+    (found .find .kept .0, c .before .before .before .before .if1 .left, c .before .before .before .if2 .left, compared .runs .ensures)
 
 made-of-requires : tie.Need-made-of-requires
 made-of-requires c κs = search needs
@@ -64,7 +64,7 @@ pub make-spec : {M : Type 1} → statement M
 make-spec =
     tie.close
     (tie.spec
-    compare-requires
+    runs-requires
     slice-aggregate-find
     find-requires
     not-made-requires

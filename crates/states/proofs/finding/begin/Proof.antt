@@ -59,7 +59,9 @@ returns-2 c =
       few = omega arith;
       empty = λ e. absurd (omega arith);
       first = λ above. (
-        λ e. decides-false (no-first (left .before)) (left .before .none .result) (left .before .none .ensures) (left .if1 .left) (first ∙ e),
+        λ e.
+            decides-false (no-first (left .before)) (left .before .none .result) (left .before .none .ensures) (left .if1 .left)
+            (first ∙ e),
         kept .there ∙ first,
       );
     }

@@ -1,23 +1,24 @@
 -- `states::finding::find_row` meets its contract. The loop's invariant: what was found in the cells gone through.
 use borrow.Author.Needs.{needs}
 use borrow.Author.Tests.{leb-true, leb-false}
-use native.Mathlib.Nat.{add-zero, add-assoc}
 use mathlib.Core.Path.{_≡_, refl, _∙_}
 use Prim.Native.Nat.{suc, _+_, _-_, _*_, _≤_}
+use native.Mathlib.Nat.{add-zero}
 use native.Mathlib.Omega.{arith}
-use lib.ListN.{length}
+use lib.ListN.{length, getD}
 use Rattle.answers.specs.Limits.{byteValues, mostStates}
-use Rattle.states.specs.Searching.{Searching}
+use Rattle.states.specs.Searching.{RunEnd, Searching}
+use Rattle.states.proofs.Turning.{search-run}
 use Rattle.states.proofs.finding.find_row.Statement.{statement}
 use Rattle.states.proofs.finding.find_row.Tie as tie
 
 abbrev Inv-loop : tie.InvT-loop
-Inv-loop sets₀ count state readers alike follow found₀ byte₀ sets found byte =
+Inv-loop sets₀ count state readers ends follow found₀ byte₀ sets found byte =
     (byte ≤ byteValues) × (length sets ≡ length sets₀) × (count ≤ found) × (found ≤ suc mostStates)
     × Searching readers follow sets found (state * byteValues + byte)
 
 abbrev μ-loop : tie.MeasureT-loop
-μ-loop sets₀ count state readers alike follow found₀ byte₀ sets found byte = byteValues - byte
+μ-loop sets₀ count state readers ends follow found₀ byte₀ sets found byte = byteValues - byte
 
 loop-holds : tie.Need-loop-holds Inv-loop μ-loop
 loop-holds c =
@@ -25,40 +26,63 @@ loop-holds c =
     (omega arith, refl, omega arith, omega (arith, start .pre .1), simp add-zero (start .pre .4))
 
 cast-turn : tie.Need-cast-turn Inv-loop μ-loop
-cast-turn c = search needs
+cast-turn c =
+    let start = c .before .before .before .before .before .before .before in
+    omega (arith, start .pre .1, start .pre .2)
 
 cast-turn-2 : tie.Need-cast-turn-2 Inv-loop μ-loop
-cast-turn-2 c = search needs
-
-element-copy-out-turn : tie.Need-element-copy-out-turn Inv-loop μ-loop
-element-copy-out-turn c = search needs
+cast-turn-2 c = omega arith
 
 turn-requires : tie.Need-turn-requires Inv-loop μ-loop
 turn-requires c κs =
-    let turn = c .before .before .before .before in
+    let turn = c .before .before .before in
     let start = turn .before .before .before .before in (
       turn .loop .inv .1 ∙ start .pre .0,
-      leb-true _ _ (c .before .before .if1 .taken),
+      leb-true _ _ (c .before .if1 .taken),
       omega (arith, start .pre .2, turn .loop .inv .2),
-      start .pre .3 .repeats (turn .loop .byte) (c .before .before .before .loop-test .taken),
       turn .loop .inv .4,
     )
 
-add-byte : tie.Need-add-byte Inv-loop μ-loop
-add-byte c = search needs
+mul-byte : tie.Need-mul-byte Inv-loop μ-loop
+mul-byte c = search needs
+
+element-copy-out-byte : tie.Need-element-copy-out-byte Inv-loop μ-loop
+element-copy-out-byte c = omega arith
+
+-- the run of the byte
+run : (c : tie.After-byte Inv-loop μ-loop)
+    → RunEnd (c .before .before .before .before .before .before .before .before .before .before .before .args .readers .now)
+    (c .before .before .before .before .before .before .before .loop .byte)
+    (getD (c .before .before .before .before .before .before .before .before .before .before .before .args .ends .now)
+    (c .before .before .before .before .before .before .before .loop .byte) 0)
+run c =
+    let turn = c .before .before .before .before .before .before .before in
+    turn .before .before .before .before .pre .3 .run (turn .loop .byte) (omega arith)
+    (c .before .before .before .before .before .before .loop-test .taken)
+
+cast-byte : tie.Need-cast-byte Inv-loop μ-loop
+cast-byte c = omega (arith, run c .within)
 
 loop-less : tie.Need-loop-less Inv-loop μ-loop
-loop-less c = omega arith
+loop-less c =
+    let turn = c .before .before .before .before .before .before .before in
+    omega (arith, run c .above, run c .within)
 
 loop-again : tie.Need-loop-again Inv-loop μ-loop
 loop-again c =
-    let turned = c .before .before .turn .ensures in
-    let turn = c .before .before .before .before .before .before .before in (
-      omega arith,
+    let turned = c .before .before .before .turn .ensures in
+    let turn = c .before .before .before .before .before .before .before in
+    let start = turn .before .before .before .before in
+    let args = start .args in
+    let few = leb-true (turn .loop .found) mostStates (c .before .before .before .before .before .if1 .taken) in (
+      run c .within,
       turned .long ∙ turn .loop .inv .1,
       omega (arith, turned .more, turn .loop .inv .2),
-      omega (arith, turned .few, leb-true (turn .loop .found) mostStates (c .before .before .before .before .before .if1 .taken)),
-      simp add-assoc at (turned .searching),
+      omega (arith, turned .few, few),
+      search-run (args .readers .now) (args .follow .now) (c .before .before .before .turn .last .0)
+          (c .before .before .before .turn .result) (args .state) (turn .loop .byte)
+          (getD (args .ends .now) (turn .loop .byte) 0)
+          (omega (arith, turned .more, turn .loop .inv .2, start .pre .2)) (run c) (turned .searching),
     )
 
 same-length : tie.Need-same-length Inv-loop μ-loop
@@ -101,9 +125,10 @@ find-row-spec =
     loop-holds
     cast-turn
     cast-turn-2
-    element-copy-out-turn
     turn-requires
-    add-byte
+    mul-byte
+    element-copy-out-byte
+    cast-byte
     loop-less
     loop-again
     same-length

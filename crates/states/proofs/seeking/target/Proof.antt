@@ -32,17 +32,19 @@ returns : tie.Need-returns
 unfolding setOf
 returns c =
     let after = c .before .before .before .before .after .ensures in
-    record { words = after .words; exact = after .exact; number = nothing (decides-true (empty (c .before)) (c .before .none .result) (c .before .none .ensures) (c .if1 .taken)) }
+    let none = decides-true (empty (c .before)) (c .before .none .result) (c .before .none .ensures) (c .if1 .taken) in
+    record { words = after .words; exact = after .exact; number = nothing none }
 
 returns-2 : tie.Need-returns-2
 unfolding setOf
 returns-2 c =
     let none = c .before .before .before in
     let after = none .before .before .before .after .ensures in
+    let full = decides-false (empty none) (none .none .result) (none .none .ensures) (c .before .before .if1 .left) in
     record {
       words = after .words;
       exact = after .exact;
-      number = numbered (decides-false (empty none) (none .none .result) (none .none .ensures) (c .before .before .if1 .left)) (c .seek .ensures);
+      number = numbered full (c .seek .ensures);
     }
 
 pub target-spec : {M : Type 1} → statement M
