@@ -1,3 +1,9 @@
+use crate::comparing::judged_alike;
+use crate::comparing::offers_alike;
+use answers::refusals::DONE;
+use answers::refusals::ROOM;
+use answers::refusals::SYNTAX;
+use book::judging::judge;
 use expand::expand;
 use libc::STDOUT_FILENO;
 use reader::fields::byte_at;
@@ -63,6 +69,29 @@ fn listed(steps: u64, tokens: usize, left: usize) -> usize {
     0
 }
 
+// Whether the run was refused before steps is said by its number; the calls on a judged book do not check the string.
+fn in_steps(number: u64) -> bool {
+    number == DONE as u64 || number == ROOM as u64 || number == SYNTAX as u64
+}
+
+// A line where a run on the judged book, or offers in turn, do not say what the run says.
+fn show_whether_alike(
+    book: &[u8],
+    table: &[u8],
+    tokens: &[u8],
+    words: &[u64; 5],
+    stack: &[u8],
+    list: &[u8],
+) {
+    let reading = judge(book);
+    if !judged_alike(book, reading, table, tokens, words, stack, list) {
+        show_word(b"differs judged\n");
+    }
+    if !offers_alike(book, reading, table, tokens, words, list) {
+        show_word(b"differs offered\n");
+    }
+}
+
 // A run on a table: the tokens not yet matched, the answer, the list.
 fn show_run(book: &[u8], table: &[u8], tokens: &[u8]) {
     let mut stack = [99u8; 64];
@@ -74,6 +103,9 @@ fn show_run(book: &[u8], table: &[u8], tokens: &[u8]) {
     show_cells(b" rest", rest);
     show_list(book, &list, count);
     show_word(b"\n");
+    if in_steps(words[0]) {
+        show_whether_alike(book, table, tokens, &words, &stack, &list);
+    }
 }
 
 // The table in the first `size` cells.
