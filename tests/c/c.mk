@@ -32,7 +32,7 @@ c-test: $(addprefix $(C_OUT)/,examples differential lines examples-checked diffe
 	$(C_OUT)/lines
 	$(C_OUT)/examples-checked
 	$(C_OUT)/differential-checked 100000
-	$(C_OUT)/lines-checked 20000
+	$(C_OUT)/lines-checked 40000
 	printf '\0\1\2\1\3\1' > $(C_OUT)/order
 	$(C_OUT)/restore books/house.book - $(C_OUT)/order | diff - tests/c/restore.stdout
 	{ $(C_OUT)/line books/house.patterns books/house.book < tests/c/line.stdin || true; } | diff - tests/c/line.stdout
