@@ -11,8 +11,8 @@ use Rattle.answers.specs.Answers.{done, stop}
 use Rattle.answers.specs.Buffers.{over}
 use Rattle.answers.specs.Limits.{mostPatterns, mostPositions, mostStates, rowCells}
 use Rattle.answers.specs.Refusals.{served, room, noToken}
-use Rattle.numbering.specs.Numbering.{Lawful, FoundAll, TooMany}
-use Rattle.numbering.proofs.Promise.{Alike, found-all-alike, too-many-alike, alike-back}
+use Rattle.numbering.specs.Numbering.{Lawful, IsState, FoundAll, TooMany, Reached}
+use Rattle.numbering.proofs.Promise.{Alike, found-all-alike, too-many-alike, alike-back, found-reaches}
 use Rattle.pattern.specs.Pattern.{Expression, Pattern}
 use Rattle.pattern.specs.Positions.{positions}
 use Rattle.pattern.specs.Text.{Bytes}
@@ -58,6 +58,12 @@ module _ {rs : List Expression} {sets : List ℕ} {cells : List (Option ℕ)}
     (fit : positions rs ≤ mostPositions)
     (found : FoundAll (states rs) sets cells)
     (short : length sets ≤ mostStates) where
+  -- the states are those that some string of bytes leads to
+  pub states-reached : (x : ℕ)
+      → ((i : ℕ) × IsState (states rs) sets i x)
+      ↔ ((y : ℕ) × Reached (states rs) y × (y ≡ x))
+  states-reached = found-reaches (alike.states-lawful rs) found
+
   -- walking the rows says of every string of bytes the lowest pattern that matches it, or none
   pub rows-exact : (u : List ℕ) → Bytes u → (k : ℕ) → Says (rowsOf sets cells) k u ↔ Lowest rs k u
   rows-exact u bytes k = exact.rows-exact few fit found short u bytes k
