@@ -25,15 +25,19 @@ use Rattle.offer.specs.declared.Reply.{Reply}
 use Rattle.offer.proofs.Promise.{told-numbers, OfferResult}
 use Rattle.run.specs.Judged.{JudgedRun}
 use Rattle.run.specs.Running.{Admits}
-use Rattle.demands.specs.Demands.{Built, Ran, Expanded, MayBuild, MayRun, MayExpand, Premises, RunRoom, expanded, BuildMeets2, ExpandMeets2, RunMeets2, RunMeets3, RunStepsAdd, ExpandStepsAdd}
+use Rattle.demands.specs.Demands.{Built, Ran, Expanded, MayBuild, MayRun, MayExpand, Premises, RunRoom, expanded}
+use Rattle.demands.specs.Demands.{BuildMeets2, ExpandMeets2, RunMeets2, RunMeets3, RunStepsAdd, ExpandStepsAdd}
 use Rattle.demands.specs.RoomPlace.{StopsForRoom, ExpansionStops}
 use Rattle.demands.specs.Offers.{startOn, atStart, OfferedInTurn, MakesRun}
 use Rattle.demands.proofs.BuildDemands.{done-exactly, conflict-exactly, done-exactly-if}
-use Rattle.demands.proofs.ExpandDemands.{ends-moves, done-complete, done-exact, unfit-exact, unfit-place, expands-to, complete-room-iff}
+use Rattle.demands.proofs.ExpandDemands.{ends-moves, done-complete, done-exact, unfit-exact, unfit-place}
+use Rattle.demands.proofs.ExpandDemands.{expands-to, complete-room-iff}
 use Rattle.demands.proofs.ExpandRoom.{room-midway}
-use Rattle.demands.proofs.Kept.{premises-exact, run-ends, run-begins, before-steps, expansion-begins, expansion-ends, expansion-before-steps}
+use Rattle.demands.proofs.Kept.{premises-exact, run-ends, run-begins, before-steps, expansion-begins}
+use Rattle.demands.proofs.Kept.{expansion-ends, expansion-before-steps}
 use Rattle.demands.proofs.AnyTable.{ends-told, ends-steps, any-accepted}
-use Rattle.demands.proofs.RunDemands.{accepted-derived, syntax-place, served-or-short, room-short, short-room-refused, runs-back, done-had-room}
+use Rattle.demands.proofs.RunDemands.{accepted-derived, syntax-place, served-or-short, room-short}
+use Rattle.demands.proofs.RunDemands.{short-room-refused, runs-back, done-had-room}
 use Rattle.demands.proofs.RunRoom.{room-place, decides-exactly}
 use Rattle.demands.proofs.Offers.{offers-made, turn-unique}
 -- room by formula: where no right side is empty, a run of n tokens keeps within N × n list cells and 1 + 15 × N × n

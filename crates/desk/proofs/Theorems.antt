@@ -26,9 +26,11 @@ use Rattle.expand.specs.Expanding.{ExpandOutcome}
 use Rattle.expand.proofs.Promise.{expand-outcome-unique}
 use Rattle.demands.specs.Formula.{RunWithinFormula}
 use Rattle.demands.specs.Demands.{BuildMeets2, ExpandMeets2, RunMeets2, RunMeets3, RunStepsAdd, ExpandStepsAdd}
-use Rattle.demands.proofs.Promise.{build-meets2, run-meets3, run-meets2, run-steps-add, run-formula, expand-meets2, expand-steps-add}
+use Rattle.demands.proofs.Promise.{build-meets2, run-meets3, run-meets2, run-steps-add, run-formula, expand-meets2}
+use Rattle.demands.proofs.Promise.{expand-steps-add}
 use Rattle.desk.specs.Desk.{littleEndian, answerBytes, answerSize, Lent, LentCell, JudgeOutcome, SetOutcome}
-use Rattle.desk.specs.Desk.{JudgeCall, PatternsCall, CutCall, CutWithCall, SetsCall, BuildCall, RunCall, ExpandCall, LookaheadCall, FirstCall}
+use Rattle.desk.specs.Desk.{JudgeCall, PatternsCall, CutCall, CutWithCall, SetsCall, BuildCall, RunCall}
+use Rattle.desk.specs.Desk.{ExpandCall, LookaheadCall, FirstCall}
 use Rattle.desk.specs.Demands.{answerFrom}
 use Rattle.desk.proofs.Calls.{called-answer, called-unique, two-unique, three-unique, judge-outcome-unique}
 use Rattle.desk.proofs.Calls.{patterns-outcome-unique, cut-with-same, set-outcome-unique}

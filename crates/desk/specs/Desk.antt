@@ -63,7 +63,8 @@ pub record JudgeCall (book answer : List ℕ) (number : ℕ) (answer′ : List �
 -- patterns judged, by their bytes and lengths
 pub record PatternsCall (patterns lengths answer : List ℕ) (number : ℕ) (answer′ : List ℕ) : Type 0 where
   pub call :
-      Called {Buffers = Unit {0}} (Lent answer) (λ a after. JudgePatterns patterns lengths a) tt answer number tt answer′
+      Called {Buffers = Unit {0}} (Lent answer) (λ a after. JudgePatterns patterns lengths a) tt answer number tt
+      answer′
 
 -- a line cut by patterns, and their machine
 pub record CutCall (patterns lengths line machine tokens answer

@@ -165,7 +165,15 @@ pub extern "C" fn desk_sets(
     follow: &mut [u64],
     answer: &mut [u8],
 ) -> u32
-    ensures { λ r. ⌜ SetsCall (now (book .entry)) (now (first .entry)) (now (follow .entry)) (now (answer .entry)) r (now (first .exit)) (now (follow .exit)) (now (answer .exit)) ⌝ }
+    ensures { λ r. ⌜ SetsCall
+        (now (book .entry))
+        (now (first .entry))
+        (now (follow .entry))
+        (now (answer .entry))
+        r
+        (now (first .exit))
+        (now (follow .exit))
+        (now (answer .exit)) ⌝ }
 {
     if answer.len() < ANSWER_SIZE {
         return ROOM;
@@ -184,7 +192,17 @@ pub extern "C" fn desk_build(
     table: &mut [u8],
     answer: &mut [u8],
 ) -> u32
-    ensures { λ r. ⌜ BuildCall (now (book .entry)) (now (first .entry)) (now (follow .entry)) (now (table .entry)) (now (answer .entry)) r (now (first .exit)) (now (follow .exit)) (now (table .exit)) (now (answer .exit)) ⌝ }
+    ensures { λ r. ⌜ BuildCall
+        (now (book .entry))
+        (now (first .entry))
+        (now (follow .entry))
+        (now (table .entry))
+        (now (answer .entry))
+        r
+        (now (first .exit))
+        (now (follow .exit))
+        (now (table .exit))
+        (now (answer .exit)) ⌝ }
 {
     if answer.len() < ANSWER_SIZE {
         return ROOM;
@@ -202,7 +220,14 @@ pub extern "C" fn desk_lookahead(
     set: &mut [u64],
     answer: &mut [u8],
 ) -> u32
-    ensures { λ r. ⌜ LookaheadCall (now (book .entry)) production (now (set .entry)) (now (answer .entry)) r (now (set .exit)) (now (answer .exit)) ⌝ }
+    ensures { λ r. ⌜ LookaheadCall
+        (now (book .entry))
+        production
+        (now (set .entry))
+        (now (answer .entry))
+        r
+        (now (set .exit))
+        (now (answer .exit)) ⌝ }
 {
     if set.len() < 1 || answer.len() < ANSWER_SIZE {
         return ROOM;
@@ -223,7 +248,14 @@ pub extern "C" fn desk_first_of(
     set: &mut [u64],
     answer: &mut [u8],
 ) -> u32
-    ensures { λ r. ⌜ FirstCall (now (book .entry)) (now (symbols .entry)) (now (set .entry)) (now (answer .entry)) r (now (set .exit)) (now (answer .exit)) ⌝ }
+    ensures { λ r. ⌜ FirstCall
+        (now (book .entry))
+        (now (symbols .entry))
+        (now (set .entry))
+        (now (answer .entry))
+        r
+        (now (set .exit))
+        (now (answer .exit)) ⌝ }
 {
     if set.len() < 1 || answer.len() < ANSWER_SIZE {
         return ROOM;
