@@ -1,7 +1,7 @@
 -- Books that meet the premises of the formula, and runs on them with its room and with less: no premise is empty, and for one nonterminal
 -- and one token neither bound can be lowered.
 use mathlib.Core.Path.{_≡_, refl}
-use mathlib.Core.Logic.{_≢_}
+use mathlib.Core.Logic.{_⊎_}
 use mathlib.Core.List.{List, [], _∷_}
 use Prim.Native.Nat.{ℕ, zero, suc, _≤_, _<_}
 use native.Mathlib.Omega.{arith}
@@ -19,7 +19,7 @@ use Rattle.grammar.proofs.WorkedForm.{formTest, form-tested}
 use Rattle.grammar.proofs.WorkedUseful.{productives, has}
 use Rattle.sets.specs.Sets.{only, united, added}
 use Rattle.answers.specs.Answers.{stop}
-use Rattle.answers.specs.Refusals.{room}
+use Rattle.answers.specs.Refusals.{syntax}
 use Rattle.reader.specs.Book.{reads, spells, marked, wanted, records, symbols, symbolOf, ending}
 use Rattle.book.specs.Judging.{AllUseful}
 use Rattle.table.specs.Table.{size, held, BuiltWithoutConflict, cellOf}
@@ -126,8 +126,10 @@ chain-run-allowed = running.ended (chain-built .serves) (premises-admit (chain-p
 pub chain-run-given : Given chainRun
 chain-run-given = allowed-given chainRun chain-run-allowed
 
--- and the formula says that it is not 7, its premises being met together
-pub chain-never-room : (r : Ran) → MayRun chainBook chainTable (0 ∷ []) (replicate 31 9) (replicate 2 9) r → r .answer .number ≢ room
+-- and the formula says that it is 0 or 11, its premises being met together
+pub chain-never-room : (r : Ran)
+    → MayRun chainBook chainTable (0 ∷ []) (replicate 31 9) (replicate 2 9) r
+    → (r .answer .number ≡ 0) ⊎ (r .answer .number ≡ syntax)
 unfolding chainGrammar chain-built built-tested chain-premises zeros-premises
 chain-never-room r o =
     run-formula chainBook chainTable (0 ∷ []) (replicate 31 9) (replicate 2 9) r o .never-room

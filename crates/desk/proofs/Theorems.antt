@@ -254,7 +254,8 @@ module _ {answer : List ℕ} (lent : Lent answer) where
               let small = mul-le-mul (serves-limits (h .built .serves) .nonterminals-fit) (h .short) in
               (lists, rw (read .steps (omega (arith, steps, matched, small, h .short))) steps);
           held = within .held;
-          never-room = λ h full k m e. within .never-room h full k m (sym (read .number) ∙ e);
+          kept = within .kept;
+          never-room = λ h full k m. rw (read .number) (within .never-room h full k m);
         }
 
   -- demand 2 of an expansion: given room, a complete list expands to the string that it derives
