@@ -4,7 +4,7 @@ use Prim.Native.Nat.{ℕ, _+_, _≤_, _<_}
 use native.Mathlib.Decide.{decLt}
 use native.Mathlib.Omega.{arith}
 use borrow.Author.Count.{below-more}
-use Rattle.answers.specs.Lowest.{Lowest}
+use Rattle.answers.specs.Lowest.{Lowest, FirstFailing}
 
 -- a search has come to i and passed no number that has P
 pub record Searched (P : ℕ → Type 0) (count i : ℕ) : Type 0 where
@@ -32,6 +32,15 @@ module _ {P : ℕ → Type 0} {count : ℕ} where
 
     pub search-over : count ≤ i → Lowest P count i
     search-over over = record { within = s .within; earlier = s .passed; found = λ below. absurd (omega arith) }
+
+-- the first that fails is one
+pub first-failing-unique : {P : ℕ → Type 0} {count r s : ℕ} → FirstFailing P count r → FirstFailing P count s → r ≡ s
+first-failing-unique {r = r} {s = s} a b = go (decLt r s) (decLt s r)
+  where
+    go : Dec (r < s) → Dec (s < r) → r ≡ s
+    go (yes l) k = absurd (a .fails (omega (arith, b .within)) (b .earlier r l))
+    go (no n) (yes l) = absurd (b .fails (omega (arith, a .within)) (a .earlier s l))
+    go (no n) (no m) = omega arith
 
 -- the same number is the lowest of another predicate that says the same below the count
 pub lowest-alike : {P Q : ℕ → Type 0} {count r : ℕ}

@@ -82,13 +82,13 @@ module _ {b places : List ℕ} {P N start r : ℕ} {g : Grammar} (indexed : Inde
   pub judged-useless : r < N → Judged b (refusing (refusal useless r 0))
   judged-useless below =
       let inside : r < g .nonterminals = omega (arith, indexed .numbered) in
-      refuses (useless-one (indexed .read) (record { inside = inside; useless = first .useless inside; lowest = first .lowest }))
+      refuses (useless-one (indexed .read) (record { inside = inside; useless = first .fails inside; lowest = first .earlier }))
 
   -- the fields of the index are those that are read off the book
   pub judged-served : {tokens : ℕ} {answer : Answer} → N ≤ r → tokens ≡ getD b 2 0 → answer ≡ done 0
       → Judged b (record { answer = answer; tokens = tokens; nonterminals = N; start = start; productions = P; places = places })
   unfolding indexOf
   judged-served past tokens-are answered =
-      let all : AllUseful g = record { useful = λ A inside. first .lowest A (omega (arith, indexed .numbered)) } in
+      let all : AllUseful g = record { useful = λ A inside. first .earlier A (omega (arith, indexed .numbered)) } in
       rw (answered, tokens-are, header-tokens b (indexed .read), indexed .numbered, indexed .started, indexed .counted, indexed .placed)
       (serves (record { read = indexed .read; useful = all }))

@@ -1,13 +1,14 @@
 -- Judging allows one outcome only. (A leaf whose contract says `r ≡ f inputs` allows one by `value-unique` of crate sets.)
 use mathlib.Core.Path.{_≡_, ap, ap₂}
 use mathlib.Core.List.{List}
-use Prim.Native.Nat.{ℕ, _<_}
-use native.Mathlib.Decide.{decLt}
+use Prim.Native.Nat.{ℕ}
 use native.Mathlib.Omega.{arith}
-use Rattle.grammar.specs.Grammar.{Grammar}
+use Rattle.grammar.specs.Grammar.{Grammar, Useful}
 use Rattle.answers.specs.declared.Answer.{Answer}
 use Rattle.answers.specs.Answers.{refusal}
 use Rattle.answers.specs.Refusals.{useless}
+use Rattle.answers.specs.Lowest.{FirstFailing}
+use Rattle.answers.proofs.Promise.{first-failing-unique}
 use Rattle.reader.specs.Book.{reads, spells}
 use Rattle.reader.proofs.Promise.{refused-not-reads}
 use Rattle.book.specs.declared.Reading.{Reading}
@@ -16,13 +17,12 @@ use Rattle.book.specs.Judging.{LowestUseless, refusing, indexOf, Refuses
 pub reads-unique : (b : List ℕ) {g h : Grammar} → spells b ≡ reads g → spells b ≡ reads h → g ≡ h
 reads-unique b e f = cc
 
+-- the lowest useless nonterminal is the first that fails to be useful
+lowest-failing : {g : Grammar} {A : ℕ} → LowestUseless g A → FirstFailing (Useful g) (g .nonterminals) A
+lowest-failing h = record { within = omega (arith, h .inside); earlier = h .lowest; fails = λ _. h .useless }
+
 pub lowest-unique : {g : Grammar} {A B : ℕ} → LowestUseless g A → LowestUseless g B → A ≡ B
-lowest-unique {g} {A} {B} h k = go (decLt A B) (decLt B A)
-  where
-    go : Dec (A < B) → Dec (B < A) → A ≡ B
-    go (yes below) other = absurd (h .useless (k .lowest A below))
-    go (no above) (yes below) = absurd (k .useless (h .lowest B below))
-    go (no above) (no below) = omega arith
+lowest-unique h k = first-failing-unique (lowest-failing h) (lowest-failing k)
 
 module _ {b : List ℕ} where
   pub refuses-unique : {r s : Answer} → Refuses b r → Refuses b s → r ≡ s

@@ -103,18 +103,18 @@ module _ {g : Grammar} {count : ℕ} {names lefts : List ℕ} (sides : Sides g c
 pub lowest-useless : {g : Grammar} {used r : ℕ} → Exactly width used (Useful g) → LowestMissing used (g .nonterminals) r → FirstUseless g r
 lowest-useless {r = r} exact lowest =
     record {
-      inside = lowest .inside;
-      lowest = λ B below. exact .sound B (lowest .before B below);
-      useless = λ inside useful. true≢false (sym (exact .complete r useful) ∙ lowest .missing inside);
+      within = lowest .within;
+      earlier = λ B below. exact .sound B (lowest .earlier B below);
+      fails = λ inside useful. lowest .fails inside (exact .complete r useful);
     }
 
 -- a start that is not productive makes every nonterminal useless
 pub all-useless : {g : Grammar} {m : ℕ} → Exactly width m (Productive g) → member (g .start) m ≡ false → FirstUseless g 0
 all-useless {g} exact fails =
     record {
-      inside = omega arith;
-      lowest = λ B none. absurd (omega arith);
-      useless = λ _ useful. true≢false (sym (exact .complete (g .start) (useful-start useful)) ∙ fails);
+      within = omega arith;
+      earlier = λ B none. absurd (omega arith);
+      fails = λ _ useful. true≢false (sym (exact .complete (g .start) (useful-start useful)) ∙ fails);
     }
 
 -- what the two closures and the lowest number missing in the second tell

@@ -1,7 +1,7 @@
 -- The steps to refusal 6: which nonterminals the right sides name, and the lowest nonterminal that is useless.
 -- Document 01, "Refusals and their numbers", 6; only contracts inside the crate cite what stands here.
 use mathlib.Core.Path.{_≡_}
-use mathlib.Core.Bool.{true, false}
+use mathlib.Core.Bool.{true}
 use mathlib.Core.List.{List}
 use mathlib.Core.Option.{some}
 use Prim.Native.Nat.{ℕ, _≤_, _<_}
@@ -13,6 +13,7 @@ use Rattle.grammar.specs.Grammar.{Form, Grammar, Rule, Useful}
 use Rattle.sets.specs.Sets.{width, member, Exactly}
 use Rattle.sets.specs.Calls.{setAt}
 use Rattle.answers.specs.Limits.{mostProductions}
+use Rattle.answers.specs.Lowest.{FirstFailing}
 use Rattle.reader.specs.Book.{reads, spells}
 use Rattle.reader.specs.Fields.{leftAt, lengthAt, symbolAt, placeOfRecord, placesFrom}
 use Rattle.book.specs.Closure.{Follows}
@@ -83,16 +84,12 @@ pub record Sides (g : Grammar) (count : ℕ) (names lefts : List ℕ) : Type 0 w
   pub start-fits : g .start < width
 
 -- the lowest number below `count` that is not in the set, or `count`
-pub record LowestMissing (set count r : ℕ) : Type 0 where
-  pub inside : r ≤ count
-  pub before : (k : ℕ) → k < r → member k set ≡ true
-  pub missing : r < count → member r set ≡ false
+abbrev pub LowestMissing : (set count : ℕ) → ℕ → Type 0
+LowestMissing set = FirstFailing (λ k. member k set ≡ true)
 
 -- the lowest useless nonterminal, or N where there is none
-pub record FirstUseless (g : Grammar) (r : ℕ) : Type 0 where
-  pub inside : r ≤ g .nonterminals
-  pub lowest : (B : ℕ) → B < r → Useful g B
-  pub useless : r < g .nonterminals → ¬ Useful g r
+abbrev pub FirstUseless : Grammar → ℕ → Type 0
+FirstUseless g = FirstFailing (Useful g) (g .nonterminals)
 
 -- r is the lowest useless nonterminal of any grammar with these sides, so many nonterminals and this start symbol
 pub record TellsUseless (count : ℕ) (names lefts : List ℕ) (nonterminals start r : ℕ) : Type 0 where

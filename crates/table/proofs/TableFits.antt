@@ -5,7 +5,6 @@ use mathlib.Core.Bool.{Bool, true, false}
 use mathlib.Core.List.{List}
 use mathlib.Core.Option.{Option, some, none}
 use Prim.Native.Nat.{ℕ, _+_, _*_, _/_, _≤_, _<_}
-use native.Mathlib.Decide.{decLt}
 use native.Mathlib.Nat.{mul-le-mul, div-lt-iff-lt-mul}
 use native.Mathlib.Omega.{arith}
 use borrow.Author.Tests.{ne-eqb}
@@ -13,6 +12,8 @@ use lib.ListN.{length, getD}
 use Rattle.grammar.specs.Grammar.{Grammar, Rule, Cell}
 use Rattle.sets.specs.Calls.{Decides}
 use Rattle.sets.proofs.Promise.{value-unique}
+use Rattle.answers.specs.Lowest.{FirstFailing}
+use Rattle.answers.proofs.Promise.{first-failing-unique}
 use Rattle.book.specs.declared.columns.Outline.{Outline}
 use Rattle.book.specs.Columns.{outlined, Outlines, Lefts, IsOf}
 use Rattle.book.proofs.Promise.{is-of-rule, rule-is-of}
@@ -90,7 +91,7 @@ module _ {o : Outline} {g : Grammar} (outlines : Outlines o g)
 
     module _ (same : length table ≡ n) {i : ℕ} (first : FirstMisfit g table i) where
       pub misfit-cell : i < length table → TableFitting g table (MisfitAt i)
-      misfit-cell h = misfit (cell {i = i} (same ∙ size-is) (omega (arith, size-is)) (first .misfit h) (first .earlier))
+      misfit-cell h = misfit (cell {i = i} (same ∙ size-is) (omega (arith, size-is)) (first .fails h) (first .earlier))
 
       pub fit-whole : length table ≤ i → TableFitting g table Fit
       fit-whole h = fit (record { sized = same ∙ size-is; cells = λ j k. first .earlier j (omega (arith, size-is)) })
@@ -112,17 +113,16 @@ module _ {g : Grammar} {table : List ℕ} where
   misfit-not-fit (length-given n) f = n (f .sized)
   misfit-not-fit (cell {i = i} e h n earlier) f = n (f .cells i h)
 
+  -- the first cell that does not fit is the first that fails
+  first-fails : {i : ℕ} → i < size g → ¬ Fits g table i → ((j : ℕ) → j < i → Fits g table j) → FirstFailing (Fits g table) (size g) i
+  first-fails inside misfits earlier = record { within = omega arith; earlier = earlier; fails = λ _. misfits }
+
   -- the first misfit is determined
   pub misfit-unique : {k j : ℕ} → Misfit g table k → Misfit g table j → k ≡ j
   misfit-unique (length-given n) (length-given m) = refl
   misfit-unique (length-given n) (cell e h m before) = absurd (n e)
   misfit-unique (cell e h m before) (length-given n) = absurd (n e)
-  misfit-unique (cell {i = i} e h m before) (cell {i = j} f l n earlier) = go (decLt i j) (decLt j i)
-    where
-      go : Dec (i < j) → Dec (j < i) → i ≡ j
-      go (yes a) b = absurd (m (earlier i a))
-      go (no a) (yes b) = absurd (n (before j b))
-      go (no a) (no b) = omega arith
+  misfit-unique (cell e h m before) (cell f l n earlier) = first-failing-unique (first-fails h m before) (first-fails l n earlier)
 
   -- a check of the table allows one answer
   pub fitting-unique : {a b : Fitting} → TableFitting g table a → TableFitting g table b → a ≡ b

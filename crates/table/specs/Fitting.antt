@@ -5,10 +5,11 @@ use mathlib.Core.Logic.{_≢_}
 use mathlib.Core.Bool.{Bool}
 use mathlib.Core.List.{List}
 use mathlib.Core.Option.{some, none}
-use Prim.Native.Nat.{ℕ, _≤_, _<_}
+use Prim.Native.Nat.{ℕ, _<_}
 use lib.ListN.{length, getD}
 use Rattle.grammar.specs.Grammar.{Form, Grammar, Rule}
 use Rattle.sets.specs.Calls.{Decides}
+use Rattle.answers.specs.Lowest.{FirstFailing}
 use Rattle.book.specs.declared.columns.Outline.{Outline}
 use Rattle.book.specs.Columns.{outlined, Lefts}
 use Rattle.table.specs.declared.fitting.Fitting.{Fitting}
@@ -45,7 +46,5 @@ pub record CellFits (lefts : List ℕ) (o : Outline) (table : List ℕ) (i : ℕ
   pub decides : (book places : List ℕ) → Lefts book places o lefts → Decides r (Fits (outlined book places o) table i)
 
 -- and the first cell that does not fit, or the length
-pub record FirstMisfit (g : Grammar) (table : List ℕ) (r : ℕ) : Type 0 where
-  pub inside : r ≤ length table
-  pub earlier : (j : ℕ) → j < r → Fits g table j
-  pub misfit : r < length table → ¬ Fits g table r
+abbrev pub FirstMisfit : Grammar → (table : List ℕ) → ℕ → Type 0
+FirstMisfit g table = FirstFailing (Fits g table) (length table)

@@ -1,6 +1,6 @@
 -- The invariant: every number gone through is in the set.
 use mathlib.Core.Path.{_≡_, sym, _∙_}
-use mathlib.Core.Bool.{true}
+use mathlib.Core.Bool.{true, true≢false}
 use Prim.Native.Nat.{ℕ, _-_, _≤_, _<_}
 use native.Mathlib.Omega.{arith}
 use borrow.Author.Tests.{not-true, not-false}
@@ -24,7 +24,7 @@ has-requires : tie.Need-has-requires Inv-loop μ-loop
 has-requires c κs = search needs
 
 returns : tie.Need-returns Inv-loop μ-loop
-returns c = record { inside = search needs; before = c .before .before .before .loop .inv .1; missing = λ _. sym (c .before .has .ensures) ∙ not-true _ (c .if1 .taken) }
+returns c = record { within = search needs; earlier = c .before .before .before .loop .inv .1; fails = λ _ in-set. true≢false (sym in-set ∙ sym (c .before .has .ensures) ∙ not-true _ (c .if1 .taken)) }
 
 add-k : tie.Need-add-k Inv-loop μ-loop
 add-k c = search needs
@@ -36,7 +36,7 @@ loop-again : tie.Need-loop-again Inv-loop μ-loop
 loop-again c = (search needs, below-more _ _ (c .before .before .before .loop .inv .1) (sym (c .before .has .ensures) ∙ not-false _ (c .if1 .left)))
 
 returns-2 : tie.Need-returns-2 Inv-loop μ-loop
-returns-2 c = record { inside = search needs; before = c .before .loop .inv .1; missing = λ more. absurd (omega arith) }
+returns-2 c = record { within = search needs; earlier = c .before .loop .inv .1; fails = λ more. absurd (omega arith) }
 
 pub lowest-missing-spec : {M : Type 1} → statement M
 lowest-missing-spec =

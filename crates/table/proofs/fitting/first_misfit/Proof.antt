@@ -33,7 +33,7 @@ cell-fits-requires c κs =
     omega (arith, c .before .loop-test .taken, pre)
 
 returns : tie.Need-returns Inv-loop μ-loop
-returns c = record { inside = search needs; earlier = c .before .before .before .before .loop .inv .1; misfit = λ h. decides-false _ (c .before .cell-fits .result) (c .before .cell-fits .ensures .decides _ _ (c .before .before .before .before .before .gather-lefts .ensures)) (not-true _ (c .if1 .taken)) }
+returns c = record { within = search needs; earlier = c .before .before .before .before .loop .inv .1; fails = λ h. decides-false _ (c .before .cell-fits .result) (c .before .cell-fits .ensures .decides _ _ (c .before .before .before .before .before .gather-lefts .ensures)) (not-true _ (c .if1 .taken)) }
 
 add-i : tie.Need-add-i Inv-loop μ-loop
 add-i c = search needs
@@ -45,7 +45,7 @@ loop-again : tie.Need-loop-again Inv-loop μ-loop
 loop-again c = (search needs, below-more _ _ (c .before .before .before .before .loop .inv .1) (decides-true _ (c .before .cell-fits .result) (c .before .cell-fits .ensures .decides _ _ (c .before .before .before .before .before .gather-lefts .ensures)) (not-false _ (c .if1 .left))))
 
 returns-2 : tie.Need-returns-2 Inv-loop μ-loop
-returns-2 c = record { inside = c .before .loop .inv .0; earlier = c .before .loop .inv .1; misfit = λ h. absurd (omega (arith, c .loop-test .left)) }
+returns-2 c = record { within = c .before .loop .inv .0; earlier = c .before .loop .inv .1; fails = λ h. absurd (omega (arith, c .loop-test .left)) }
 
 pub first-misfit-spec : {M : Type 1} → statement M
 first-misfit-spec =
