@@ -1,3 +1,4 @@
+// Books at the limits: the longest chain of nonterminals and the longest book.
 ghost use Prim.Native.Nat.{_≤_};
 use crate::showing::put;
 use crate::showing::show;

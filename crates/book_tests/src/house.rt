@@ -1,3 +1,4 @@
+// House book H, whole and with one byte changed.
 use crate::showing::show;
 use crate::showing::show_changed;
 use crate::showing::show_first;
@@ -5,7 +6,8 @@ use crate::showing::show_productions;
 
 // House book H.
 fn house() -> [u8; 39] {
-    *b"GR\x04\x04\x00\x06PR\x00\x02\x00\x81PR\x01\x03\x01\x82\x83PR\x02\x02\x02\x01PR\x02\x00PR\x03\x02\x03\x81PR\x03\x00"
+    *b"GR\x04\x04\x00\x06PR\x00\x02\x00\x81PR\x01\x03\x01\x82\x83PR\x02\x02\x02\x01PR\x02\x00\
+       PR\x03\x02\x03\x81PR\x03\x00"
 }
 
 pub(crate) fn whole() {

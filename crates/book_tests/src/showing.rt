@@ -1,3 +1,4 @@
+// What this program prints of a book that was judged.
 use book::judging::judge;
 use grammar::Symbol;
 use libc::STDOUT_FILENO;

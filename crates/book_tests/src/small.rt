@@ -1,3 +1,4 @@
+// Small books: the smallest, one with a byte too many, and books with useless symbols.
 use crate::showing::show;
 use crate::showing::show_first;
 

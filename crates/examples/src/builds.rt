@@ -1,3 +1,4 @@
+// Examples H1, I and J: building.
 use crate::showing::end_line;
 use crate::showing::show_answer;
 use crate::showing::show_cells;

@@ -1,3 +1,4 @@
+// Example K.
 use crate::showing::end_line;
 use crate::showing::show_answer;
 use crate::showing::show_cells;

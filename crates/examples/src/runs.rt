@@ -1,3 +1,4 @@
+// Examples A to G: runs on the house book.
 use crate::showing::end_line;
 use crate::showing::show_answer;
 use crate::showing::show_cells;

@@ -1,3 +1,4 @@
+// What this program prints of answers and lent buffers.
 use answers::Answer;
 use libc::STDOUT_FILENO;
 use reader::fields::byte_at;

@@ -1,3 +1,4 @@
+// What this program prints of a run, and the other calls that must agree with it.
 use crate::comparing::judged_alike;
 use crate::comparing::offers_alike;
 use answers::refusals::DONE;

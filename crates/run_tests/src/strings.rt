@@ -1,3 +1,4 @@
+// The token strings on standard input, one after another, each run and shown.
 ghost use Prim.Native.Nat.{_<_, _≤_};
 ghost use lib.ListN.{length};
 use crate::showing::show;

@@ -1,3 +1,4 @@
+// The books on standard input, one after another, each shown.
 ghost use Prim.Native.Nat.{_<_, _≤_};
 ghost use lib.ListN.{length};
 use crate::showing::show;

@@ -1,3 +1,4 @@
+// What this program prints of a book: its sets, lookaheads, beginnings and table.
 use answers::Answer;
 use book::judging::judge;
 use libc::STDOUT_FILENO;
