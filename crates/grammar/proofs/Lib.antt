@@ -10,6 +10,7 @@ pub mod Place
 pub mod Halting
 pub mod Distinct
 pub mod Chains
+pub mod Plain
 pub mod Theorems
 pub mod Tests
 pub mod Worked
@@ -17,5 +18,6 @@ pub mod WorkedCells
 pub mod WorkedUseful
 pub mod WorkedForm
 pub mod House
+pub mod PlainExamples
 pub mod Rules
 pub mod Append

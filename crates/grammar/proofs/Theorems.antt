@@ -5,12 +5,15 @@ use mathlib.Core.List.{List, [], _∷_, _++_}
 use mathlib.Core.Option.{Option}
 use Prim.Native.Nat.{ℕ, _<_}
 use lib.ListN.{length}
-use Rattle.grammar.specs.declared.Symbol.the-variants.{Nonterminal}
-use Rattle.grammar.specs.Grammar.{Form, spelled, Grammar, Column, Derives, itself, Derivable, LeftmostSteps}
+use Rattle.grammar.specs.declared.Symbol.the-variants.{Token, Nonterminal}
+use Rattle.grammar.specs.Grammar.{Form, spelled, Grammar, Column, token, Derives, itself, Derivable}
+use Rattle.grammar.specs.Grammar.{LeftmostSteps, Rule, Claims}
 use Rattle.grammar.specs.Grammar.{Member, empty, First, Leftmost, Complete, Conflict, WellFormed, Useful}
 use Rattle.grammar.specs.Machine.{Exact, Run, Accepts, Stopped, Halted, Longest}
+use Rattle.grammar.specs.Plain.{Breaks, Plain, LowestBreak}
 use Rattle.grammar.proofs.Leftmost.{leftmost-steps, steps-leftmost, derives-leftmost, leftmost-derives}
 use Rattle.grammar.proofs.Append as append
+use Rattle.grammar.proofs.Plain as profile
 use Rattle.grammar.proofs.Unique.{unique-from}
 use Rattle.grammar.proofs.Useful.{useful-all}
 use Rattle.grammar.proofs.Machine.{run-from, run-leftmost, blocked}
@@ -34,6 +37,10 @@ pub use Rattle.grammar.proofs.Machine.{cells-exact, exact-no-conflict}
 pub use Rattle.grammar.proofs.Chains.{derives-longer, end-vacant}
 -- and each filled cell of a token leads to it, by productions of one number, at most that of the nonterminals
 pub use Rattle.grammar.proofs.Chains.{leads-all, leads-same, leads-few}
+-- in a plain grammar a cell holds the production of its row that starts with its token, the end mark's cells are vacant,
+-- no right side is empty, and a nonterminal leads to a token by one production
+pub use Rattle.grammar.proofs.Plain.{plain-cell, plain-vacant, plain-end, plain-filled, plain-leads}
+pub use Rattle.grammar.proofs.Plain.{plain-leads-one}
 -- the place of a syntax stop is determined
 pub use Rattle.grammar.proofs.Place.{place-determined}
 
@@ -55,6 +62,24 @@ module _ {g : Grammar} where
   pub first-append : (α β : Form) (m : Member)
       → First g (α ++ β) m ↔ ((First g α m × (m ≢ empty)) ⊎ (First g α empty × First g β m))
   first-append = append.first-append
+
+  -- a grammar is plain exactly if no production breaks the profile
+  pub plain-iff : Plain g ↔ ((p : ℕ) → ¬ Breaks g p)
+  plain-iff = profile.plain-iff
+
+  -- the lowest production that breaks it is determined
+  pub lowest-break-unique : {p q : ℕ} → LowestBreak g p → LowestBreak g q → p ≡ q
+  lowest-break-unique = profile.lowest-break-unique
+
+  -- in a plain grammar a production claims the cell of the token that its right side starts with, and no other
+  pub plain-claims : Plain g
+      → {A p : ℕ} {c : Column}
+      → Claims g A c p ↔ ((t : ℕ) × (γ : Form) × Rule g p A (Token t ∷ γ) × (c ≡ token t))
+  plain-claims = profile.plain-claims
+
+  -- so a plain grammar has no conflict
+  pub plain-no-conflict : Plain g → ¬ Conflict g
+  plain-no-conflict = profile.plain-no-conflict
 
   module _ {cell : ℕ → Column → Option ℕ} (exact : Exact g cell) where
     -- the machine accepts w with the list ps exactly if ps is the leftmost derivation of w

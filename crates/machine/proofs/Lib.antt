@@ -9,6 +9,7 @@ pub mod Follow
 pub mod Outcome
 pub mod Enough
 pub mod RoomFormula
+pub mod PlainRoom
 pub mod RunTheorems
 pub mod RoomNeeded
 pub mod ExpandMoves

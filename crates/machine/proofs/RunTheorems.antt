@@ -3,12 +3,13 @@ use mathlib.Core.Path.{_≡_, refl, subst}
 use mathlib.Core.Logic.{_↔_, _⊎_}
 use mathlib.Core.List.{List}
 use mathlib.Core.Option.{Option}
-use Prim.Native.Nat.{ℕ, _≤_, _<_}
+use Prim.Native.Nat.{ℕ, _+_, _*_, _≤_, _<_}
 use native.Mathlib.Omega.{arith}
 use lib.ListN.{length}
 use Rattle.grammar.specs.Filled.{NoEmptyRight}
 use Rattle.grammar.specs.Grammar.{Form, Grammar, Column, Rule, Derivable, Leftmost, Complete, WellFormed, Useful}
 use Rattle.grammar.specs.Machine.{Exact, Longest}
+use Rattle.grammar.specs.Plain.{Plain}
 use Rattle.grammar.proofs.Theorems.{leftmost-unique, exact-no-conflict, halts, leads-few}
 use Rattle.machine.specs.Machine.{State, Offered, taken, stopped, begun, runFrom}
 use Rattle.machine.specs.declared.Reason.{Reason}
@@ -20,6 +21,7 @@ use Rattle.machine.proofs.Verdict.{Derived, begun-ran, ran-derived, syn
 use Rattle.machine.proofs.Peak.{peak-from}
 use Rattle.machine.proofs.Outcome.{whole, Outcome, run-outcome, enough-taken, taken-enough, short-stopped, stopped-short}
 use Rattle.machine.proofs.Enough.{RoomEnough, halted-decides}
+use Rattle.machine.proofs.PlainRoom.{plain-lists-few, plain-stays-low, plain-always-enough}
 -- the equations of an offer and of a run, case by case
 pub use Rattle.machine.specs.Stopping.{runOf}
 pub use Rattle.machine.proofs.Offer.{offer-match, offer-use, offer-halt, run-taken, run-stopped, run-match}
@@ -134,3 +136,18 @@ module _ {g : Grammar} {cell : ℕ → Column → Option ℕ} (exact : Exact g c
         → stackCells g (length w) ≤ room
         → Decided (runOf g cell room cells w)
     run-always-enough = always-enough exact full (λ t x k l. leads-few well l) room cells w short
+
+module _ {g : Grammar} {cell : ℕ → Column → Option ℕ} (exact : Exact g cell) (plain : Plain g) (room cells : ℕ)
+    (w : List ℕ) where
+  -- of a plain grammar a run over n tokens, however it ends and with whatever room, lists at most n productions
+  pub run-plain-few : length (final (runOf g cell room cells w) .listed) ≤ length w
+  run-plain-few = plain-lists-few exact plain room cells w
+
+  module _ (short : (p A : ℕ) (β : Form) → Rule g p A β → length β ≤ 16) where
+    -- and holds at most 1 + 15 × n stack cells, where no right side has more than 16 symbols
+    pub run-plain-low : final (runOf g cell room cells w) .height ≤ 1 + 15 * length w
+    run-plain-low = plain-stays-low exact plain room cells w short
+
+    -- so with n list cells and that many stack cells the string is taken or stops by syntax
+    pub run-plain-enough : length w ≤ cells → 1 + 15 * length w ≤ room → Decided (runOf g cell room cells w)
+    run-plain-enough = plain-always-enough exact plain room cells w short
