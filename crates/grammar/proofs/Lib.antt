@@ -7,7 +7,9 @@ pub mod Unique
 pub mod Useful
 pub mod Machine
 pub mod Place
+pub mod Starting
 pub mod Halting
+pub mod Next
 pub mod Distinct
 pub mod Chains
 pub mod Plain
