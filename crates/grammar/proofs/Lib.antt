@@ -21,5 +21,6 @@ pub mod WorkedUseful
 pub mod WorkedForm
 pub mod House
 pub mod PlainExamples
+pub mod NextExamples
 pub mod Rules
 pub mod Append

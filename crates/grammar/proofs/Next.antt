@@ -184,6 +184,35 @@ module _ {g : Grammar} where
       back (inl h) = from (seen-first r h)
       back (inr z) = e .1 (inr (f .1 (inr z)))
 
+  seen-left : {ps : List ℕ} {c : Column} → Seen g ps c → (qs : List ℕ) → Seen g (ps ++ qs) c
+  seen-left (now-seen r h) qs = now-seen r h
+  seen-left (later-seen h) qs = later-seen (seen-left h qs)
+
+  seen-right : (ps : List ℕ) {qs : List ℕ} {c : Column} → Seen g qs c → Seen g (ps ++ qs) c
+  seen-right [] h = h
+  seen-right (p ∷ ps) h = later-seen (seen-right ps h)
+
+  seen-split : (ps : List ℕ) {qs : List ℕ} {c : Column} → Seen g (ps ++ qs) c → Seen g ps c ⊎ Seen g qs c
+  seen-split [] h = inr h
+  seen-split (p ∷ ps) (now-seen r h) = inl (now-seen r h)
+  seen-split (p ∷ ps) (later-seen h) = elim (seen-split ps h) [ inl k ↦ inl (later-seen k) | inr k ↦ inr k ]
+
+  -- of a list's last production and those before it
+  pub seen-last : (ps : List ℕ) {p A : ℕ} {γ : Form} {c : Column} → Rule g p A γ → Seen g (ps ++ (p ∷ [])) c ↔ (Seen g ps c ⊎ OwnToken g A c)
+  seen-last ps {p} {A} {c = c} r = (λ h. forth (seen-split ps h), λ k. back k)
+    where
+      own : OwnToken g A c ⊎ Seen g [] c → OwnToken g A c
+      own (inl k) = k
+      own (inr k) = elim k [ ]
+
+      forth : Seen g ps c ⊎ Seen g (p ∷ []) c → Seen g ps c ⊎ OwnToken g A c
+      forth (inl h) = inl h
+      forth (inr h) = inr (own (seen-first r h))
+
+      back : Seen g ps c ⊎ OwnToken g A c → Seen g (ps ++ (p ∷ [])) c
+      back (inl h) = seen-left h (p ∷ [])
+      back (inr k) = seen-right ps (now-seen r k)
+
   module _ {cell : ℕ → Column → Option ℕ} (exact : Exact g cell) where
     -- what can come where the machine has used ps and stops: the tokens of FIRST of their left sides, and what the stack there goes on with
     pub can-come-since : (x : Form) {z v ps : List ℕ} {σ β : Form} → Sentential g (x ++ σ) → Run g cell z σ v ps β → v ≡ [] → Stopped g cell β z → (c : Column) → CanCome g σ c ↔ (Seen g ps c ⊎ CanCome g β c)
