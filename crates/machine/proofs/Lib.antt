@@ -4,6 +4,8 @@ pub mod Agreement
 pub mod Count
 pub mod Relation
 pub mod Verdict
+pub mod LastOffer
+pub mod NextTokens
 pub mod Peak
 pub mod Follow
 pub mod Outcome

@@ -5,14 +5,18 @@ use mathlib.Core.List.{List}
 use mathlib.Core.Option.{Option}
 use Prim.Native.Nat.{ℕ, _+_, _*_, _≤_, _<_}
 use native.Mathlib.Omega.{arith}
-use lib.ListN.{length}
+use lib.ListN.{length, take, drop}
 use Rattle.grammar.specs.Filled.{NoEmptyRight}
-use Rattle.grammar.specs.Grammar.{Form, Grammar, Column, Rule, Derivable, Leftmost, Complete, WellFormed, Useful}
-use Rattle.grammar.specs.Machine.{Exact, Longest}
+use Rattle.grammar.specs.Grammar.{Form, Grammar, Column, column, Rule, Derivable, First, Leftmost, Complete}
+use Rattle.grammar.specs.Grammar.{WellFormed, Useful}
+use Rattle.grammar.specs.Machine.{front, Exact, Longest, Continues}
 use Rattle.grammar.specs.Plain.{Plain}
+use Rattle.grammar.proofs.Sets.{merged}
+use Rattle.grammar.proofs.Next.{Seen}
 use Rattle.grammar.proofs.Theorems.{leftmost-unique, exact-no-conflict, halts, leads-few}
 use Rattle.machine.specs.Machine.{State, Offered, taken, stopped, begun, runFrom}
 use Rattle.machine.specs.declared.Reason.{Reason}
+use Rattle.machine.specs.Last.{lastOf}
 use Rattle.machine.specs.Room.{peak, listCells, stackCells}
 use Rattle.machine.proofs.Walk.{Syntax, Short, Decided, final}
 use Rattle.machine.proofs.Count.{Counted, counted-stack, begun-counted, run-counted, run-grown}
@@ -21,6 +25,7 @@ use Rattle.machine.proofs.Verdict.{Derived, begun-ran, ran-derived, syn
 use Rattle.machine.proofs.Peak.{peak-from}
 use Rattle.machine.proofs.Outcome.{whole, Outcome, run-outcome, enough-taken, taken-enough, short-stopped, stopped-short}
 use Rattle.machine.proofs.Enough.{RoomEnough, halted-decides}
+use Rattle.machine.proofs.NextTokens.{next-of-last, next-of-stop, next-there, next-not-here}
 use Rattle.machine.proofs.PlainRoom.{plain-lists-few, plain-stays-low, plain-always-enough}
 -- the equations of an offer and of a run, case by case
 pub use Rattle.machine.specs.Stopping.{runOf}
@@ -36,6 +41,8 @@ pub use Rattle.machine.proofs.Peak.{peak-start}
 pub use Rattle.machine.proofs.Outcome.{before-listed, before-fewer}
 -- the room that is always enough, over any bound on the productions by which a symbol leads to a token
 pub use Rattle.machine.proofs.RoomFormula.{lists-few, stays-low, always-enough}
+-- the last offer of a run: what is matched before it is taken token by token, and what it answers is the outcome
+pub use Rattle.machine.proofs.LastOffer.{last-offer}
 -- more room does not change what is decided
 pub use Rattle.machine.proofs.Enough.{run-more}
 
@@ -114,6 +121,29 @@ module _ {g : Grammar} {cell : ℕ → Column → Option ℕ} (exact : Exact g c
       → qs ≡ s .listed
   run-unique-list w e d =
       leftmost-unique (exact-no-conflict exact) d (run-sound (exact-rows exact) room cells w e .complete)
+
+module _ {g : Grammar} {cell : ℕ → Column → Option ℕ} (exact : Exact g cell) (well : WellFormed g)
+    (useful : (A : ℕ) → A < g .nonterminals → Useful g A) (room cells : ℕ) (w : List ℕ) {r : Reason} {s : State}
+    (ends : runOf g cell room cells w ≡ stopped r s) (syntax : Syntax r) where
+  -- where a run stops by syntax, what can come after the tokens matched is FIRST of the stack right after the last
+  -- match, with the end mark if that stack can vanish
+  pub run-next : (c : Column)
+      → First g (lastOf g cell room cells w .stack) (merged c) ↔ Continues g (take (s .matched) w) (column c)
+  run-next = next-of-last exact well useful room cells w ends syntax
+
+  -- or FIRST of the left sides listed since without the empty string, and FIRST of the stack at the stop, with the end
+  -- mark if that can vanish
+  pub run-next-stop : (c : Column)
+      → Continues g (take (s .matched) w) (column c) ↔
+      (Seen g (drop (length (lastOf g cell room cells w .listed)) (s .listed)) c ⊎ First g (s .stack) (merged c))
+  run-next-stop = next-of-stop exact well useful room cells w ends syntax
+
+  -- something can come, and never the column on which the run stops
+  pub run-next-some : (c : Column) × Continues g (take (s .matched) w) (column c)
+  run-next-some = next-there exact well useful room cells w ends syntax
+
+  pub run-next-other : ¬ Continues g (take (s .matched) w) (column (front (drop (s .matched) w)))
+  run-next-other = next-not-here exact well useful room cells w ends syntax
 
 -- for every string there is room enough that it is taken or stops by syntax
 pub run-halts : {g : Grammar} {cell : ℕ → Column → Option ℕ} → Exact g cell → (w : List ℕ) → RoomEnough g cell w
