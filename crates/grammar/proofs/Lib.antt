@@ -10,6 +10,7 @@ pub mod Place
 pub mod Starting
 pub mod Halting
 pub mod Next
+pub mod PlainNext
 pub mod Distinct
 pub mod Chains
 pub mod Plain

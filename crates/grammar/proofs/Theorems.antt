@@ -44,6 +44,9 @@ pub use Rattle.grammar.proofs.Chains.{leads-all, leads-same, leads-few}
 -- vacant, no right side is empty, and a nonterminal leads to a token by one production
 pub use Rattle.grammar.proofs.Plain.{plain-cell, plain-vacant, plain-end, plain-filled, plain-leads}
 pub use Rattle.grammar.proofs.Plain.{plain-leads-one}
+-- in a plain grammar what a stack can go on with is what its top asks for, and where the machine stops nothing was
+-- used since the last match
+pub use Rattle.grammar.proofs.PlainNext.{plain-can-come, plain-none-since}
 -- after what begins a derivable string something can come, and what a stack goes on with is FIRST of it
 pub use Rattle.grammar.proofs.Next.{next-some, can-come-first, can-come-past, can-come-since, can-come-next}
 -- what stands right after a match does not hang on what comes

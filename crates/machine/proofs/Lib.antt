@@ -6,6 +6,7 @@ pub mod Relation
 pub mod Verdict
 pub mod LastOffer
 pub mod NextTokens
+pub mod PlainHint
 pub mod Peak
 pub mod Follow
 pub mod Outcome

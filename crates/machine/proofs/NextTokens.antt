@@ -51,13 +51,13 @@ module _ {g : Grammar} {cell : ℕ → Column → Option ℕ} (rows : Rows g cel
 
 module _ {g : Grammar} {cell : ℕ → Column → Option ℕ} (exact : Exact g cell) (well : WellFormed g) (useful : (A : ℕ) → A < g .nonterminals → Useful g A)
     (room cells : ℕ) (w : List ℕ) {r : Reason} {s : State} (ends : runOf g cell room cells w ≡ stopped r s) (syntax : Syntax r) where
-  last : LastOffer g cell room cells w (begun (g .start)) (lastOf g cell room cells w) (stopped r s)
+  pub last : LastOffer g cell room cells w (begun (g .start)) (lastOf g cell room cells w) (stopped r s)
   unfolding begun
   last =
       subst (λ (o : Offered). LastOffer g cell room cells w (begun (g .start)) (lastOf g cell room cells w) o) ends
       (last-offer (exact-rows exact) room cells w (begun (g .start)) (omega arith))
 
-  since : Since g cell (last .rest) (lastOf g cell room cells w) s
+  pub since : Since g cell (last .rest) (lastOf g cell room cells w) s
   since = stop-since (exact-rows exact) (last .answers) syntax
 
   -- what is matched at the stop is what was matched before the last offer
@@ -67,7 +67,7 @@ module _ {g : Grammar} {cell : ℕ → Column → Option ℕ} (exact : Exact g c
       let n : length (last .read) ≡ s .matched = omega (arith, since .matches, last .matches) in
       ap (take (s .matched)) (last .string) ∙ take-at (last .read) (last .rest) (s .matched) n
 
-  takes : ConsumesAll g cell (Nonterminal (g .start) ∷ []) (last .read) (last .new) (lastOf g cell room cells w .stack)
+  pub takes : ConsumesAll g cell (Nonterminal (g .start) ∷ []) (last .read) (last .new) (lastOf g cell room cells w .stack)
   unfolding begun
   takes = last .takes
 

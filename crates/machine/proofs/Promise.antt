@@ -12,6 +12,8 @@ pub use Rattle.machine.proofs.RunTheorems.{run-steps, run-sound, run-li
 pub use Rattle.machine.proofs.RunTheorems.{run-place, run-syntax, run-complete, run-short-iff, run-room}
 pub use Rattle.machine.proofs.RunTheorems.{run-inside, run-plain-few, run-plain-low, run-plain-enough}
 pub use Rattle.machine.proofs.RunTheorems.{run-next, run-next-stop, run-next-some, run-next-other}
+pub use Rattle.machine.proofs.RunTheorems.{run-plain-no-more, run-plain-next}
+pub use Rattle.machine.proofs.PlainHint.{Wanted, wants-end, wants-token, wants-row}
 pub use Rattle.machine.proofs.LastOffer.{OneOffer, by-match, by-halt, LastOffer, last-offer}
 pub use Rattle.machine.proofs.NextTokens.{Since}
 pub use Rattle.machine.proofs.RoomNeeded.{room-needed}

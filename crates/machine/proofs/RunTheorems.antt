@@ -26,6 +26,7 @@ use Rattle.machine.proofs.Peak.{peak-from}
 use Rattle.machine.proofs.Outcome.{whole, Outcome, run-outcome, enough-taken, taken-enough, short-stopped, stopped-short}
 use Rattle.machine.proofs.Enough.{RoomEnough, halted-decides}
 use Rattle.machine.proofs.NextTokens.{next-of-last, next-of-stop, next-there, next-not-here}
+use Rattle.machine.proofs.PlainHint.{Wanted, plain-lists-no-more, plain-next}
 use Rattle.machine.proofs.PlainRoom.{plain-lists-few, plain-stays-low, plain-always-enough}
 -- the equations of an offer and of a run, case by case
 pub use Rattle.machine.specs.Stopping.{runOf}
@@ -181,3 +182,15 @@ module _ {g : Grammar} {cell : ℕ → Column → Option ℕ} (exact : Exact g c
     -- so with n list cells and that many stack cells the string is taken or stops by syntax
     pub run-plain-enough : length w ≤ cells → 1 + 15 * length w ≤ room → Decided (runOf g cell room cells w)
     run-plain-enough = plain-always-enough exact plain room cells w short
+
+module _ {g : Grammar} {cell : ℕ → Column → Option ℕ} (exact : Exact g cell) (well : WellFormed g)
+    (useful : (A : ℕ) → A < g .nonterminals → Useful g A) (plain : Plain g) (room cells : ℕ) (w : List ℕ) {r : Reason}
+    {s : State} (ends : runOf g cell room cells w ≡ stopped r s) (syntax : Syntax r) where
+  -- where a run of a plain grammar stops by syntax, nothing is listed since the last match
+  pub run-plain-no-more : s .listed ≡ lastOf g cell room cells w .listed
+  run-plain-no-more = plain-lists-no-more exact well useful plain room cells w ends syntax
+
+  -- and what can come after the tokens matched is what the reason asks for: the end mark, the token on top, or the
+  -- filled columns of the row on top
+  pub run-plain-next : (c : Column) → Continues g (take (s .matched) w) (column c) ↔ Wanted cell r c
+  run-plain-next = plain-next exact well useful plain room cells w ends syntax
