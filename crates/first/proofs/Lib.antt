@@ -8,6 +8,7 @@ pub mod Closed
 pub mod Unique
 pub mod OfBook
 pub mod SetAnswers
+pub mod Coming
 pub mod Joined
 pub mod JoinedCalls
 pub mod Spelled

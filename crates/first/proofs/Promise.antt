@@ -2,6 +2,9 @@
 pub use Rattle.first.proofs.Closed.{first-is, sets-at, taken-at, at-taken, family-at, family-taken, sets-sound}
 pub use Rattle.first.proofs.Closed.{Bits, bits-cover}
 pub use Rattle.first.proofs.Closed.{join-proper, known-fits, trail-of-first}
+pub use Rattle.first.proofs.Coming.{Columned, columned, columned-alike, columned-members, columned-united}
+pub use Rattle.first.proofs.Coming.{can-come-is, own-tokens-is, seen-none-is, seen-more-is, next-set-is}
+pub use Rattle.first.proofs.Coming.{stop-set-is}
 pub use Rattle.first.proofs.Judged.{CheckedBook, Ready, checked-ready, given-count, given-indexes, given-limits}
 pub use Rattle.first.proofs.Judged.{given-nonterminals}
 pub use Rattle.first.proofs.Judged.{given-part, given-readable, given-served, judged-checked, judged-given}

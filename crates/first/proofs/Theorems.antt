@@ -1,10 +1,14 @@
 -- What FIRST promises, one page: each theorem under the sentence that it proves.
 use mathlib.Core.Path.{_≡_}
-use mathlib.Core.List.{List, _++_}
+use mathlib.Core.List.{List, [], _∷_, _++_}
+use mathlib.Core.Option.{Option}
 use Prim.Native.Nat.{ℕ, _^_, _≤_, _<_}
 use lib.ListN.{length, take, getD}
-use Rattle.grammar.specs.Grammar.{Form, Grammar, Member, Every, Known, Rule, First}
-use Rattle.sets.specs.Sets.{width, emptyString, only, united, joined}
+use Rattle.grammar.specs.declared.Symbol.the-variants.{Nonterminal}
+use Rattle.grammar.specs.Grammar.{Form, Grammar, Column, Member, Every, Known, Rule, First, Useful}
+use Rattle.grammar.specs.Machine.{Exact, Continues}
+use Rattle.grammar.proofs.Next.{ConsumesAll}
+use Rattle.sets.specs.Sets.{width, endMark, emptyString, only, united, joined}
 use Rattle.sets.specs.Calls.{setAt, stored}
 use Rattle.answers.specs.Limits.{mostSymbols}
 use Rattle.reader.specs.Book.{Limits}
@@ -16,6 +20,7 @@ use Rattle.first.specs.Calls.{FirstWorkedOut, FirstResult, FirstOutcome}
 use Rattle.first.specs.Joined.{FirstJoined}
 use Rattle.first.proofs.Additions as additions
 use Rattle.first.proofs.Closed as closed
+use Rattle.first.proofs.Coming as coming
 use Rattle.first.proofs.Unique as unique
 use Rattle.first.proofs.SetAnswers as answers
 use Rattle.first.proofs.Joined as joins
@@ -46,6 +51,17 @@ module _ {g : Grammar} (limits : Limits g) where
       → Every (Known g) α
       → IsSet (trail xs (only emptyString) α) (First g α)
   first-is first = closed.first-is limits (closed.sets-at first)
+
+  -- what can come after the tokens u is the trail, ending with the end mark, of the stack right after they are matched
+  pub next-set-is : {xs : List ℕ}
+      → FirstSets g xs
+      → {cell : ℕ → Column → Option ℕ}
+      → Exact g cell
+      → ((A : ℕ) → A < g .nonterminals → Useful g A)
+      → {u ps : List ℕ} {σ : Form}
+      → ConsumesAll g cell (Nonterminal (g .start) ∷ []) u ps σ
+      → IsSet (trail xs (only endMark) σ) (Continues g u)
+  next-set-is sets exact useful h = coming.next-set-is limits (closed.sets-at sets) exact useful h
 
   -- FIRST of two strings put together is the join of their FIRST sets
   pub first-joined : (α β : Form) {x y : ℕ}

@@ -53,7 +53,7 @@ one-right {g} {A = A} {p = p} {q = q} {β = β} c d r s =
     rule-same (subst (λ (o : ℕ). Rule g o A β) same r) s .1
 
 -- and what it holds claims it
-claimed-by : {g : Grammar} {A p : ℕ} {c : Column} {o : Option ℕ} → Cell g A c o → o ≡ some p → Claims g A c p
+pub claimed-by : {g : Grammar} {A p : ℕ} {c : Column} {o : Option ℕ} → Cell g A c o → o ≡ some p → Claims g A c p
 claimed-by {g} {A} {p} {c} (only {p = q} k same) e = let held : q ≡ p = cc in subst (λ (o : ℕ). Claims g A c o) held k
 claimed-by (vacant none-claims) e = let bad : _≡_ {A = ℕ} 0 1 = cc in absurd (omega arith)
 

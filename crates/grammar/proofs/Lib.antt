@@ -7,9 +7,13 @@ pub mod Unique
 pub mod Useful
 pub mod Machine
 pub mod Place
+pub mod Starting
 pub mod Halting
+pub mod Next
+pub mod PlainNext
 pub mod Distinct
 pub mod Chains
+pub mod Plain
 pub mod Theorems
 pub mod Tests
 pub mod Worked
@@ -17,5 +21,7 @@ pub mod WorkedCells
 pub mod WorkedUseful
 pub mod WorkedForm
 pub mod House
+pub mod PlainExamples
+pub mod NextExamples
 pub mod Rules
 pub mod Append

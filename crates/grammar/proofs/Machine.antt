@@ -67,7 +67,7 @@ module _ {g : Grammar} {cell : ℕ → Column → Option ℕ} where
       expand d k (run-front y z e r)
 
   -- whoever accepts u ++ z passes through where the machine stands after u
-  run-through : {z : List ℕ} {α β : Form} {u ps : List ℕ} → Run g cell z α u ps β → {v qs : List ℕ} → Run g cell [] α v qs [] → v ≡ u ++ z → (rs : List ℕ) × Run g cell [] β z rs []
+  pub run-through : {z : List ℕ} {α β : Form} {u ps : List ℕ} → Run g cell z α u ps β → {v qs : List ℕ} → Run g cell [] α v qs [] → v ≡ u ++ z → (rs : List ℕ) × Run g cell [] β z rs []
   run-through {β = β} here {qs = qs} a e = (qs, subst (λ (x : List ℕ). Run g cell [] β x qs []) e a)
   run-through (match r) (match a) e = run-through r a (cc)
   run-through {z} (expand {p = p} {A = A} {α = α} {γ = γ} {u = u} c k r) {v} (expand {p = q} {γ = δ} {ps = qs} d l a) e =

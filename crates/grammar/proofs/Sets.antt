@@ -55,7 +55,7 @@ module _ {g : Grammar} where
   first-addition f r c j = rule-first r c (join-first f j)
 
   module _ {F : Family} (F-closed : FirstClosed g F) where
-    pull-rule : {K : Column → Type 0} {p A : ℕ} {β v : Form} → Rule g p A β → {c : Column} → Cases F (Join F K v) β c → Join F K (Nonterminal A ∷ v) c
+    pub pull-rule : {K : Column → Type 0} {p A : ℕ} {β v : Form} → Rule g p A β → {c : Column} → Cases F (Join F K v) β c → Join F K (Nonterminal A ∷ v) c
     pull-rule r (own j) = begins (F-closed .closed r j)
     pull-rule r (beyond j k) = past (F-closed .closed r j) k
 

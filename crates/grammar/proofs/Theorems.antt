@@ -5,17 +5,23 @@ use mathlib.Core.List.{List, [], _∷_, _++_}
 use mathlib.Core.Option.{Option}
 use Prim.Native.Nat.{ℕ, _<_}
 use lib.ListN.{length}
-use Rattle.grammar.specs.declared.Symbol.the-variants.{Nonterminal}
-use Rattle.grammar.specs.Grammar.{Form, spelled, Grammar, Column, Derives, itself, Derivable, LeftmostSteps}
-use Rattle.grammar.specs.Grammar.{Member, empty, First, Leftmost, Complete, Conflict, WellFormed, Useful}
-use Rattle.grammar.specs.Machine.{Exact, Run, Accepts, Stopped, Halted, Longest}
+use Rattle.grammar.specs.declared.Symbol.the-variants.{Token, Nonterminal}
+use Rattle.grammar.specs.Grammar.{Form, spelled, Grammar, Column, token, Derives, itself, Derivable}
+use Rattle.grammar.specs.Grammar.{LeftmostSteps, Rule, Claims}
+use Rattle.grammar.specs.Grammar.{Member, column, empty, First, Leftmost, Complete, Conflict, WellFormed, Useful}
+use Rattle.grammar.specs.Machine.{front, Exact, Run, Accepts, Stopped, Halted, Longest, Continues}
+use Rattle.grammar.specs.Plain.{Breaks, Plain, LowestBreak}
 use Rattle.grammar.proofs.Leftmost.{leftmost-steps, steps-leftmost, derives-leftmost, leftmost-derives}
 use Rattle.grammar.proofs.Append as append
+use Rattle.grammar.proofs.Plain as profile
 use Rattle.grammar.proofs.Unique.{unique-from}
 use Rattle.grammar.proofs.Useful.{useful-all}
 use Rattle.grammar.proofs.Machine.{run-from, run-leftmost, blocked}
 use Rattle.grammar.proofs.Place.{longest-read}
 use Rattle.grammar.proofs.Halting.{halts-from}
+use Rattle.grammar.proofs.Sets.{merged}
+use Rattle.grammar.proofs.Next.{ConsumesAll, Seen, next-first}
+use Rattle.grammar.proofs.Next as next
 -- a list derives one string only
 pub use Rattle.grammar.proofs.Leftmost.{list-string}
 -- FIRST, FOLLOW and lookahead: what is sound and closed is exact, and each single addition is sound
@@ -34,6 +40,17 @@ pub use Rattle.grammar.proofs.Machine.{cells-exact, exact-no-conflict}
 pub use Rattle.grammar.proofs.Chains.{derives-longer, end-vacant}
 -- and each filled cell of a token leads to it, by productions of one number, at most that of the nonterminals
 pub use Rattle.grammar.proofs.Chains.{leads-all, leads-same, leads-few}
+-- in a plain grammar a cell holds the production of its row that starts with its token, the end mark's cells are
+-- vacant, no right side is empty, and a nonterminal leads to a token by one production
+pub use Rattle.grammar.proofs.Plain.{plain-cell, plain-vacant, plain-end, plain-filled, plain-leads}
+pub use Rattle.grammar.proofs.Plain.{plain-leads-one}
+-- in a plain grammar what a stack can go on with is what its top asks for, and where the machine stops nothing was
+-- used since the last match
+pub use Rattle.grammar.proofs.PlainNext.{plain-can-come, plain-none-since}
+-- after what begins a derivable string something can come, and what a stack goes on with is FIRST of it
+pub use Rattle.grammar.proofs.Next.{next-some, can-come-first, can-come-past, can-come-since, can-come-next}
+-- what stands right after a match does not hang on what comes
+pub use Rattle.grammar.proofs.Next.{consumes-run, consumes-derives}
 -- the place of a syntax stop is determined
 pub use Rattle.grammar.proofs.Place.{place-determined}
 
@@ -56,6 +73,24 @@ module _ {g : Grammar} where
       → First g (α ++ β) m ↔ ((First g α m × (m ≢ empty)) ⊎ (First g α empty × First g β m))
   first-append = append.first-append
 
+  -- a grammar is plain exactly if no production breaks the profile
+  pub plain-iff : Plain g ↔ ((p : ℕ) → ¬ Breaks g p)
+  plain-iff = profile.plain-iff
+
+  -- the lowest production that breaks it is determined
+  pub lowest-break-unique : {p q : ℕ} → LowestBreak g p → LowestBreak g q → p ≡ q
+  lowest-break-unique = profile.lowest-break-unique
+
+  -- in a plain grammar a production claims the cell of the token that its right side starts with, and no other
+  pub plain-claims : Plain g
+      → {A p : ℕ} {c : Column}
+      → Claims g A c p ↔ ((t : ℕ) × (γ : Form) × Rule g p A (Token t ∷ γ) × (c ≡ token t))
+  plain-claims = profile.plain-claims
+
+  -- so a plain grammar has no conflict
+  pub plain-no-conflict : Plain g → ¬ Conflict g
+  plain-no-conflict = profile.plain-no-conflict
+
   module _ {cell : ℕ → Column → Option ℕ} (exact : Exact g cell) where
     -- the machine accepts w with the list ps exactly if ps is the leftmost derivation of w
     pub accepts-exactly : {w ps : List ℕ} → Accepts g cell w ps ↔ Complete g ps w
@@ -74,3 +109,23 @@ module _ {g : Grammar} where
       -- where it stops, what it has read is the longest beginning that some derivable string shares
       pub viable-prefix : WellFormed g → ((A : ℕ) → A < g .nonterminals → Useful g A) → Longest g (u ++ z) (length u)
       viable-prefix well useful = longest-read (useful-all well useful) exact run stop
+
+      -- and the column on which it stops cannot come after that
+      pub stopped-not-next : ¬ Continues g u (column (front z))
+      stopped-not-next = next.stopped-not-next exact run stop
+
+    module _ (well : WellFormed g) (useful : (A : ℕ) → A < g .nonterminals → Useful g A)
+        {u ps : List ℕ} {σ : Form} (taken : ConsumesAll g cell (Nonterminal (g .start) ∷ []) u ps σ) where
+      -- where u is matched and σ is the stack right after: what can come after u is FIRST of σ, and the end mark if σ
+      -- can vanish
+      pub next-exact : (c : Column) → First g σ (merged c) ↔ Continues g u (column c)
+      next-exact = next-first exact taken (useful-all well useful)
+
+      -- and where the machine then stops: FIRST of the left sides listed since without the empty string, and FIRST of
+      -- the stack at the stop, with the end mark if that can vanish
+      pub next-at-stop : {z qs : List ℕ} {β : Form}
+          → Run g cell z σ [] qs β
+          → Stopped g cell β z
+          → (c : Column)
+          → Continues g u (column c) ↔ (Seen g qs c ⊎ First g β (merged c))
+      next-at-stop run stop c = next.next-at-stop-first exact (useful-all well useful) taken run stop c

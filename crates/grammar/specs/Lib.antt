@@ -3,3 +3,4 @@ pub mod Grammar
 pub mod House
 pub mod Machine
 pub mod Occurrence
+pub mod Plain

@@ -7,7 +7,7 @@ use mathlib.Core.Option.{Option, some, none}
 use Prim.Native.Nat.{ℕ, _≤_}
 use lib.ListN.{length, take}
 use Rattle.grammar.specs.declared.Symbol.the-variants.{Token, Nonterminal}
-use Rattle.grammar.specs.Grammar.{Form, Grammar, Column, token, endmark, Rule, Derivable, Cell}
+use Rattle.grammar.specs.Grammar.{Form, Grammar, Column, token, endmark, Member, column, Rule, Derivable, Cell}
 
 -- the column of what is unread: its first token, or the end mark
 abbrev pub front : List ℕ → Column
@@ -49,6 +49,11 @@ module _ (g : Grammar) where
   pub record Begins (u : List ℕ) : Type 0 where
     pub rest : List ℕ
     pub derivable : Derivable g (u ++ rest)
+
+  -- what can come after u: a token that with u begins some derivable string, and the end mark where u is derivable
+  pub data Continues (u : List ℕ) : Member → Type 0 where
+    may-come : {t : ℕ} → Begins (u ++ (t ∷ [])) → Continues u (column (token t))
+    may-end : Derivable g u → Continues u (column endmark)
 
   -- k is the length of the longest beginning of w that some derivable string shares
   pub record Longest (w : List ℕ) (k : ℕ) : Type 0 where

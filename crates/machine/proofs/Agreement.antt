@@ -13,7 +13,7 @@ use Rattle.machine.specs.Machine.{State, Offered, popped, replaced, offe
 use Rattle.machine.proofs.Walk.{Walk, here, match, expand, Halt, accepts, left-over, unmatched, vacant, list-full, stack-full, Walked, ComesTo, goes-on, ends}
 use Rattle.machine.proofs.Offer.{offer-match, offer-use, offer-halt, run-match, run-use, run-halt}
 
-one-more : (p : ℕ) (β : Form) (s : State) (l : ℕ) {n : ℕ} → length (s .listed) + suc l ≡ n → length (replaced p β s .listed) + l ≡ n
+pub one-more : (p : ℕ) (β : Form) (s : State) (l : ℕ) {n : ℕ} → length (s .listed) + suc l ≡ n → length (replaced p β s .listed) + l ≡ n
 unfolding replaced
 one-more p β s l h = omega (arith, length-append (s .listed) (p ∷ []))
 
@@ -40,7 +40,7 @@ module _ {right : ℕ → Form} {cell : ℕ → Column → Option ℕ} {room cel
       run-use right cell room cells w s e c l m ∙ walk-runs r (omega (arith, length-append (s .listed) (p ∷ []))) k
 
 -- what the machine does next: it halts, matches a token or uses a production
-data Next (right : ℕ → Form) (cell : ℕ → Column → Option ℕ) (room cells : ℕ) (w : List ℕ) (s : State) : Type 0 where
+pub data Next (right : ℕ → Form) (cell : ℕ → Column → Option ℕ) (room cells : ℕ) (w : List ℕ) (s : State) : Type 0 where
   halts : {o : Offered} → Halt right cell room cells (front w) s o → Next right cell room cells w s
   matches : {t : ℕ} {y : List ℕ} {α : Form} → w ≡ t ∷ y → s .stack ≡ Token t ∷ α → Next right cell room cells w s
   uses : {p A : ℕ} {α : Form} → s .stack ≡ Nonterminal A ∷ α → cell A (front w) ≡ some p → length (s .listed) < cells → length (right p ++ α) ≤ room → Next right cell room cells w s
@@ -74,7 +74,7 @@ module _ (right : ℕ → Form) (cell : ℕ → Column → Option ℕ) (room cel
       looked (some p) f = listing f (decLt (length (s .listed)) cells)
 
   -- there is always one of the three
-  next : (w : List ℕ) (s : State) → Next right cell room cells w s
+  pub next : (w : List ℕ) (s : State) → Next right cell room cells w s
   next w s = go (s .stack) refl
     where
       go : (σ : Form) → s .stack ≡ σ → Next right cell room cells w s

@@ -4,11 +4,15 @@ pub mod Agreement
 pub mod Count
 pub mod Relation
 pub mod Verdict
+pub mod LastOffer
+pub mod NextTokens
+pub mod PlainHint
 pub mod Peak
 pub mod Follow
 pub mod Outcome
 pub mod Enough
 pub mod RoomFormula
+pub mod PlainRoom
 pub mod RunTheorems
 pub mod RoomNeeded
 pub mod ExpandMoves

@@ -10,7 +10,12 @@ pub use Rattle.machine.proofs.Outcome.{Outcome, enough, list-short, sta
 unfoldable pub use Rattle.machine.proofs.Outcome.{whole}
 pub use Rattle.machine.proofs.RunTheorems.{run-steps, run-sound, run-lists-few, run-stays-low, run-always-enough}
 pub use Rattle.machine.proofs.RunTheorems.{run-place, run-syntax, run-complete, run-short-iff, run-room}
-pub use Rattle.machine.proofs.RunTheorems.{run-inside}
+pub use Rattle.machine.proofs.RunTheorems.{run-inside, run-plain-few, run-plain-low, run-plain-enough}
+pub use Rattle.machine.proofs.RunTheorems.{run-next, run-next-stop, run-next-some, run-next-other}
+pub use Rattle.machine.proofs.RunTheorems.{run-plain-no-more, run-plain-next}
+pub use Rattle.machine.proofs.PlainHint.{Wanted, wants-end, wants-token, wants-row}
+pub use Rattle.machine.proofs.LastOffer.{OneOffer, by-match, by-halt, LastOffer, last-offer}
+pub use Rattle.machine.proofs.NextTokens.{Since}
 pub use Rattle.machine.proofs.RoomNeeded.{room-needed}
 pub use Rattle.machine.proofs.ExpandMoves.{finished-is, left-over-is, too-short-is, misfit-is, no-stack-is}
 pub use Rattle.machine.proofs.ExpandMoves.{apply-is, no-output-is, write-is}

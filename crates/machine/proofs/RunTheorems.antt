@@ -3,15 +3,20 @@ use mathlib.Core.Path.{_≡_, refl, subst}
 use mathlib.Core.Logic.{_↔_, _⊎_}
 use mathlib.Core.List.{List}
 use mathlib.Core.Option.{Option}
-use Prim.Native.Nat.{ℕ, _≤_, _<_}
+use Prim.Native.Nat.{ℕ, _+_, _*_, _≤_, _<_}
 use native.Mathlib.Omega.{arith}
-use lib.ListN.{length}
+use lib.ListN.{length, take, drop}
 use Rattle.grammar.specs.Filled.{NoEmptyRight}
-use Rattle.grammar.specs.Grammar.{Form, Grammar, Column, Rule, Derivable, Leftmost, Complete, WellFormed, Useful}
-use Rattle.grammar.specs.Machine.{Exact, Longest}
+use Rattle.grammar.specs.Grammar.{Form, Grammar, Column, column, Rule, Derivable, First, Leftmost, Complete}
+use Rattle.grammar.specs.Grammar.{WellFormed, Useful}
+use Rattle.grammar.specs.Machine.{front, Exact, Longest, Continues}
+use Rattle.grammar.specs.Plain.{Plain}
+use Rattle.grammar.proofs.Sets.{merged}
+use Rattle.grammar.proofs.Next.{Seen}
 use Rattle.grammar.proofs.Theorems.{leftmost-unique, exact-no-conflict, halts, leads-few}
 use Rattle.machine.specs.Machine.{State, Offered, taken, stopped, begun, runFrom}
 use Rattle.machine.specs.declared.Reason.{Reason}
+use Rattle.machine.specs.Last.{lastOf}
 use Rattle.machine.specs.Room.{peak, listCells, stackCells}
 use Rattle.machine.proofs.Walk.{Syntax, Short, Decided, final}
 use Rattle.machine.proofs.Count.{Counted, counted-stack, begun-counted, run-counted, run-grown}
@@ -20,6 +25,9 @@ use Rattle.machine.proofs.Verdict.{Derived, begun-ran, ran-derived, syn
 use Rattle.machine.proofs.Peak.{peak-from}
 use Rattle.machine.proofs.Outcome.{whole, Outcome, run-outcome, enough-taken, taken-enough, short-stopped, stopped-short}
 use Rattle.machine.proofs.Enough.{RoomEnough, halted-decides}
+use Rattle.machine.proofs.NextTokens.{next-of-last, next-of-stop, next-there, next-not-here}
+use Rattle.machine.proofs.PlainHint.{Wanted, plain-lists-no-more, plain-next}
+use Rattle.machine.proofs.PlainRoom.{plain-lists-few, plain-stays-low, plain-always-enough}
 -- the equations of an offer and of a run, case by case
 pub use Rattle.machine.specs.Stopping.{runOf}
 pub use Rattle.machine.proofs.Offer.{offer-match, offer-use, offer-halt, run-taken, run-stopped, run-match}
@@ -34,6 +42,8 @@ pub use Rattle.machine.proofs.Peak.{peak-start}
 pub use Rattle.machine.proofs.Outcome.{before-listed, before-fewer}
 -- the room that is always enough, over any bound on the productions by which a symbol leads to a token
 pub use Rattle.machine.proofs.RoomFormula.{lists-few, stays-low, always-enough}
+-- the last offer of a run: what is matched before it is taken token by token, and what it answers is the outcome
+pub use Rattle.machine.proofs.LastOffer.{last-offer}
 -- more room does not change what is decided
 pub use Rattle.machine.proofs.Enough.{run-more}
 
@@ -113,6 +123,29 @@ module _ {g : Grammar} {cell : ℕ → Column → Option ℕ} (exact : Exact g c
   run-unique-list w e d =
       leftmost-unique (exact-no-conflict exact) d (run-sound (exact-rows exact) room cells w e .complete)
 
+module _ {g : Grammar} {cell : ℕ → Column → Option ℕ} (exact : Exact g cell) (well : WellFormed g)
+    (useful : (A : ℕ) → A < g .nonterminals → Useful g A) (room cells : ℕ) (w : List ℕ) {r : Reason} {s : State}
+    (ends : runOf g cell room cells w ≡ stopped r s) (syntax : Syntax r) where
+  -- where a run stops by syntax, what can come after the tokens matched is FIRST of the stack right after the last
+  -- match, with the end mark if that stack can vanish
+  pub run-next : (c : Column)
+      → First g (lastOf g cell room cells w .stack) (merged c) ↔ Continues g (take (s .matched) w) (column c)
+  run-next = next-of-last exact well useful room cells w ends syntax
+
+  -- or FIRST of the left sides listed since without the empty string, and FIRST of the stack at the stop, with the end
+  -- mark if that can vanish
+  pub run-next-stop : (c : Column)
+      → Continues g (take (s .matched) w) (column c) ↔
+      (Seen g (drop (length (lastOf g cell room cells w .listed)) (s .listed)) c ⊎ First g (s .stack) (merged c))
+  run-next-stop = next-of-stop exact well useful room cells w ends syntax
+
+  -- something can come, and never the column on which the run stops
+  pub run-next-some : (c : Column) × Continues g (take (s .matched) w) (column c)
+  run-next-some = next-there exact well useful room cells w ends syntax
+
+  pub run-next-other : ¬ Continues g (take (s .matched) w) (column (front (drop (s .matched) w)))
+  run-next-other = next-not-here exact well useful room cells w ends syntax
+
 -- for every string there is room enough that it is taken or stops by syntax
 pub run-halts : {g : Grammar} {cell : ℕ → Column → Option ℕ} → Exact g cell → (w : List ℕ) → RoomEnough g cell w
 run-halts exact w = halted-decides (halts exact w)
@@ -134,3 +167,30 @@ module _ {g : Grammar} {cell : ℕ → Column → Option ℕ} (exact : Exact g c
         → stackCells g (length w) ≤ room
         → Decided (runOf g cell room cells w)
     run-always-enough = always-enough exact full (λ t x k l. leads-few well l) room cells w short
+
+module _ {g : Grammar} {cell : ℕ → Column → Option ℕ} (exact : Exact g cell) (plain : Plain g) (room cells : ℕ)
+    (w : List ℕ) where
+  -- of a plain grammar a run over n tokens, however it ends and with whatever room, lists at most n productions
+  pub run-plain-few : length (final (runOf g cell room cells w) .listed) ≤ length w
+  run-plain-few = plain-lists-few exact plain room cells w
+
+  module _ (short : (p A : ℕ) (β : Form) → Rule g p A β → length β ≤ 16) where
+    -- and holds at most 1 + 15 × n stack cells, where no right side has more than 16 symbols
+    pub run-plain-low : final (runOf g cell room cells w) .height ≤ 1 + 15 * length w
+    run-plain-low = plain-stays-low exact plain room cells w short
+
+    -- so with n list cells and that many stack cells the string is taken or stops by syntax
+    pub run-plain-enough : length w ≤ cells → 1 + 15 * length w ≤ room → Decided (runOf g cell room cells w)
+    run-plain-enough = plain-always-enough exact plain room cells w short
+
+module _ {g : Grammar} {cell : ℕ → Column → Option ℕ} (exact : Exact g cell) (well : WellFormed g)
+    (useful : (A : ℕ) → A < g .nonterminals → Useful g A) (plain : Plain g) (room cells : ℕ) (w : List ℕ) {r : Reason}
+    {s : State} (ends : runOf g cell room cells w ≡ stopped r s) (syntax : Syntax r) where
+  -- where a run of a plain grammar stops by syntax, nothing is listed since the last match
+  pub run-plain-no-more : s .listed ≡ lastOf g cell room cells w .listed
+  run-plain-no-more = plain-lists-no-more exact well useful plain room cells w ends syntax
+
+  -- and what can come after the tokens matched is what the reason asks for: the end mark, the token on top, or the
+  -- filled columns of the row on top
+  pub run-plain-next : (c : Column) → Continues g (take (s .matched) w) (column c) ↔ Wanted cell r c
+  run-plain-next = plain-next exact well useful plain room cells w ends syntax

@@ -59,7 +59,7 @@ module _ {g : Grammar} {cell : ℕ → Column → Option ℕ} where
 
   module _ {room cells : ℕ} where
     -- a syntax stop is a stop of the textbook's machine
-    halt-stopped : (z : List ℕ) {r : Reason} {e s : State} → Halt (rightOf g) cell room cells (front z) e (stopped r s) → Syntax r → Stopped g cell (s .stack) z × (e ≡ s)
+    pub halt-stopped : (z : List ℕ) {r : Reason} {e s : State} → Halt (rightOf g) cell room cells (front z) e (stopped r s) → Syntax r → Stopped g cell (s .stack) z × (e ≡ s)
     halt-stopped [] (left-over h f) k = let bad : _≡_ {A = ℕ} 0 1 = cc in absurd (omega arith)
     halt-stopped (t ∷ z) (left-over h f) k = (rw h textbook.left-over, refl)
     halt-stopped z (unmatched h f) k = (rw h (textbook.unmatched f), refl)
