@@ -19,3 +19,5 @@ pub mod WorkedForm
 pub mod House
 pub mod Rules
 pub mod Append
+pub mod Vanishing
+pub mod Leading
