@@ -30,7 +30,8 @@ extern "C" {
    that the comments below do not name are 0; after DESK_DONE only the steps of a run, an expansion or a cut can be
    other than 0. The answer is written on every refusal too. Bytes of the answer buffer past 32 stay as they were.
    There is one exception: where the answer buffer has less than 32 bytes, or a set is answered and its buffer has no
-   cell, the call returns DESK_ROOM before all else and writes nothing at all, to the answer buffer or to any other. */
+   cell or that of its number has none, the call returns DESK_ROOM before all else and writes nothing at all, to the
+   answer buffer or to any other. */
 
 #define DESK_ANSWER_SIZE 32
 #define DESK_MOST_BOOK_BYTES 2566
@@ -194,7 +195,8 @@ uint32_t desk_judge(const uint8_t *book, size_t book_len, uint8_t *answer, size_
    unchanged. 64 cells of each are always enough.
 
    FIRST of A has bit t if A derives something that starts with t, and bit 63 if A derives the empty string. FOLLOW
-   of A has bit t if some sentential form has t right after A, and bit 62 if one ends in A. */
+   of A has bit t if some sentential form has t right after A, and bit 62 if one ends in A. How many leading symbols of
+   a right side can vanish is worked out on the way and not passed on. */
 uint32_t desk_sets(const uint8_t *book, size_t book_len, uint64_t *first, size_t first_len,
                    uint64_t *follow, size_t follow_len, uint8_t *answer, size_t answer_len);
 
@@ -211,30 +213,38 @@ uint32_t desk_sets(const uint8_t *book, size_t book_len, uint64_t *first, size_t
    cells of `table` hold the table, and cells beyond are unchanged. 64, 64 and 4,032 cells are always enough;
    desk_run wants the table with exactly N x (T+1) cells.
 
-   A production of A claims row A in the columns of its lookahead. */
+   A production of A claims row A in the columns of its lookahead. How many leading symbols of its right side can
+   vanish is worked out on the way and not passed on. */
 uint32_t desk_build(const uint8_t *book, size_t book_len, uint64_t *first, size_t first_len,
                     uint64_t *follow, size_t follow_len, uint8_t *table, size_t table_len,
                     uint8_t *answer, size_t answer_len);
 
 /* Works out the lookahead of one production: FIRST of its right side without bit 63, with FOLLOW of its left side
-   added if the right side can vanish.
+   added if the right side can vanish; and how many leading symbols of the right side can vanish.
 
-   `set` without a cell gives DESK_ROOM before all else, with nothing written, as a short answer buffer does. Then:
+   `set` or `count` without a cell gives DESK_ROOM before all else, with nothing written, as a short answer buffer
+   does. Then:
      the refusals of desk_judge;
      DESK_PRODUCTION  the number is not below P: place is that number.
-   The first cell of `set` holds the lookahead, or 0 if refused; cells beyond it are unchanged. */
-uint32_t desk_lookahead(const uint8_t *book, size_t book_len, uint64_t production,
-                        uint64_t *set, size_t set_len, uint8_t *answer, size_t answer_len);
+   The first cell of `set` holds the lookahead, or 0 if refused. The first cell of `count` holds the number of symbols
+   in front of the right side that derive the empty string, up to the first that does not, or 0 if refused; a token
+   never does. FOLLOW was added exactly if it is the length of the right side. Cells beyond the first are unchanged. */
+uint32_t desk_lookahead(const uint8_t *book, size_t book_len, uint64_t production, uint64_t *set, size_t set_len,
+                        uint64_t *count, size_t count_len, uint8_t *answer, size_t answer_len);
 
-/* Works out FIRST of a symbol string; of the empty one it is bit 63.
+/* Works out FIRST of a symbol string, of the empty one bit 63; and how many of its leading symbols can vanish.
 
-   `set` without a cell gives DESK_ROOM before all else, with nothing written, as a short answer buffer does. Then:
+   `set` or `count` without a cell gives DESK_ROOM before all else, with nothing written, as a short answer buffer
+   does. Then:
      the refusals of desk_judge;
      DESK_LIMIT    more than 16 symbols: place 16;
      DESK_SYMBOL   a symbol is not of the grammar: place is the index of the first one.
-   The first cell of `set` holds FIRST of the string, or 0 if refused; cells beyond it are unchanged. */
+   The first cell of `set` holds FIRST of the string, or 0 if refused. The first cell of `count` holds the number of
+   symbols in front that derive the empty string, up to the first that does not, or 0 if refused: 0 for no symbols,
+   and symbols_len exactly if the set has bit 63. Cells beyond the first are unchanged. */
 uint32_t desk_first_of(const uint8_t *book, size_t book_len, const uint8_t *symbols, size_t symbols_len,
-                       uint64_t *set, size_t set_len, uint8_t *answer, size_t answer_len);
+                       uint64_t *set, size_t set_len, uint64_t *count, size_t count_len,
+                       uint8_t *answer, size_t answer_len);
 
 /* Judges patterns, one for each token, and changes nothing but the answer.
 

@@ -99,19 +99,22 @@ uint32_t plain_build(const uint8_t *book, size_t book_len, uint64_t *first, size
 }
 
 uint32_t plain_lookahead(const uint8_t *book, size_t book_len, uint64_t production,
-                         uint64_t *set, size_t set_len, uint8_t *answer, size_t answer_len)
+                         uint64_t *set, size_t set_len, uint64_t *count, size_t count_len,
+                         uint8_t *answer, size_t answer_len)
 {
     struct grammar grammar;
     struct answer result = { 0 };
-    if (answer_len < ANSWER_SIZE || set_len < 1)
+    if (answer_len < ANSWER_SIZE || set_len < 1 || count_len < 1)
         return ROOM;
     set[0] = 0;
+    count[0] = 0;
     if (judge(book, book_len, &grammar, &result)
         && (production < grammar.productions || refuse(&result, PRODUCTION, production, NO_DETAIL))) {
         uint64_t first[MOST_NONTERMINALS], follow[MOST_NONTERMINALS];
         find_first(&grammar, first);
         find_follow(&grammar, first, follow);
         set[0] = lookahead(&grammar, first, follow, (size_t)production);
+        count[0] = leading_vanishing(first, grammar.right[production], grammar.length[production]);
     }
     return give(&result, answer);
 }
@@ -127,17 +130,20 @@ static bool symbols_fit(const struct grammar *grammar, const uint8_t *symbols, s
 }
 
 uint32_t plain_first_of(const uint8_t *book, size_t book_len, const uint8_t *symbols, size_t symbols_len,
-                        uint64_t *set, size_t set_len, uint8_t *answer, size_t answer_len)
+                        uint64_t *set, size_t set_len, uint64_t *count, size_t count_len,
+                        uint8_t *answer, size_t answer_len)
 {
     struct grammar grammar;
     struct answer result = { 0 };
-    if (answer_len < ANSWER_SIZE || set_len < 1)
+    if (answer_len < ANSWER_SIZE || set_len < 1 || count_len < 1)
         return ROOM;
     set[0] = 0;
+    count[0] = 0;
     if (judge(book, book_len, &grammar, &result) && symbols_fit(&grammar, symbols, symbols_len, &result)) {
         uint64_t first[MOST_NONTERMINALS];
         find_first(&grammar, first);
         set[0] = first_of_string(first, symbols, symbols_len);
+        count[0] = leading_vanishing(first, symbols, symbols_len);
     }
     return give(&result, answer);
 }

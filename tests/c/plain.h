@@ -19,8 +19,10 @@ uint32_t plain_build(const uint8_t *book, size_t book_len, uint64_t *first, size
                      uint64_t *follow, size_t follow_len, uint8_t *table, size_t table_len,
                      uint8_t *answer, size_t answer_len);
 uint32_t plain_lookahead(const uint8_t *book, size_t book_len, uint64_t production,
-                         uint64_t *set, size_t set_len, uint8_t *answer, size_t answer_len);
+                         uint64_t *set, size_t set_len, uint64_t *count, size_t count_len,
+                         uint8_t *answer, size_t answer_len);
 uint32_t plain_first_of(const uint8_t *book, size_t book_len, const uint8_t *symbols, size_t symbols_len,
-                        uint64_t *set, size_t set_len, uint8_t *answer, size_t answer_len);
+                        uint64_t *set, size_t set_len, uint64_t *count, size_t count_len,
+                        uint8_t *answer, size_t answer_len);
 
 #endif

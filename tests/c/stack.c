@@ -28,7 +28,7 @@ static uint8_t table[DESK_MOST_TABLE_CELLS];
 static size_t table_length;
 static uint8_t tokens[DESK_MOST_CELLS], list[DESK_MOST_CELLS], stack[DESK_MOST_CELLS];
 static size_t tokens_length, list_length;
-static uint64_t first[DESK_MOST_NONTERMINALS], follow[DESK_MOST_NONTERMINALS], set[1];
+static uint64_t first[DESK_MOST_NONTERMINALS], follow[DESK_MOST_NONTERMINALS], set[1], count[1];
 static uint16_t machine[DESK_MOST_MACHINE_CELLS];
 static uint8_t answer[DESK_ANSWER_SIZE];
 
@@ -58,13 +58,13 @@ static void call_build(void)
 
 static void call_lookahead(void)
 {
-    number = desk_lookahead(book, book_length, 0, set, 1, answer, sizeof answer);
+    number = desk_lookahead(book, book_length, 0, set, 1, count, 1, answer, sizeof answer);
 }
 
 static void call_first_of(void)
 {
     static const uint8_t symbols[] = { N(0), 0, N(0) };
-    number = desk_first_of(book, book_length, symbols, sizeof symbols, set, 1, answer, sizeof answer);
+    number = desk_first_of(book, book_length, symbols, sizeof symbols, set, 1, count, 1, answer, sizeof answer);
 }
 
 static void call_run(void)

@@ -62,11 +62,13 @@ three-unique Outcome same c d =
     let (number, buffers, bytes) = called-unique (λ r q o p. ap (λ (z : Answer × List ℕ × List ℕ × List ℕ). (z .0, (z .1, z .2, z .3))) (same _ _ o p)) c d in
     (number, ap (λ (z : List ℕ × List ℕ × List ℕ). z .0) buffers, ap (λ (z : List ℕ × List ℕ × List ℕ). z .1) buffers, ap (λ (z : List ℕ × List ℕ × List ℕ). z .2) buffers, bytes)
 
--- one answer with its set leaves one set buffer
-pub set-outcome-unique : {Told : SetAnswer → Type 0} {cells : List ℕ} → Unique Told → Unique (λ (x : Answer × List ℕ). SetOutcome Told cells (x .0) (x .1))
-set-outcome-unique {cells = cells} same x y o p =
+-- one answer with its set and its number leaves one buffer of each
+pub set-outcome-unique : {Told : SetAnswer → Type 0} {cells counts : List ℕ} → Unique Told → Unique (λ (x : Answer × List ℕ × List ℕ). SetOutcome Told cells counts (x .0) (x .1) (x .2))
+set-outcome-unique {cells = cells} {counts = counts} same x y o p =
     let told : o .told ≡ p .told = same (o .told) (p .told) (o .outcome) (p .outcome) in
-    (λ i. (sym (o .answer) i, o .written i)) ∙ (λ i. (told i .answer, over (number (told i .set) ∷ []) cells)) ∙ (λ i. (p .answer i, sym (p .written) i))
+    (λ i. (sym (o .answer) i, o .written i, o .counted i))
+    ∙ (λ i. (told i .answer, over (number (told i .set) ∷ []) cells, over (told i .vanishing ∷ []) counts))
+    ∙ (λ i. (p .answer i, sym (p .written) i, sym (p .counted) i))
 
 -- one reading has one answer
 pub judge-outcome-unique : (book : List ℕ) → Unique (λ (x : Answer × Unit {0}). JudgeOutcome book (x .0))
@@ -92,8 +94,17 @@ first-written : (cells : List ℕ) (n : ℕ) → 1 ≤ length cells → set cell
 first-written [] n h = absurd (omega arith)
 first-written (x ∷ cells) n h = refl
 
--- a set is written into the first cell of its buffer, and the answer over the answer buffer
-pub set-call : {Told : SetAnswer → Type 0} (r : SetAnswer) {cells answer answer′ : List ℕ} → LentCell cells answer → Told r → answer′ ≡ over (answerBytes (r .answer)) answer
-    → Called (LentCell cells answer) (SetOutcome Told cells) cells answer (r .answer .number) (set cells 0 (number (r .set))) answer′
-set-call r {cells} lent outcome written =
-    answered-call (r .answer) lent (record { told = r; outcome = outcome; answer = refl; written = first-written cells (number (r .set)) (lent .cell) }) written
+-- a set and a number are written into the first cells of their buffers, and the answer over the answer buffer
+pub set-call : {Told : SetAnswer → Type 0} (r : SetAnswer) {cells counts answer answer′ : List ℕ} → LentCell cells counts answer → Told r → answer′ ≡ over (answerBytes (r .answer)) answer
+    → Called {Buffers = List ℕ × List ℕ} (LentCell cells counts answer) (λ a after. SetOutcome Told cells counts a (after .0) (after .1)) (cells, counts) answer
+    (r .answer .number) (set cells 0 (number (r .set)), set counts 0 (r .vanishing)) answer′
+set-call r {cells} {counts} lent outcome written =
+    answered-call (r .answer) lent
+    (record {
+      told = r;
+      outcome = outcome;
+      answer = refl;
+      written = first-written cells (number (r .set)) (lent .cell);
+      counted = first-written counts (r .vanishing) (lent .count);
+    })
+    written

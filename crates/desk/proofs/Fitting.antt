@@ -189,14 +189,14 @@ build-fits b (calls.served s f h x y t) = done-fits 0 (omega arith)
 pub lookahead-fits : {book : List ℕ} {production : ℕ} {r : SetAnswer} → length book < 2 ^ 64 → production < 2 ^ 64 → LookaheadOutcome book production r → FitsWords (r .answer)
 lookahead-fits b p (follow-calls.refused r k) = rw (k .answer) (refused-fits b r)
 lookahead-fits b p (follow-calls.no-production s h k) = rw (k .answer) (refusal-fits 12 p (omega arith))
-lookahead-fits b p (follow-calls.served s rule is) = rw (is .answer) (done-fits 0 (omega arith))
+lookahead-fits b p (follow-calls.served s rule is leading) = rw (is .answer) (done-fits 0 (omega arith))
 
 -- and of FIRST of a symbol string
 pub first-fits : {book symbols : List ℕ} {r : SetAnswer} → length book < 2 ^ 64 → FirstOutcome book symbols r → FitsWords (r .answer)
 first-fits b (first-calls.refused r k) = rw (k .answer) (refused-fits b r)
 first-fits b (first-calls.too-long s h k) = rw (k .answer) (refusal-fits 4 (omega arith) (omega arith))
 first-fits b (first-calls.strange s h f k) = rw (k .answer) (refusal-fits 5 (omega (arith, f .inside)) (omega arith))
-first-fits b (first-calls.served s h e is) = rw (is .answer) (done-fits 0 (omega arith))
+first-fits b (first-calls.served s h e is leading) = rw (is .answer) (done-fits 0 (omega arith))
 
 pub patterns-fits : {patterns lengths : List ℕ} {a : Answer}
     → length patterns < 2 ^ 64

@@ -101,19 +101,22 @@ build-call-unique book first follow table answer c d =
     three-unique (BuildOutcome book first follow table) (λ r q o p. build-outcome-unique book first follow table o p)
     (c .call) (d .call)
 
-pub lookahead-call-unique : (book : List ℕ) (production : ℕ) (cells answer : List ℕ) {n m : ℕ} {s t x y : List ℕ}
-    → LookaheadCall book production cells answer n s x
-    → LookaheadCall book production cells answer m t y
-    → (n ≡ m) × (s ≡ t) × (x ≡ y)
-lookahead-call-unique book production cells answer c d =
-    called-unique (set-outcome-unique (λ r q o p. lookahead-outcome-unique book production o p)) (c .call) (d .call)
+pub lookahead-call-unique : (book : List ℕ) (production : ℕ) (cells counts answer : List ℕ) {n m : ℕ}
+    {s t l k x y : List ℕ}
+    → LookaheadCall book production cells counts answer n s l x
+    → LookaheadCall book production cells counts answer m t k y
+    → (n ≡ m) × (s ≡ t) × (l ≡ k) × (x ≡ y)
+lookahead-call-unique book production cells counts answer c d =
+    two-unique (SetOutcome (LookaheadOutcome book production) cells counts)
+    (set-outcome-unique (λ r q o p. lookahead-outcome-unique book production o p)) (c .call) (d .call)
 
-pub first-call-unique : (book symbols cells answer : List ℕ) {n m : ℕ} {s t x y : List ℕ}
-    → FirstCall book symbols cells answer n s x
-    → FirstCall book symbols cells answer m t y
-    → (n ≡ m) × (s ≡ t) × (x ≡ y)
-first-call-unique book symbols cells answer c d =
-    called-unique (set-outcome-unique (λ r q o p. first-outcome-unique book symbols o p)) (c .call) (d .call)
+pub first-call-unique : (book symbols cells counts answer : List ℕ) {n m : ℕ} {s t l k x y : List ℕ}
+    → FirstCall book symbols cells counts answer n s l x
+    → FirstCall book symbols cells counts answer m t k y
+    → (n ≡ m) × (s ≡ t) × (l ≡ k) × (x ≡ y)
+first-call-unique book symbols cells counts answer c d =
+    two-unique (SetOutcome (FirstOutcome book symbols) cells counts)
+    (set-outcome-unique (λ r q o p. first-outcome-unique book symbols o p)) (c .call) (d .call)
 
 -- the words lose nothing: where the book and the table are shorter than 2 ^ 64, the answer read from them is an answer
 -- of the function beneath
@@ -166,19 +169,19 @@ pub build-call-exact : {book first follow table answer : List ℕ} {n : ℕ} {f 
     → BuildOutcome book first follow table (answerFrom n x) f w t
 build-call-exact b lent c = called-exact (λ a o. build-fits b o) lent (c .call)
 
-pub lookahead-call-exact : {book : List ℕ} {production : ℕ} {cells answer : List ℕ} {n : ℕ} {s x : List ℕ}
+pub lookahead-call-exact : {book : List ℕ} {production : ℕ} {cells counts answer : List ℕ} {n : ℕ} {s l x : List ℕ}
     → length book < 2 ^ 64
     → production < 2 ^ 64
-    → LentCell cells answer
-    → LookaheadCall book production cells answer n s x
-    → SetOutcome (LookaheadOutcome book production) cells (answerFrom n x) s
+    → LentCell cells counts answer
+    → LookaheadCall book production cells counts answer n s l x
+    → SetOutcome (LookaheadOutcome book production) cells counts (answerFrom n x) s l
 lookahead-call-exact b p lent c =
     called-exact (λ a o. subst FitsWords (o .answer) (lookahead-fits b p (o .outcome))) lent (c .call)
 
-pub first-call-exact : {book symbols cells answer : List ℕ} {n : ℕ} {s x : List ℕ} → length book < 2 ^ 64
-    → LentCell cells answer
-    → FirstCall book symbols cells answer n s x
-    → SetOutcome (FirstOutcome book symbols) cells (answerFrom n x) s
+pub first-call-exact : {book symbols cells counts answer : List ℕ} {n : ℕ} {s l x : List ℕ} → length book < 2 ^ 64
+    → LentCell cells counts answer
+    → FirstCall book symbols cells counts answer n s l x
+    → SetOutcome (FirstOutcome book symbols) cells counts (answerFrom n x) s l
 first-call-exact b lent c = called-exact (λ a o. subst FitsWords (o .answer) (first-fits b (o .outcome))) lent (c .call)
 
 -- the demands of one call that lends an answer buffer long enough, its answer read back from the number returned and

@@ -113,27 +113,34 @@ pub record ExpandCall (book list stack output answer
       (λ a after. ExpandOutcome book list stack output a (after .0) (after .1)) (stack, output) answer number
       (stack′, output′) answer′
 
--- the answer buffer has room for an answer, and the set's buffer has a cell
-pub record LentCell (cells answer : List ℕ) : Type 0 where
+-- the answer buffer has room for an answer, and the buffers of the set and of the number have a cell each
+pub record LentCell (cells counts answer : List ℕ) : Type 0 where
   pub cell : 1 ≤ length cells
+  pub count : 1 ≤ length counts
   pub bytes : Lent answer
 
--- an answer with its set, which goes into the first cell of its buffer
-pub record SetOutcome (Told : SetAnswer → Type 0) (cells : List ℕ) (a : Answer) (cells′ : List ℕ) : Type 0 where
+-- an answer with its set and its number, each of which goes into the first cell of its buffer
+pub record SetOutcome (Told : SetAnswer → Type 0) (cells counts
+    : List ℕ) (a : Answer) (cells′ counts′ : List ℕ) : Type 0 where
   pub told : SetAnswer
   pub outcome : Told told
   pub answer : told .answer ≡ a
   pub written : cells′ ≡ over (number (told .set) ∷ []) cells
+  pub counted : counts′ ≡ over (told .vanishing ∷ []) counts
 
--- the lookahead of a production
+-- the lookahead of a production, and how many leading symbols of its right side can vanish
 pub record LookaheadCall (book
-    : List ℕ) (production : ℕ) (cells answer : List ℕ) (number : ℕ) (cells′ answer′ : List ℕ) : Type 0 where
+    : List ℕ) (production : ℕ) (cells counts answer : List ℕ) (number : ℕ) (cells′ counts′ answer′ : List ℕ)
+    : Type 0 where
   pub call :
-      Called {Buffers = List ℕ} (LentCell cells answer) (SetOutcome (LookaheadOutcome book production) cells) cells
-      answer number cells′ answer′
+      Called {Buffers = List ℕ × List ℕ} (LentCell cells counts answer)
+      (λ a after. SetOutcome (LookaheadOutcome book production) cells counts a (after .0) (after .1)) (cells, counts)
+      answer number (cells′, counts′) answer′
 
--- FIRST of a symbol string
-pub record FirstCall (book symbols cells answer : List ℕ) (number : ℕ) (cells′ answer′ : List ℕ) : Type 0 where
+-- FIRST of a symbol string, and how many of its leading symbols can vanish
+pub record FirstCall (book symbols cells counts answer
+    : List ℕ) (number : ℕ) (cells′ counts′ answer′ : List ℕ) : Type 0 where
   pub call :
-      Called {Buffers = List ℕ} (LentCell cells answer) (SetOutcome (FirstOutcome book symbols) cells) cells answer
-      number cells′ answer′
+      Called {Buffers = List ℕ × List ℕ} (LentCell cells counts answer)
+      (λ a after. SetOutcome (FirstOutcome book symbols) cells counts a (after .0) (after .1)) (cells, counts) answer
+      number (cells′, counts′) answer′

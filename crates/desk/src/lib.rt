@@ -1,6 +1,6 @@
 // The functions that C programs call. The number is returned, and place, detail, steps and expected set go into a lent
-// buffer; where that is too short, or the buffer for a set has no cell, the answer is 7 before all else, and nothing
-// changes.
+// buffer; where that is too short, or the buffer for a set or for a number has no cell, the answer is 7 before all else,
+// and nothing changes.
 ghost use Rattle.desk.specs.Desk.{JudgeCall, SetsCall, BuildCall, RunCall, ExpandCall, LookaheadCall, FirstCall};
 ghost use Rattle.desk.specs.Desk.{PatternsCall, CutCall, CutWithCall};
 use crate::words::ANSWER_SIZE;
@@ -212,58 +212,69 @@ pub extern "C" fn desk_build(
     built.number
 }
 
-// The lookahead of a production into the first cell of the lent buffer.
+// The lookahead of a production, and how many leading symbols of its right side can vanish, each into the first cell of
+// its lent buffer.
 #[no_mangle]
 pub extern "C" fn desk_lookahead(
     book: &[u8],
     production: u64,
     set: &mut [u64],
+    count: &mut [u64],
     answer: &mut [u8],
 ) -> u32
     ensures { λ r. ⌜ LookaheadCall
         (now (book .entry))
         production
         (now (set .entry))
+        (now (count .entry))
         (now (answer .entry))
         r
         (now (set .exit))
+        (now (count .exit))
         (now (answer .exit)) ⌝ }
 {
-    if set.len() < 1 || answer.len() < ANSWER_SIZE {
+    if set.len() < 1 || count.len() < 1 || answer.len() < ANSWER_SIZE {
         return ROOM;
     }
     let found = follow::lookahead(book, production);
     let ahead = found.set;
     let looked = found.answer;
+    let reach = found.vanishing;
     set[0] = ahead.word;
+    count[0] = reach;
     write_answer(answer, looked);
     looked.number
 }
 
-// FIRST of a symbol string into the first cell of the lent buffer.
+// FIRST of a symbol string, and how many of its leading symbols can vanish, each into the first cell of its lent buffer.
 #[no_mangle]
 pub extern "C" fn desk_first_of(
     book: &[u8],
     symbols: &[u8],
     set: &mut [u64],
+    count: &mut [u64],
     answer: &mut [u8],
 ) -> u32
     ensures { λ r. ⌜ FirstCall
         (now (book .entry))
         (now (symbols .entry))
         (now (set .entry))
+        (now (count .entry))
         (now (answer .entry))
         r
         (now (set .exit))
+        (now (count .exit))
         (now (answer .exit)) ⌝ }
 {
-    if set.len() < 1 || answer.len() < ANSWER_SIZE {
+    if set.len() < 1 || count.len() < 1 || answer.len() < ANSWER_SIZE {
         return ROOM;
     }
     let found = first::first_of(book, symbols);
     let begins = found.set;
     let begun = found.answer;
+    let leading = found.vanishing;
     set[0] = begins.word;
+    count[0] = leading;
     write_answer(answer, begun);
     begun.number
 }

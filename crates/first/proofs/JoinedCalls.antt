@@ -8,6 +8,7 @@ use native.Mathlib.Omega.{arith}
 use lib.ListN.{length}
 use Rattle.grammar.specs.declared.Symbol.{Symbol}
 use Rattle.grammar.specs.Grammar.{Form, Grammar, Every, nothing, each, Known, First}
+use Rattle.grammar.specs.Vanishing.{Vanishes}
 use Rattle.sets.specs.Sets.{emptyString, joined}
 use Rattle.sets.specs.Calls.{number}
 use Rattle.sets.proofs.Promise.{exactly-unique}
@@ -26,11 +27,11 @@ use Rattle.first.proofs.SetAnswers.{mapped-at, images-unique}
 use Rattle.first.proofs.Joined.{first-joined}
 
 -- the bytes spell the form in the grammar
-abbrev SpellsIn : Grammar → List ℕ → Form → Type 0
+abbrev pub SpellsIn : Grammar → List ℕ → Form → Type 0
 SpellsIn g symbols α = map (symbolOf (g .tokens) (g .nonterminals)) symbols ≡ map some α
 
 -- a string that spells a form has symbols of the grammar only
-spelled-known : {g : Grammar} (symbols : List ℕ) (α : Form) → SpellsIn g symbols α → Every (Known g) α
+pub spelled-known : {g : Grammar} (symbols : List ℕ) (α : Form) → SpellsIn g symbols α → Every (Known g) α
 spelled-known [] [] e = nothing
 spelled-known [] (s ∷ α) e = let bad : _≡_ {A = ℕ} 0 1 = cc in absurd (omega arith)
 spelled-known (b ∷ symbols) [] e = let bad : _≡_ {A = ℕ} 0 1 = cc in absurd (omega arith)
@@ -39,12 +40,13 @@ spelled-known {g} (b ∷ symbols) (s ∷ α) e =
     each (symbolOf-known b here .1) (spelled-known symbols α (cc))
 
 -- the call is done with FIRST of the form that the string spells
-record ServedFirst (book symbols : List ℕ) (r : SetAnswer) : Type 0 where
-  grammar : Grammar
-  form : Form
-  serves : Serves book grammar
-  spelled : SpellsIn grammar symbols form
-  is : SetIs (First grammar form) r
+pub record ServedFirst (book symbols : List ℕ) (r : SetAnswer) : Type 0 where
+  pub grammar : Grammar
+  pub form : Form
+  pub serves : Serves book grammar
+  pub spelled : SpellsIn grammar symbols form
+  pub is : SetIs (First grammar form) r
+  pub leading : Vanishes grammar form (r .vanishing)
 
 no-set-number : {a : Answer} {r : SetAnswer} → NoSet a r → r .answer .number ≡ a .number
 no-set-number h = ap (λ (x : Answer). x .number) (h .answer)
@@ -54,13 +56,13 @@ unfolding done
 set-done h = ap (λ (x : Answer). x .number) (h .answer)
 
 module _ {book symbols : List ℕ} {r : SetAnswer} where
-  served-first : FirstOutcome book symbols r → r .answer .number ≡ 0 → ServedFirst book symbols r
+  pub served-first : FirstOutcome book symbols r → r .answer .number ≡ 0 → ServedFirst book symbols r
   unfolding refusal
   served-first (calls.refused x h) e = absurd (omega (arith, refuses-number x, no-set-number h))
   served-first (calls.too-long s l h) e = absurd (omega (arith, no-set-number h))
   served-first (calls.strange s l k h) e = absurd (omega (arith, no-set-number h))
-  served-first (calls.served {g = g} {α = α} s l k h) e =
-      record { grammar = g; form = α; serves = s; spelled = k; is = h }
+  served-first (calls.served {g = g} {α = α} s l k h v) e =
+      record { grammar = g; form = α; serves = s; spelled = k; is = h; leading = v }
 
   -- a short string that spells a form is served
   first-served : {g : Grammar} {α : Form}
@@ -75,7 +77,7 @@ module _ {book symbols : List ℕ} {r : SetAnswer} where
       let there = subst (λ (x : Grammar). SpellsIn x symbols α) (serves-unique s s′) spelled in
       let (x, e) = mapped-at (symbolOf (g′ .tokens) (g′ .nonterminals)) symbols α there i (k .inside) in
       absurd (k .stranger x e)
-  first-served {g} {α} s short spelled (calls.served {g = g′} {α = α′} s′ l k h) =
+  first-served {g} {α} s short spelled (calls.served {g = g′} {α = α′} s′ l k h v) =
       let same : g′ ≡ g = serves-unique s′ s in
       let there : SpellsIn g symbols α′ = subst (λ (x : Grammar). SpellsIn x symbols α′) same k in
       let form : α′ ≡ α = images-unique α′ α (sym there ∙ spelled) in

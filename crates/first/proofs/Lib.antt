@@ -11,11 +11,13 @@ pub mod SetAnswers
 pub mod Coming
 pub mod Joined
 pub mod JoinedCalls
+pub mod WholeCalls
 pub mod Spelled
 pub mod Rounds
 pub mod Found
 pub mod Judged
 pub mod SymbolStrings
+pub mod Vanishing
 pub mod Served
 pub mod Worked
 pub mod Examples

@@ -31,8 +31,10 @@ pub use Rattle.first.proofs.Trail.{every-symbol-fits, join-stops, singl
 pub use Rattle.first.proofs.Trail.{trail-fits}
 pub use Rattle.first.proofs.Additions.{sound-none, sound-stored, sound-united}
 pub use Rattle.first.proofs.SetAnswers.{first-outcome-unique, first-worked-out-unique, no-set-unique}
-pub use Rattle.first.proofs.SetAnswers.{set-is-unique}
+pub use Rattle.first.proofs.SetAnswers.{SetFor, set-for-unique}
+pub use Rattle.first.proofs.Vanishing.{vanishing-is}
 pub use Rattle.first.proofs.Served.{first-given, first-judged, first-none, first-sized}
 pub use Rattle.first.proofs.Examples.{house-first-sets}
 pub use Rattle.first.proofs.Joined.{trail-append, trail-joined, at-empty, first-joined}
 pub use Rattle.first.proofs.JoinedCalls.{first-of-joined, first-of-split}
+pub use Rattle.first.proofs.WholeCalls.{first-of-whole}

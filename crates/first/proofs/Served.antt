@@ -7,9 +7,7 @@ use native.Mathlib.Decide.{ℕ-discrete}
 use native.Mathlib.Omega.{arith}
 use lib.ListN.{length, replicate, length-replicate}
 use Rattle.grammar.specs.Grammar.{Grammar}
-use Rattle.sets.specs.declared.Set.{Set}
 use Rattle.sets.specs.Sets.{emptyString, only}
-use Rattle.sets.specs.Calls.{number}
 use Rattle.answers.specs.declared.Answer.{Answer}
 use Rattle.answers.specs.Answers.{refusal}
 use Rattle.answers.specs.Limits.{mostNonterminals}
@@ -20,13 +18,15 @@ use Rattle.book.specs.Judging as judging
 use Rattle.book.proofs.Promise.{judged-refused, refuses-not-serves, serves-unique}
 use Rattle.first.specs.declared.SetAnswer.{SetAnswer}
 use Rattle.first.specs.Numbers.{FirstFamily}
-use Rattle.first.specs.Trail.{trail, formOf}
+use Rattle.first.specs.declared.forms.Trail.{Trail}
+use Rattle.first.specs.Trail.{Trailed, formOf}
 use Rattle.first.specs.Forms.{Given}
 use Rattle.first.specs.Steps.{FirstFound}
 use Rattle.first.specs.Checks.{Stranger, Unspelled, too-long, strange, SymbolString, Spelled}
 use Rattle.first.specs.Calls.{FirstWorkedOut, NoSet, FirstStranger, FirstOutcome}
 use Rattle.first.specs.Calls as calls
 use Rattle.first.proofs.Closed.{first-is, family-at}
+use Rattle.first.proofs.Vanishing.{vanishing-is}
 use Rattle.first.proofs.SymbolStrings.{Spells, spells, something}
 use Rattle.first.proofs.Judged.{given-served, given-limits, given-indexes, judged-given, Ready, CheckedBook, refuses, stopped}
 use Rattle.first.proofs.Judged.{ready, judged-checked, checked-ready, ready-number}
@@ -109,10 +109,13 @@ module _ {book : List ℕ} {reading : Reading} {symbols : List ℕ} {a : Answer}
   ready-spells : Spells (x .given .grammar) symbols
   ready-spells = spells (given-limits (x .given)) symbols (λ i h. rw (← (given-served (x .given) .tokens), ← (given-served (x .given) .nonterminals)) (x .good .symbol i h))
 
-  pub first-served : {set : Set} {firsts : List ℕ}
+  pub first-served : {begun : Trail} {firsts : List ℕ}
       → FirstWorkedOut book reading firsts
-      → number set ≡ trail firsts (only emptyString) (formOf symbols)
-      → FirstOutcome book symbols (record { answer = a; set = set })
-  first-served worked e =
+      → Trailed firsts (only emptyString) (formOf symbols) begun
+      → FirstOutcome book symbols (record { answer = a; set = begun .set; vanishing = begun .vanishing })
+  first-served worked t =
+      let limits = given-limits (x .given) in
+      let first = family-at (first-given worked (x .given)) in
       calls.served {α = ready-spells .form} (x .given .serves) (x .good .short) (ready-spells .spelled)
-      (record { answer = x .is; holds = rw (e, ready-spells .is) (first-is (given-limits (x .given)) (family-at (first-given worked (x .given))) (ready-spells .known)) })
+      (record { answer = x .is; holds = rw (t .set, ready-spells .is) (first-is limits first (ready-spells .known)) })
+      (rw (t .leading, ready-spells .is) (vanishing-is limits first (ready-spells .known)))

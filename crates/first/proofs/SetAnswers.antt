@@ -8,6 +8,8 @@ use native.Mathlib.Decide.{decLt}
 use native.Mathlib.Omega.{arith}
 use lib.ListN.{length, getD, replicate}
 use Rattle.grammar.specs.Grammar.{Form, Grammar, Member, Every, nothing, each, Known, First}
+use Rattle.grammar.specs.Vanishing.{Vanishes}
+use Rattle.grammar.proofs.Vanishing.{vanishes-unique}
 use Rattle.sets.specs.Calls.{number}
 use Rattle.sets.proofs.Promise.{exactly-unique, number-unique}
 use Rattle.answers.specs.declared.Answer.{Answer}
@@ -26,14 +28,22 @@ use Rattle.first.specs.Calls as calls
 use Rattle.first.proofs.Unique.{family-unique}
 use Rattle.first.proofs.OfBook.{OfBook, of-refusal, of-grammar, of-book-unique}
 
-set-answer-same : (r s : SetAnswer) → r .answer ≡ s .answer → r .set ≡ s .set → r ≡ s
-set-answer-same r s p q = λ i. record { answer = p i; set = q i }
+set-answer-same : (r s : SetAnswer) → r .answer ≡ s .answer → r .set ≡ s .set → r .vanishing ≡ s .vanishing → r ≡ s
+set-answer-same r s p q n = λ i. record { answer = p i; set = q i; vanishing = n i }
 
 pub no-set-unique : (a : Answer) → Unique (NoSet a)
-no-set-unique a r s h k = set-answer-same r s (h .answer ∙ sym (k .answer)) (h .empty ∙ sym (k .empty))
+no-set-unique a r s h k = set-answer-same r s (h .answer ∙ sym (k .answer)) (h .empty ∙ sym (k .empty)) (h .none ∙ sym (k .none))
 
-pub set-is-unique : {P : Member → Type 0} → Unique (SetIs P)
-set-is-unique r s h k = set-answer-same r s (h .answer ∙ sym (k .answer)) (number-unique (exactly-unique (number (r .set)) (number (s .set)) (h .holds) (k .holds)))
+-- a set that is done, and the number of a form
+pub record SetFor (P : Member → Type 0) (g : Grammar) (α : Form) (r : SetAnswer) : Type 0 where
+  pub is : SetIs P r
+  pub leading : Vanishes g α (r .vanishing)
+
+pub set-for-unique : {P : Member → Type 0} {g : Grammar} {α : Form} → Unique (SetFor P g α)
+set-for-unique {α = α} r s h k =
+    set-answer-same r s (h .is .answer ∙ sym (k .is .answer))
+    (number-unique (exactly-unique (number (r .set)) (number (s .set)) (h .is .holds) (k .is .holds)))
+    (vanishes-unique α (r .vanishing) (s .vanishing) (h .leading) (k .leading))
 
 pub stranger-unique : {g : Grammar} {symbols : List ℕ} {i j : ℕ}
     → FirstStranger g symbols i
@@ -89,7 +99,7 @@ module _ (book symbols : List ℕ) where
     short : length symbols ≤ mostSymbols
     form : Form
     spelled : map (symbolOf (g .tokens) (g .nonterminals)) symbols ≡ map some form
-    is : SetIs (First g form) r
+    is : SetFor (First g form) g form r
 
   strange-unique : (g : Grammar) → Unique (Strange g)
   strange-unique g r s a b = no-set-unique (refusal symbol (a .index) 0) r s (a .is) (subst (λ (i : ℕ). NoSet (refusal symbol i 0) s) (stranger-unique (b .stranger) (a .stranger)) (b .is))
@@ -97,7 +107,7 @@ module _ (book symbols : List ℕ) where
   begun-unique : (g : Grammar) → Unique (Begun g)
   begun-unique g r s a b =
       let same : b .form ≡ a .form = images-unique (b .form) (a .form) (sym (b .spelled) ∙ a .spelled) in
-      set-is-unique r s (a .is) (subst (λ (α : Form). SetIs (First g α) s) same (b .is))
+      set-for-unique r s (a .is) (subst (λ (α : Form). SetFor (First g α) g α s) same (b .is))
 
   strange-not-begun : (g : Grammar) (r s : SetAnswer) → Strange g r → Begun g s → ⊥
   strange-not-begun g r s a b =
@@ -112,7 +122,8 @@ module _ (book symbols : List ℕ) where
   first-of-book (calls.refused r h) = of-refusal r h
   first-of-book (calls.too-long s l h) = of-grammar s (inl (record { long = l; is = h }))
   first-of-book (calls.strange {i = i} s l k h) = of-grammar s (inr (inl (record { short = l; index = i; stranger = k; is = h })))
-  first-of-book (calls.served {α = α} s l k h) = of-grammar s (inr (inr (record { short = l; form = α; spelled = k; is = h })))
+  first-of-book (calls.served {α = α} s l k h v) =
+      of-grammar s (inr (inr (record { short = l; form = α; spelled = k; is = record { is = h; leading = v } })))
 
   pub first-outcome-unique : {r s : SetAnswer} → FirstOutcome book symbols r → FirstOutcome book symbols s → r ≡ s
   first-outcome-unique {r} {s} o p =

@@ -1,23 +1,28 @@
 -- What FIRST promises, one page: each theorem under the sentence that it proves.
 use mathlib.Core.Path.{_≡_}
+use mathlib.Core.Bool.{true}
+use mathlib.Core.Logic.{_↔_}
 use mathlib.Core.List.{List, [], _∷_, _++_}
 use mathlib.Core.Option.{Option}
 use Prim.Native.Nat.{ℕ, _^_, _≤_, _<_}
 use lib.ListN.{length, take, getD}
 use Rattle.grammar.specs.declared.Symbol.the-variants.{Nonterminal}
 use Rattle.grammar.specs.Grammar.{Form, Grammar, Column, Member, Every, Known, Rule, First, Useful}
+use Rattle.grammar.specs.Vanishing.{Vanishes}
 use Rattle.grammar.specs.Machine.{Exact, Continues}
 use Rattle.grammar.proofs.Next.{ConsumesAll}
-use Rattle.sets.specs.Sets.{width, endMark, emptyString, only, united, joined}
-use Rattle.sets.specs.Calls.{setAt, stored}
+use Rattle.sets.specs.Sets.{width, endMark, emptyString, only, united, joined, member}
+use Rattle.sets.specs.Calls.{setAt, stored, number}
 use Rattle.answers.specs.Limits.{mostSymbols}
 use Rattle.reader.specs.Book.{Limits}
 use Rattle.book.specs.declared.Reading.{Reading}
 use Rattle.first.specs.declared.SetAnswer.{SetAnswer}
 use Rattle.first.specs.Numbers.{IsSet, Sets, FirstSets, FamilyOf}
-use Rattle.first.specs.Trail.{trail, FirstSound, FirstClosed}
+use Rattle.first.specs.declared.forms.Trail.{Trail}
+use Rattle.first.specs.Trail.{trail, vanishing, Trailed, FirstSound, FirstAt, FirstClosed}
 use Rattle.first.specs.Calls.{FirstWorkedOut, FirstResult, FirstOutcome}
 use Rattle.first.specs.Joined.{FirstJoined}
+use Rattle.first.proofs.Trail as trails
 use Rattle.first.proofs.Additions as additions
 use Rattle.first.proofs.Closed as closed
 use Rattle.first.proofs.Coming as coming
@@ -25,6 +30,8 @@ use Rattle.first.proofs.Unique as unique
 use Rattle.first.proofs.SetAnswers as answers
 use Rattle.first.proofs.Joined as joins
 use Rattle.first.proofs.JoinedCalls as calls
+use Rattle.first.proofs.WholeCalls as whole
+use Rattle.first.proofs.Vanishing as leading
 
 module _ {g : Grammar} (limits : Limits g) where
   -- each single addition to FIRST is sound
@@ -63,6 +70,14 @@ module _ {g : Grammar} (limits : Limits g) where
       → IsSet (trail xs (only endMark) σ) (Continues g u)
   next-set-is sets exact useful h = coming.next-set-is limits (closed.sets-at sets) exact useful h
 
+  -- and how many of its leading symbols can vanish is told by their sets
+  pub vanishing-is : {fs : List ℕ}
+      → FirstAt g fs
+      → {α : Form}
+      → Every (Known g) α
+      → Vanishes g α (vanishing fs α)
+  vanishing-is = leading.vanishing-is limits
+
   -- FIRST of two strings put together is the join of their FIRST sets
   pub first-joined : (α β : Form) {x y : ℕ}
       → Every (Known g) α
@@ -99,6 +114,13 @@ module _ {book xs ys : List ℕ} {r s t : SetAnswer} where
       → (r .answer .number ≡ 0) × (s .answer .number ≡ 0)
   first-of-split = calls.first-of-split
 
+-- FIRST of a string that is done has the empty string exactly if the number is that of all its symbols
+pub first-of-whole : {book symbols : List ℕ} {r : SetAnswer}
+    → FirstOutcome book symbols r
+    → r .answer .number ≡ 0
+    → (member emptyString (number (r .set)) ≡ true) ↔ (r .vanishing ≡ length symbols)
+first-of-whole = whole.first-of-whole
+
 module _ {g : Grammar} {P : ℕ → Member → Type 0} {xs ys : List ℕ} where
   -- the sets of a grammar are determined, in a list of their own
   pub sets-unique : Sets g P xs → Sets g P ys → xs ≡ ys
@@ -108,7 +130,11 @@ module _ {g : Grammar} {P : ℕ → Member → Type 0} {xs ys : List ℕ} where
   pub family-unique : FamilyOf g P xs → FamilyOf g P ys → xs ≡ ys
   family-unique = unique.family-unique xs ys
 
--- any two outcomes that a promise allows of the same inputs are equal: of FIRST of a symbol string
+-- any two outcomes that a promise allows of the same inputs are equal: of the trail of a form
+pub trailed-unique : {fs : List ℕ} {k : ℕ} {α : Form} {r s : Trail} → Trailed fs k α r → Trailed fs k α s → r ≡ s
+trailed-unique {fs} {k} {α} {r} {s} = trails.trailed-unique fs k α r s
+
+-- of FIRST of a symbol string
 pub first-outcome-unique : {book symbols : List ℕ} {r s : SetAnswer}
     → FirstOutcome book symbols r
     → FirstOutcome book symbols s

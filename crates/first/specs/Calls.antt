@@ -1,5 +1,5 @@
 -- What working out FIRST and FIRST of a symbol string answer, for every book.
--- Document 01, "Refusals and their numbers" and "Sets and table".
+-- Document 01, "Refusals and their numbers" and "Sets and table"; document 02, W5.
 use mathlib.Core.Path.{_≡_}
 use mathlib.Core.Logic.{_≢_}
 use mathlib.Core.List.{List, map}
@@ -8,6 +8,7 @@ use Prim.Native.Nat.{ℕ, _<_, _≤_}
 use lib.ListN.{length, getD, replicate}
 use Rattle.grammar.specs.declared.Symbol.{Symbol}
 use Rattle.grammar.specs.Grammar.{Form, Grammar, Member, First}
+use Rattle.grammar.specs.Vanishing.{Vanishes}
 use Rattle.sets.specs.Calls.{number}
 use Rattle.answers.specs.declared.Answer.{Answer}
 use Rattle.answers.specs.Answers.{done, refusal, noSet}
@@ -32,7 +33,7 @@ pub data FirstWorkedOut (book : List ℕ) : Reading → List ℕ → Type 0 wher
 abbrev pub FirstResult : Type 0
 FirstResult = Reading × List ℕ
 
--- the set of an answer that is done; 0 with a refusal
+-- the set of an answer that is done; set and number are 0 with a refusal
 pub record SetIs (P : Member → Type 0) (r : SetAnswer) : Type 0 where
   pub answer : r .answer ≡ done 0
   pub holds : IsSet (number (r .set)) P
@@ -40,6 +41,7 @@ pub record SetIs (P : Member → Type 0) (r : SetAnswer) : Type 0 where
 pub record NoSet (a : Answer) (r : SetAnswer) : Type 0 where
   pub answer : r .answer ≡ a
   pub empty : r .set ≡ noSet
+  pub none : r .vanishing ≡ 0
 
 -- the bytes before index i are symbols of the grammar, that at i is not
 pub record FirstStranger (g : Grammar) (symbols : List ℕ) (i : ℕ) : Type 0 where
@@ -49,7 +51,7 @@ pub record FirstStranger (g : Grammar) (symbols : List ℕ) (i : ℕ) : Type 0 w
       → j < i
       → (s : Symbol) × (symbolOf (g .tokens) (g .nonterminals) (getD symbols j 0) ≡ some s)
 
--- FIRST of a symbol string
+-- FIRST of a symbol string, and how many of its leading symbols can vanish
 pub data FirstOutcome (book symbols : List ℕ) (r : SetAnswer) : Type 0 where
   refused : {a : Answer}
       → Refuses book a
@@ -71,4 +73,5 @@ pub data FirstOutcome (book symbols : List ℕ) (r : SetAnswer) : Type 0 where
       → length symbols ≤ mostSymbols
       → map (symbolOf (g .tokens) (g .nonterminals)) symbols ≡ map some α
       → SetIs (First g α) r
+      → Vanishes g α (r .vanishing)
       → FirstOutcome book symbols r

@@ -1,16 +1,19 @@
--- What a form can begin with, as a number, going on with another set where all of it vanishes; and what the passes that
--- work out FIRST carry. Document 01, "Sets and table": FIRST and the join of its symbols' sets.
+-- What a form can begin with, as a number, going on with another set where all of it vanishes; how many of its leading
+-- symbols do; and what the passes that work out FIRST carry. Document 01, "Sets and table": FIRST and the join of its
+-- symbols' sets; document 02, W5.
 use mathlib.Core.Path.{_≡_}
 use mathlib.Core.Bool.{true, false}
 use mathlib.Core.List.{List, [], _∷_, map}
-use Prim.Native.Nat.{ℕ, _<_}
+use Prim.Native.Nat.{ℕ, suc, _<_}
 use lib.Dec.{ltb}
 use lib.ListN.{getD}
 use Rattle.grammar.specs.declared.Symbol.{Symbol}
 use Rattle.grammar.specs.declared.Symbol.the-variants.{Token, Nonterminal}
 use Rattle.grammar.specs.Grammar.{Form, Grammar, Member, Rule}
 use Rattle.sets.specs.Sets.{width, emptyString, member, Subset, only, joined}
+use Rattle.sets.specs.Calls.{number}
 use Rattle.reader.specs.Fields.{symbolOfByte}
+use Rattle.first.specs.declared.forms.Trail.{Trail}
 use Rattle.first.specs.Numbers.{At, IsSet, FirstOfNonterminal}
 
 -- the set of a token alone; a number past the width has no place in a set
@@ -26,6 +29,16 @@ symbolSet fs (Nonterminal A) = getD fs A 0
 unfoldable pub trail : List ℕ → ℕ → Form → ℕ
 trail fs k [] = k
 trail fs k (s ∷ α) = joined emptyString (symbolSet fs s) (trail fs k α)
+
+-- how many leading symbols of a form have sets with the empty string
+unfoldable pub vanishing : List ℕ → Form → ℕ
+vanishing fs [] = 0
+vanishing fs (s ∷ α) = elim (member emptyString (symbolSet fs s)) [ true ↦ suc (vanishing fs α) | false ↦ 0 ]
+
+-- both of a form, as they are worked out
+pub record Trailed (fs : List ℕ) (k : ℕ) (α : Form) (r : Trail) : Type 0 where
+  pub set : number (r .set) ≡ trail fs k α
+  pub leading : r .vanishing ≡ vanishing fs α
 
 -- the form that bytes stand for
 abbrev pub formOf : List ℕ → Form

@@ -21,7 +21,7 @@ fn first_step(book: &[u8], place: u16, first: &mut [u64]) -> bool
     let from = at + SYMBOLS;
     let end = from + book[at + LENGTH] as usize;
     let begun = trail_of(&book[from..end], first, single(EMPTY_STRING));
-    unite(first, book[at + LEFT] as usize, begun)
+    unite(first, book[at + LEFT] as usize, begun.set)
 }
 
 // Each record once, in order, and whether that changed nothing.

@@ -17,19 +17,21 @@ pub mod families;
 mod first;
 pub mod forms;
 
-// An answer with its set: a lookahead, or FIRST of a symbol string.
+// An answer with its set, a lookahead or FIRST of a symbol string, and how many leading symbols can vanish.
 pub struct SetAnswer {
     pub answer: Answer,
     pub set: Set,
+    pub vanishing: u64,
 }
 
-// With a refusal the set is 0.
+// With a refusal the set and the number are 0.
 pub fn no_set(answer: Answer) -> SetAnswer
     ensures { λ r. ⌜ NoSet answer r ⌝ }
 {
     SetAnswer {
         answer,
         set: none(),
+        vanishing: 0,
     }
 }
 
@@ -45,7 +47,7 @@ pub fn find_first(book: &[u8], first: &mut [u64; 64]) -> Reading
     reading
 }
 
-// FIRST of a symbol string.
+// FIRST of a symbol string, and how many of its leading symbols can vanish.
 pub fn first_of(book: &[u8], symbols: &[u8]) -> SetAnswer
     ensures { λ r. ⌜ FirstOutcome (now (book .entry)) (now (symbols .entry)) r ⌝ }
 {
@@ -56,6 +58,11 @@ pub fn first_of(book: &[u8], symbols: &[u8]) -> SetAnswer
     if answer.number != DONE {
         return no_set(answer);
     }
-    let set = trail_of(symbols, &begins, single(EMPTY_STRING));
-    SetAnswer { answer, set }
+    let begun = trail_of(symbols, &begins, single(EMPTY_STRING));
+    let set = begun.set;
+    SetAnswer {
+        answer,
+        set,
+        vanishing: begun.vanishing as u64,
+    }
 }

@@ -18,8 +18,9 @@ use Rattle.book.specs.Judging.{refusing, indexOf}
 use Rattle.grammar.proofs.Rules.{below-rule}
 use Rattle.first.specs.Numbers.{FirstSets, FirstFamily}
 use Rattle.first.specs.declared.SetAnswer.{SetAnswer}
-use Rattle.first.specs.Calls.{SetIs, NoSet}
-use Rattle.first.proofs.Promise.{sets-unique, family-unique, OfBook, of-refusal, of-grammar, of-book-unique, no-set-unique, set-is-unique}
+use Rattle.first.specs.Calls.{NoSet}
+use Rattle.first.proofs.Promise.{sets-unique, family-unique, OfBook, of-refusal, of-grammar, of-book-unique, no-set-unique}
+use Rattle.first.proofs.Promise.{SetFor, set-for-unique}
 use Rattle.follow.specs.Families.{FollowSets, FollowFamily, Lookaheads}
 use Rattle.follow.specs.Calls.{SetsRoom, no-first, no-follow, SetsFit, SetsOutcome, SetsResult, LookaheadOutcome}
 use Rattle.follow.specs.Calls as calls
@@ -124,17 +125,18 @@ module _ (book : List ℕ) (production : ℕ) where
     left : ℕ
     right : Form
     rule : Rule g production left right
-    is : SetIs (Lookahead g left right) r
+    is : SetFor (Lookahead g left right) g right r
 
   looked-unique : (g : Grammar) → Unique (Looked g)
   looked-unique g r s a b =
       let (left, right) = rule-same (b .rule) (a .rule) in
-      set-is-unique r s (a .is) (subst₂ (λ (A : ℕ) (α : Form). SetIs (Lookahead g A α) s) left right (b .is))
+      set-for-unique r s (a .is) (subst₂ (λ (A : ℕ) (α : Form). SetFor (Lookahead g A α) g α s) left right (b .is))
 
   lookahead-of-book : {r : SetAnswer} → LookaheadOutcome book production r → OfBook book NoSet (λ g s. NoProduction g s ⊎ Looked g s) r
   lookahead-of-book (calls.refused r h) = of-refusal r h
   lookahead-of-book (calls.no-production s l h) = of-grammar s (inl (record { past = l; is = h }))
-  lookahead-of-book (calls.served {A = A} {α = α} s rule h) = of-grammar s (inr (record { left = A; right = α; rule = rule; is = h }))
+  lookahead-of-book (calls.served {A = A} {α = α} s rule h v) =
+      of-grammar s (inr (record { left = A; right = α; rule = rule; is = record { is = h; leading = v } }))
 
   pub lookahead-outcome-unique : {r s : SetAnswer} → LookaheadOutcome book production r → LookaheadOutcome book production s → r ≡ s
   lookahead-outcome-unique {r} {s} o p =

@@ -5,10 +5,9 @@ use mathlib.Core.List.{List}
 use Prim.Native.Nat.{ℕ, _≤_, _<_}
 use native.Mathlib.Omega.{arith}
 use native.Mathlib.Decide.{ℕ-discrete}
-use lib.ListN.{length, take, replicate, length-replicate}
+use lib.ListN.{length, take, getD, replicate, length-replicate}
 use Rattle.grammar.specs.Grammar.{Grammar, Member}
-use Rattle.sets.specs.declared.Set.{Set}
-use Rattle.sets.specs.Calls.{number}
+use Rattle.sets.specs.Calls.{setAt}
 use Rattle.answers.specs.declared.Answer.{Answer}
 use Rattle.answers.specs.Answers.{done, refusal}
 use Rattle.answers.specs.Limits.{mostNonterminals, mostProductions}
@@ -20,15 +19,18 @@ use Rattle.reader.specs.Book.{Limits}
 use Rattle.book.specs.Judging.{refusing, indexOf, Judged}
 use Rattle.book.specs.Judging as judging
 use Rattle.book.proofs.Promise.{judged-refused, refuses-not-serves, serves-unique}
+use Rattle.reader.specs.Fields.{leftAt, rightAt}
 use Rattle.first.specs.declared.SetAnswer.{SetAnswer}
+use Rattle.first.specs.declared.forms.Trail.{Trail}
 use Rattle.first.specs.Numbers.{FamilyOf, FirstFamily}
 use Rattle.first.specs.Forms.{Given}
+use Rattle.first.specs.Trail.{Trailed}
 use Rattle.first.specs.Calls.{NoSet, FirstWorkedOut}
 use Rattle.first.proofs.Promise.{family-at, family-taken, left-is, right-is, rule-at, given-served, given-limits, given-indexes}
 use Rattle.first.proofs.Promise.{judged-given, Ready, CheckedBook, refuses, stopped, ready, judged-checked, checked-ready, ready-number}
-use Rattle.first.proofs.Promise.{first-judged, first-sized, first-given, first-none}
+use Rattle.first.proofs.Promise.{first-judged, first-sized, first-given, first-none, vanishing-is}
 use Rattle.follow.specs.Families.{FollowFamily, Lookaheads}
-use Rattle.follow.specs.Walks.{lookaheadOf, FollowFound, AheadFilled, SetsFound}
+use Rattle.follow.specs.Walks.{FollowFound, AheadFilled, SetsFound}
 use Rattle.follow.specs.Checks.{SetsLacking, SetsRoomed, Unnumbered, Numbered}
 use Rattle.follow.specs.Calls.{SetsRoom, no-first, no-follow, SetsFit, SetsOutcome, LookaheadOutcome}
 use Rattle.follow.specs.Calls as calls
@@ -193,15 +195,18 @@ module _ {book : List ℕ} {reading : Reading} {production : ℕ} {a : Answer} (
       go (stopped given (because l)) d no-set = calls.no-production (given .serves) (rw (given-served given .productions) at l) no-set
       go (ready x) d no-set = absurd (ready-number x d)
 
-pub lookahead-served : {book : List ℕ} {reading : Reading} {production : ℕ} {a : Answer} {set : Set} {firsts follows : List ℕ}
+pub lookahead-served : {book : List ℕ} {reading : Reading} {production : ℕ} {a : Answer} {looked : Trail} {firsts follows : List ℕ}
     → SetsFound book reading firsts follows
     → Ready book reading (production < reading .productions) a
-    → number set ≡ lookaheadOf book (reading .places) firsts follows production
-    → LookaheadOutcome book production (record { answer = a; set = set })
-lookahead-served {production = production} found x e =
+    → Trailed firsts (setAt follows (leftAt book (getD (reading .places) production 0))) (rightAt book (getD (reading .places) production 0)) looked
+    → LookaheadOutcome book production (record { answer = a; set = looked .set; vanishing = looked .vanishing })
+lookahead-served {production = production} found x t =
     let given = x .given in
     let index = given-indexes given in
     let (A, α, rule) = rule-at index production (x .good) in
     let (first, follow) = found .found given in
-    let number-is = rw (left-is index rule, right-is index rule) at e in
-    calls.served (given .serves) rule (record { answer = x .is; holds = rw number-is (lookahead-is (given-limits given) (family-at first) (family-at follow) rule) })
+    let trailed = rw (left-is index rule, right-is index rule) at t in
+    let limits = given-limits given in
+    calls.served (given .serves) rule
+    (record { answer = x .is; holds = rw (trailed .set) (lookahead-is limits (family-at first) (family-at follow) rule) })
+    (rw (trailed .leading) (vanishing-is limits (family-at first) (limits .well-formed .right-known rule)))

@@ -1,9 +1,10 @@
 -- What sets and a lookahead answer and leave in the lent buffers, for every book and buffer.
--- Document 01, "Refusals and their numbers" and "Sets and table".
+-- Document 01, "Refusals and their numbers" and "Sets and table"; document 02, W5.
 use mathlib.Core.List.{List}
 use Prim.Native.Nat.{ℕ, _<_, _≤_}
 use lib.ListN.{length}
 use Rattle.grammar.specs.Grammar.{Form, Grammar, Rule, Lookahead}
+use Rattle.grammar.specs.Vanishing.{Vanishes}
 use Rattle.answers.specs.declared.Answer.{Answer}
 use Rattle.answers.specs.Answers.{done, refusal}
 use Rattle.answers.specs.Refusals.{room, firstRoom, followRoom, production}
@@ -46,7 +47,7 @@ pub data SetsOutcome (book first follow : List ℕ) : Answer → List ℕ → Li
 abbrev pub SetsResult : Type 0
 SetsResult = Answer × List ℕ × List ℕ
 
--- the lookahead of a production
+-- the lookahead of a production, and how many leading symbols of its right side can vanish
 pub data LookaheadOutcome (book : List ℕ) (number : ℕ) (r : SetAnswer) : Type 0 where
   refused : {a : Answer}
       → Refuses book a
@@ -61,4 +62,5 @@ pub data LookaheadOutcome (book : List ℕ) (number : ℕ) (r : SetAnswer) : Typ
       → Serves book g
       → Rule g number A α
       → SetIs (Lookahead g A α) r
+      → Vanishes g α (r .vanishing)
       → LookaheadOutcome book number r

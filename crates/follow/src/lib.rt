@@ -39,7 +39,7 @@ fn find_sets(book: &[u8], first: &mut [u64; 64], follow: &mut [u64; 64]) -> Read
     reading
 }
 
-// FIRST and FOLLOW of each nonterminal into the lent buffers.
+// FIRST and FOLLOW of each nonterminal into the lent buffers; how many symbols can vanish is used, and not passed on.
 pub fn sets(book: &[u8], first: &mut [u64], follow: &mut [u64]) -> Answer
     ensures { λ r. ⌜ SetsOutcome (now (book .entry)) (now (first .entry)) (now (follow .entry)) r
         (now (first .exit)) (now (follow .exit)) ⌝ }
@@ -57,7 +57,8 @@ pub fn sets(book: &[u8], first: &mut [u64], follow: &mut [u64]) -> Answer
     answer
 }
 
-// The sets of each nonterminal and the lookahead of each production, all that a table is built from.
+// The sets of each nonterminal and the lookahead of each production, all that a table is built from; how many symbols
+// can vanish is used, and not passed on.
 pub fn work_out(
     book: &[u8],
     first: &mut [u64; 64],
@@ -77,7 +78,8 @@ pub fn work_out(
     reading
 }
 
-// The lookahead of a production.
+// The lookahead of a production, and how many leading symbols of its right side can vanish: all of them exactly where
+// FOLLOW of the left side is added.
 pub fn lookahead(book: &[u8], production: u64) -> SetAnswer
     ensures { λ r. ⌜ LookaheadOutcome (now (book .entry)) production r ⌝ }
 {
@@ -90,6 +92,11 @@ pub fn lookahead(book: &[u8], production: u64) -> SetAnswer
         return no_set(answer);
     }
     let place = place_at(&reading.places, production as usize);
-    let set = lookahead_at(book, place, &begins, &ends);
-    SetAnswer { answer, set }
+    let looked = lookahead_at(book, place, &begins, &ends);
+    let set = looked.set;
+    SetAnswer {
+        answer,
+        set,
+        vanishing: looked.vanishing as u64,
+    }
 }

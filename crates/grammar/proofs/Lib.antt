@@ -25,3 +25,5 @@ pub mod PlainExamples
 pub mod NextExamples
 pub mod Rules
 pub mod Append
+pub mod Vanishing
+pub mod Leading

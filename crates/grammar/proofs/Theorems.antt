@@ -1,18 +1,22 @@
 -- What LL(1) promises, one page: each theorem under the sentence that it proves.
 use mathlib.Core.Path.{_≡_, refl}
+use mathlib.Core.Bool.{cond}
 use mathlib.Core.Logic.{_↔_, _⊎_, _≢_}
 use mathlib.Core.List.{List, [], _∷_, _++_}
 use mathlib.Core.Option.{Option}
-use Prim.Native.Nat.{ℕ, _<_}
-use lib.ListN.{length}
+use Prim.Native.Nat.{ℕ, _<_, _+_, min}
+use lib.Dec.{ltb}
+use lib.ListN.{length, take}
 use Rattle.grammar.specs.declared.Symbol.the-variants.{Token, Nonterminal}
 use Rattle.grammar.specs.Grammar.{Form, spelled, Grammar, Column, token, Derives, itself, Derivable}
 use Rattle.grammar.specs.Grammar.{LeftmostSteps, Rule, Claims}
 use Rattle.grammar.specs.Grammar.{Member, column, empty, First, Leftmost, Complete, Conflict, WellFormed, Useful}
 use Rattle.grammar.specs.Machine.{front, Exact, Run, Accepts, Stopped, Halted, Longest, Continues}
+use Rattle.grammar.specs.Vanishing.{Vanishes}
 use Rattle.grammar.specs.Plain.{Breaks, Plain, LowestBreak}
 use Rattle.grammar.proofs.Leftmost.{leftmost-steps, steps-leftmost, derives-leftmost, leftmost-derives}
 use Rattle.grammar.proofs.Append as append
+use Rattle.grammar.proofs.Vanishing as vanishing
 use Rattle.grammar.proofs.Plain as profile
 use Rattle.grammar.proofs.Unique.{unique-from}
 use Rattle.grammar.proofs.Useful.{useful-all}
@@ -53,6 +57,8 @@ pub use Rattle.grammar.proofs.Next.{next-some, can-come-first, can-come
 pub use Rattle.grammar.proofs.Next.{consumes-run, consumes-derives}
 -- the place of a syntax stop is determined
 pub use Rattle.grammar.proofs.Place.{place-determined}
+-- numbers of leading symbols that can vanish, worked out of the definitions
+pub use Rattle.grammar.proofs.Leading.{leading-numbers}
 
 module _ {g : Grammar} where
   -- a leftmost derivation with its list is the textbook's chain of leftmost steps
@@ -90,6 +96,25 @@ module _ {g : Grammar} where
   -- so a plain grammar has no conflict
   pub plain-no-conflict : Plain g → ¬ Conflict g
   plain-no-conflict = profile.plain-no-conflict
+
+  -- how many leading symbols can vanish is determined
+  pub vanishes-unique : {α : Form} {n m : ℕ} → Vanishes g α n → Vanishes g α m → n ≡ m
+  vanishes-unique {α} {n} {m} = vanishing.vanishes-unique α n m
+
+  -- it is the length exactly if the form can vanish, so that FOLLOW is added to a lookahead
+  pub vanishes-whole : {α : Form} {n : ℕ} → Vanishes g α n → First g α empty ↔ (n ≡ length α)
+  vanishes-whole = vanishing.vanishes-whole
+
+  -- of two forms put together: that of the first, with that of the second added where all of the first can vanish
+  pub vanishes-append : (α β : Form) {n m : ℕ}
+      → Vanishes g α n
+      → Vanishes g β m
+      → Vanishes g (α ++ β) (cond (ltb n (length α)) n (n + m))
+  vanishes-append α β {n} {m} = vanishing.vanishes-append α β n m
+
+  -- of the beginning of a form: as many, but no more than it has symbols
+  pub vanishes-beginning : (k : ℕ) (α : Form) {n : ℕ} → Vanishes g α n → Vanishes g (take k α) (min n k)
+  vanishes-beginning k α {n} = vanishing.vanishes-beginning k α n
 
   module _ {cell : ℕ → Column → Option ℕ} (exact : Exact g cell) where
     -- the machine accepts w with the list ps exactly if ps is the leftmost derivation of w

@@ -18,12 +18,25 @@ fn show_answer(word: &[u8], answer: Answer) {
     io::write_all(STDOUT_FILENO, b"\n");
 }
 
-fn show_set(word: &[u8], n: usize, set: u64) {
+// A set without the end of its line.
+fn begin_set(word: &[u8], n: usize, set: u64) {
     io::write_all(STDOUT_FILENO, word);
     io::write_all(STDOUT_FILENO, b" ");
     io::print_decimal(STDOUT_FILENO, n as u64);
     io::write_all(STDOUT_FILENO, b" ");
     io::print_hex(STDOUT_FILENO, set, 16);
+}
+
+fn show_set(word: &[u8], n: usize, set: u64) {
+    begin_set(word, n, set);
+    io::write_all(STDOUT_FILENO, b"\n");
+}
+
+// A set, and how many leading symbols can vanish.
+fn show_counted(word: &[u8], n: usize, set: u64, vanishing: u64) {
+    begin_set(word, n, set);
+    io::write_all(STDOUT_FILENO, b" ");
+    io::print_decimal(STDOUT_FILENO, vanishing);
     io::write_all(STDOUT_FILENO, b"\n");
 }
 
@@ -41,7 +54,7 @@ fn show_lookaheads(book: &[u8], count: usize) {
     while p < count {
         let found = follow::lookahead(book, p as u64);
         let set = found.set;
-        show_set(b"ahead", p, set.word);
+        show_counted(b"ahead", p, set.word, found.vanishing);
         p += 1;
     }
 }
@@ -53,7 +66,7 @@ fn show_first_of(book: &[u8], p: usize, from: usize, size: usize) {
             let end = from + size;
             let found = first::first_of(book, &book[from..end]);
             let set = found.set;
-            show_set(b"begin", p, set.word);
+            show_counted(b"begin", p, set.word, found.vanishing);
         }
     }
 }

@@ -157,28 +157,30 @@ static void compare_lookaheads(void)
 {
     spoil_book();
     uint64_t production = any_production_number();
-    size_t cells = chance(85) ? 1 : pick(0, 3), size = answer_size();
-    struct lent lent[] = { lend_bytes(size), lend_words(cells) };
+    size_t cells = chance(85) ? 1 : pick(0, 3), counts = chance(85) ? 1 : pick(0, 3), size = answer_size();
+    struct lent lent[] = { lend_bytes(size), lend_words(cells), lend_words(counts) };
     uint32_t wanted = plain_lookahead(book(), in.book_length, production, wanted_words(&lent[1]), cells,
-                                      wanted_bytes(&lent[0]), size);
+                                      wanted_words(&lent[2]), counts, wanted_bytes(&lent[0]), size);
     uint32_t number = desk_lookahead(book(), in.book_length, production, lent_words(&lent[1]), cells,
-                                     lent_bytes(&lent[0]), size);
-    compare(LOOKAHEAD, number, wanted, lent, 2);
+                                     lent_words(&lent[2]), counts, lent_bytes(&lent[0]), size);
+    compare(LOOKAHEAD, number, wanted, lent, 3);
 }
 
 static void compare_firsts_of(void)
 {
     spoil_book();
     make_symbols(&in.shape);
-    size_t cells = chance(85) ? 1 : pick(0, 3), size = answer_size();
-    struct lent lent[] = { lend_bytes(size), lend_words(cells) };
+    size_t cells = chance(85) ? 1 : pick(0, 3), counts = chance(85) ? 1 : pick(0, 3), size = answer_size();
+    struct lent lent[] = { lend_bytes(size), lend_words(cells), lend_words(counts) };
     uint32_t wanted = plain_first_of(book(), in.book_length, string(), in.string_length, wanted_words(&lent[1]),
-                                     cells, wanted_bytes(&lent[0]), size);
+                                     cells, wanted_words(&lent[2]), counts, wanted_bytes(&lent[0]), size);
     uint32_t number = desk_first_of(book(), in.book_length, string(), in.string_length, lent_words(&lent[1]),
-                                    cells, lent_bytes(&lent[0]), size);
-    compare(FIRST_OF, number, wanted, lent, 2);
+                                    cells, lent_words(&lent[2]), counts, lent_bytes(&lent[0]), size);
+    compare(FIRST_OF, number, wanted, lent, 3);
     if (!parts_join())
         show_difference(FIRST_OF, number, wanted, "first of two parts");
+    if (!all_counted())
+        show_difference(FIRST_OF, number, wanted, "all symbols counted");
 }
 
 void compare_case(unsigned long number)

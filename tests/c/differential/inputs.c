@@ -71,8 +71,8 @@ static void make_claimed_table(const struct shape *shape)
     memset(in.table, DESK_NO_PRODUCTION, in.table_length);
     for (size_t p = 0; p < shape->productions; p++) {
         uint8_t answer[DESK_ANSWER_SIZE];
-        uint64_t set;
-        plain_lookahead(in.book, in.book_length, p, &set, 1, answer, sizeof answer);
+        uint64_t set, count;
+        plain_lookahead(in.book, in.book_length, p, &set, 1, &count, 1, answer, sizeof answer);
         uint8_t *row = in.table + shape->production[p].left * columns;
         for (size_t t = 0; t < columns; t++)
             if ((set >> (t == shape->terminals ? 62 : t) & 1) && (row[t] == DESK_NO_PRODUCTION || chance(50)))

@@ -14,6 +14,8 @@ static struct {
     { "room by formula, derived", 0 },
     { "room by formula, not derived", 0 },
     { "first of two parts", 0 },
+    { "all symbols counted", 0 },
+    { "not all symbols counted", 0 },
 };
 
 /* Whether the book is right, its table was built without conflict, and the case's table is that one. */
@@ -60,25 +62,36 @@ bool formula_is_enough(void)
     return number == DESK_DONE || number == DESK_SYNTAX;
 }
 
-/* FIRST of a part of the string, or false where it is refused. */
-static bool first_of_part(size_t from, size_t to, uint64_t *set)
+/* FIRST of a part of the string and how many of its symbols are counted, or false where it is refused. */
+static bool first_of_part(size_t from, size_t to, uint64_t *set, uint64_t *count)
 {
     uint8_t answer[DESK_ANSWER_SIZE];
-    return desk_first_of(in.book, in.book_length, in.string + from, to - from, set, 1, answer, sizeof answer)
+    return desk_first_of(in.book, in.book_length, in.string + from, to - from, set, 1, count, 1, answer, sizeof answer)
         == DESK_DONE;
 }
 
 bool parts_join(void)
 {
-    uint64_t whole, left, right;
+    uint64_t whole, left, right, all, before, behind;
     if (in.string_length > DESK_MOST_SYMBOLS)
         return true;
     size_t cut = pick(0, in.string_length);
-    bool parts = first_of_part(0, cut, &left) && first_of_part(cut, in.string_length, &right);
-    if (!first_of_part(0, in.string_length, &whole))
+    bool parts = first_of_part(0, cut, &left, &before) && first_of_part(cut, in.string_length, &right, &behind);
+    if (!first_of_part(0, in.string_length, &whole, &all))
         return !parts;
     laws[2].met++;
-    return parts && whole == ((left & ~DESK_EMPTY_STRING) | (left & DESK_EMPTY_STRING ? right : 0));
+    return parts && whole == ((left & ~DESK_EMPTY_STRING) | (left & DESK_EMPTY_STRING ? right : 0))
+        && all == (before < cut ? before : before + behind);
+}
+
+bool all_counted(void)
+{
+    uint64_t set, count;
+    if (!first_of_part(0, in.string_length, &set, &count))
+        return true;
+    bool vanishes = (set & DESK_EMPTY_STRING) != 0;
+    laws[vanishes ? 3 : 4].met++;
+    return vanishes == (count == in.string_length);
 }
 
 unsigned print_laws(void)

@@ -8,8 +8,12 @@
 /* Where room by formula speaks of the case, a run with just that room is not refused for room. */
 bool formula_is_enough(void);
 
-/* FIRST of the string is the join of FIRST of two parts of it, which are served like the whole. */
+/* FIRST of the string is the join of FIRST of two parts of it, which are served like the whole; and of its symbols as
+   many can vanish as of the first part and, where all of that can, of the second. */
 bool parts_join(void);
+
+/* FIRST of the string has the empty string exactly if all its symbols are counted as ones that can vanish. */
+bool all_counted(void);
 
 /* Prints how often each law was met, and gives how many were never. */
 unsigned print_laws(void);

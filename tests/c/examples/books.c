@@ -221,3 +221,21 @@ const struct grammar twins = {
     .follow = WORDS(END),
     .built = { DESK_CONFLICT, 0, 1, 0, 0 },
 };
+
+/* V: two nonterminals that can vanish before a token. */
+const struct grammar leading = {
+    .name = "V",
+    .book = BYTES(
+        'G', 'R', 3, 3, 0, 5,
+        'P', 'R', 0, 3, N(1), N(2), 2,
+        'P', 'R', 1, 1, 0,
+        'P', 'R', 1, 0,
+        'P', 'R', 2, 1, 1,
+        'P', 'R', 2, 0),
+    .first = WORDS(0x7, EMPTY | 0x1, EMPTY | 0x2),
+    .follow = WORDS(END, 0x6, 0x4),
+    .table = BYTES(
+        0, 0, 0, NO,
+        1, 2, 2, NO,
+        NO, 3, 4, NO),
+};

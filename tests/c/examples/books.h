@@ -14,7 +14,7 @@ struct grammar {
 };
 
 extern const struct grammar house, house_one, ones, slides, sums, letters, prefix, words;
-extern const struct grammar weak, vanishing, at_end, through, twins;
+extern const struct grammar weak, vanishing, at_end, through, twins, leading;
 
 /* The sizes that the book's header gives. */
 static inline size_t terminals_of(const struct grammar *grammar)

@@ -158,7 +158,8 @@ void check_build(const struct sets_case *c)
     try_answers(build_once, c);
 }
 
-/* A call that answers one set: FIRST of symbols, or where these are null the lookahead of the production. */
+/* A call that answers one set and one number: FIRST of symbols, or where these are null the lookahead of the
+   production. */
 struct set_case {
     const char *name;
     struct slice book;
@@ -166,30 +167,35 @@ struct set_case {
     uint64_t production;
     struct wanted wanted;
     uint64_t set;
+    uint64_t count;
 };
 
-static uint32_t call_for_set(const struct set_case *c, const struct lent *set, size_t cells, const struct lent *answer)
+static uint32_t call_for_set(const struct set_case *c, const struct lent *set, size_t cells,
+                             const struct lent *count, size_t counts, const struct lent *answer)
 {
     const uint8_t *book = lay_slice(BOOK_SLOT, c->book);
     if (!c->symbols)
         return desk_lookahead(book, c->book.length, c->production, lent_words(set), cells,
-                              lent_bytes(answer), answer->bytes);
+                              lent_words(count), counts, lent_bytes(answer), answer->bytes);
     return desk_first_of(book, c->book.length, lay_slice(STRING_SLOT, *c->symbols), c->symbols->length,
-                         lent_words(set), cells, lent_bytes(answer), answer->bytes);
+                         lent_words(set), cells, lent_words(count), counts, lent_bytes(answer), answer->bytes);
 }
 
-static void set_once(const struct set_case *c, size_t cells, size_t answer_size)
+static void set_once(const struct set_case *c, size_t cells, size_t counts, size_t answer_size)
 {
-    struct lent set = lend_words(cells), answer = lend_bytes(answer_size);
-    bool served = cells > 0 && want_served(&answer, &c->wanted);
-    if (served)
+    struct lent set = lend_words(cells), count = lend_words(counts), answer = lend_bytes(answer_size);
+    bool served = cells > 0 && counts > 0 && want_served(&answer, &c->wanted);
+    if (served) {
         want_words(&set, &c->set, 1);
-    uint32_t number = call_for_set(c, &set, cells, &answer);
+        want_words(&count, &c->count, 1);
+    }
+    uint32_t number = call_for_set(c, &set, cells, &count, counts, &answer);
     check_number(c->name, "set number", number, served, &c->wanted);
     check_slice(c->name, "set book", BOOK_SLOT, c->book);
     if (c->symbols)
         check_slice(c->name, "set symbols", STRING_SLOT, *c->symbols);
     check_buffer(c->name, "set cells", &set);
+    check_buffer(c->name, "set counts", &count);
     check_buffer(c->name, "set answer", &answer);
 }
 
@@ -197,15 +203,18 @@ static void set_of_each_size(const void *set_case, size_t answer_size)
 {
     static const size_t sizes[] = { 0, 1, 3 };
     for (size_t i = 0; i < COUNT(sizes); i++)
-        set_once(set_case, sizes[i], answer_size);
+        for (size_t k = 0; k < COUNT(sizes); k++)
+            set_once(set_case, sizes[i], sizes[k], answer_size);
 }
 
-void check_lookahead(const char *name, struct slice book, uint64_t production, struct wanted wanted, uint64_t set)
+void check_lookahead(const char *name, struct slice book, uint64_t production, struct wanted wanted, uint64_t set,
+                     uint64_t count)
 {
-    try_answers(set_of_each_size, &(struct set_case){ name, book, NULL, production, wanted, set });
+    try_answers(set_of_each_size, &(struct set_case){ name, book, NULL, production, wanted, set, count });
 }
 
-void check_first_of(const char *name, struct slice book, struct slice symbols, struct wanted wanted, uint64_t set)
+void check_first_of(const char *name, struct slice book, struct slice symbols, struct wanted wanted, uint64_t set,
+                    uint64_t count)
 {
-    try_answers(set_of_each_size, &(struct set_case){ name, book, &symbols, 0, wanted, set });
+    try_answers(set_of_each_size, &(struct set_case){ name, book, &symbols, 0, wanted, set, count });
 }

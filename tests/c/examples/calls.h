@@ -46,8 +46,11 @@ void check_judge(const char *name, struct slice book, struct wanted wanted);
 void check_sets(const struct sets_case *c);
 void check_build(const struct sets_case *c);
 
-/* These two answer the set given, in a buffer without a cell, of one cell and of three. */
-void check_lookahead(const char *name, struct slice book, uint64_t production, struct wanted wanted, uint64_t set);
-void check_first_of(const char *name, struct slice book, struct slice symbols, struct wanted wanted, uint64_t set);
+/* These two answer the set given and how many leading symbols can vanish, each in a buffer without a cell, of one cell
+   and of three. */
+void check_lookahead(const char *name, struct slice book, uint64_t production, struct wanted wanted, uint64_t set,
+                     uint64_t count);
+void check_first_of(const char *name, struct slice book, struct slice symbols, struct wanted wanted, uint64_t set,
+                    uint64_t count);
 
 #endif

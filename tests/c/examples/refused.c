@@ -52,9 +52,9 @@ static void check_refused(const char *name, struct slice book, uint32_t number, 
     check_sets(&(struct sets_case){ &bare, 64, 64, 0, wanted });
     check_build(&(struct sets_case){ &bare, 0, 0, 0, wanted });
     check_build(&(struct sets_case){ &bare, 64, 64, 4032, wanted });
-    check_lookahead(name, book, UINT64_MAX, wanted, 0);
-    check_first_of(name, book, (struct slice)BYTES(254), wanted, 0);
-    check_first_of(name, book, (struct slice){ zeros, 17 }, wanted, 0);
+    check_lookahead(name, book, UINT64_MAX, wanted, 0, 0);
+    check_first_of(name, book, (struct slice)BYTES(254), wanted, 0, 0);
+    check_first_of(name, book, (struct slice){ zeros, 17 }, wanted, 0, 0);
 }
 
 /* Checks every cut of the house book: the missing byte is at its end. */

@@ -4,7 +4,7 @@
 
 static const struct grammar *const grammars[] = {
     &house, &house_one, &ones, &slides, &sums, &letters, &prefix, &words,
-    &weak, &vanishing, &at_end, &through, &twins,
+    &weak, &vanishing, &at_end, &through, &twins, &leading,
 };
 
 /* What sets answer for the rooms given, the first buffer before the second. */
@@ -59,16 +59,29 @@ static uint64_t columns_of(const struct grammar *grammar, uint64_t production)
     return set;
 }
 
+/* How many symbols of the production's right side can vanish before the first that cannot, by the grammar's FIRST. */
+static uint64_t leading_of(const struct grammar *grammar, uint64_t production)
+{
+    const uint8_t *record = grammar->book.bytes + 6;
+    for (uint64_t p = 0; p < production; p++)
+        record += 4 + record[3];
+    uint64_t count = 0;
+    while (count < record[3] && record[4 + count] >= N(0) && (grammar->first[record[4 + count] - N(0)] & EMPTY))
+        count++;
+    return count;
+}
+
 static void check_lookaheads(const struct grammar *grammar)
 {
     uint64_t productions = productions_of(grammar);
-    uint64_t beyond[] = { productions, productions + 1, 255, 256, UINT64_C(1) << 32, UINT64_MAX };
+    uint64_t beyond[] = { productions, productions + 1, 255, 256, UINT64_C(1) << 32, UINT64_C(1) << 63, UINT64_MAX };
     if (grammar->built.number == DESK_DONE)
         for (uint64_t p = 0; p < productions; p++)
-            check_lookahead(grammar->name, grammar->book, p, (struct wanted)DONE, columns_of(grammar, p));
+            check_lookahead(grammar->name, grammar->book, p, (struct wanted)DONE, columns_of(grammar, p),
+                            leading_of(grammar, p));
     for (size_t i = 0; i < COUNT(beyond); i++)
         check_lookahead(grammar->name, grammar->book, beyond[i],
-                        (struct wanted){ DESK_PRODUCTION, beyond[i], 0, 0, 0 }, 0);
+                        (struct wanted){ DESK_PRODUCTION, beyond[i], 0, 0, 0 }, 0, 0);
 }
 
 static void check_first_of_nonterminals(const struct grammar *grammar)
@@ -76,7 +89,7 @@ static void check_first_of_nonterminals(const struct grammar *grammar)
     for (size_t n = 0; n < nonterminals_of(grammar); n++) {
         uint8_t symbol = (uint8_t)N(n);
         check_first_of(grammar->name, grammar->book, (struct slice){ &symbol, 1 }, (struct wanted)DONE,
-                       grammar->first[n]);
+                       grammar->first[n], grammar->first[n] & EMPTY ? 1 : 0);
     }
 }
 
@@ -88,42 +101,49 @@ void check_grammar(const struct grammar *grammar)
     check_first_of_nonterminals(grammar);
 }
 
-/* Symbol strings of the house grammar, with FIRST of each or its refusal. */
+/* Fifteen times the nonterminal of the house grammar that is `in` and a name, or nothing. */
+#define FIFTEEN N(2), N(2), N(2), N(2), N(2), N(2), N(2), N(2), N(2), N(2), N(2), N(2), N(2), N(2), N(2)
+
+/* Symbol strings of the house grammar, with FIRST of each and how many leading symbols can vanish, or its refusal. */
 static const struct {
     const char *name;
     struct slice symbols;
     struct wanted wanted;
     uint64_t set;
+    uint64_t count;
 } strings[] = {
-    { "empty string", NONE, DONE, EMPTY },
-    { "token", BYTES(3), DONE, 0x8 },
-    { "in or and", BYTES(N(2), N(3)), DONE, EMPTY | 0xc },
-    { "vanishing then a token", BYTES(N(2), N(3), 1), DONE, 0xe },
-    { "not past a token", BYTES(N(2), 0, N(3)), DONE, 0x5 },
-    { "vanishing twice", BYTES(N(3), N(3)), DONE, EMPTY | 0x8 },
-    { "in", BYTES(N(2)), DONE, EMPTY | 0x4 },
-    { "and", BYTES(N(3)), DONE, EMPTY | 0x8 },
-    { "two vanish, a token, one more", BYTES(N(2), N(3), 0, N(2)), DONE, 0xd },
-    { "one vanishes, a token, one more", BYTES(N(3), 0, N(2)), DONE, 0x9 },
-    { "a token, one more", BYTES(0, N(2)), DONE, 0x1 },
-    { "sixteen", BYTES(N(2), N(2), N(2), N(2), N(2), N(2), N(2), N(2), N(2), N(2), N(2), N(2), N(2), N(2), N(2), 1),
-      DONE, 0x6 },
-    { "seventeen", { zeros, 17 }, { 4, 16, 0, 0, 0 }, 0 },
-    { "very many", { zeros, 5000 }, { 4, 16, 0, 0, 0 }, 0 },
-    { "limit before symbol", BYTES(9, 9, 9, 9, 9, 9, 9, 9, 9, 9, 9, 9, 9, 9, 9, 9, 9), { 4, 16, 0, 0, 0 }, 0 },
-    { "no such token", BYTES(0, 4, 5), { 5, 1, 0, 0, 0 }, 0 },
-    { "no such nonterminal", BYTES(0, 1, N(4)), { 5, 2, 0, 0, 0 }, 0 },
-    { "no symbol", BYTES(127), { 5, 0, 0, 0, 0 }, 0 },
-    { "no symbol at the end", BYTES(0, 0, 0, 0, 0, 0, 0, 0, 0, 0, 0, 0, 0, 0, 0, 255), { 5, 15, 0, 0, 0 }, 0 },
+    { "empty string", NONE, DONE, EMPTY, 0 },
+    { "token", BYTES(3), DONE, 0x8, 0 },
+    { "in or and", BYTES(N(2), N(3)), DONE, EMPTY | 0xc, 2 },
+    { "vanishing then a token", BYTES(N(2), N(3), 1), DONE, 0xe, 2 },
+    { "not past a token", BYTES(N(2), 0, N(3)), DONE, 0x5, 1 },
+    { "not past a name", BYTES(N(2), N(1), N(3)), DONE, 0x6, 1 },
+    { "vanishing twice", BYTES(N(3), N(3)), DONE, EMPTY | 0x8, 2 },
+    { "in", BYTES(N(2)), DONE, EMPTY | 0x4, 1 },
+    { "and", BYTES(N(3)), DONE, EMPTY | 0x8, 1 },
+    { "two vanish, a token, one more", BYTES(N(2), N(3), 0, N(2)), DONE, 0xd, 2 },
+    { "one vanishes, a token, one more", BYTES(N(3), 0, N(2)), DONE, 0x9, 1 },
+    { "a token, one more", BYTES(0, N(2)), DONE, 0x1, 0 },
+    { "sixteen", BYTES(FIFTEEN, 1), DONE, 0x6, 15 },
+    { "sixteen that vanish", BYTES(FIFTEEN, N(2)), DONE, EMPTY | 0x4, 16 },
+    { "seventeen that vanish", BYTES(FIFTEEN, N(2), N(2)), { 4, 16, 0, 0, 0 }, 0, 0 },
+    { "seventeen", { zeros, 17 }, { 4, 16, 0, 0, 0 }, 0, 0 },
+    { "very many", { zeros, 5000 }, { 4, 16, 0, 0, 0 }, 0, 0 },
+    { "limit before symbol", BYTES(9, 9, 9, 9, 9, 9, 9, 9, 9, 9, 9, 9, 9, 9, 9, 9, 9), { 4, 16, 0, 0, 0 }, 0, 0 },
+    { "no such token", BYTES(0, 4, 5), { 5, 1, 0, 0, 0 }, 0, 0 },
+    { "no such token behind one that vanishes", BYTES(N(2), 4), { 5, 1, 0, 0, 0 }, 0, 0 },
+    { "no such nonterminal", BYTES(0, 1, N(4)), { 5, 2, 0, 0, 0 }, 0, 0 },
+    { "no symbol", BYTES(127), { 5, 0, 0, 0, 0 }, 0, 0 },
+    { "no symbol at the end", BYTES(0, 0, 0, 0, 0, 0, 0, 0, 0, 0, 0, 0, 0, 0, 0, 255), { 5, 15, 0, 0, 0 }, 0, 0 },
 };
 
 /* FIRST of part of a string of the house grammar. */
 static uint64_t first_of_part(const char *name, struct slice symbols)
 {
     uint8_t answer[DESK_ANSWER_SIZE];
-    uint64_t set = 0;
+    uint64_t set = 0, count = 0;
     check(name, "part served", desk_first_of(house.book.bytes, house.book.length, symbols.bytes, symbols.length,
-                                             &set, 1, answer, sizeof answer) == DESK_DONE);
+                                             &set, 1, &count, 1, answer, sizeof answer) == DESK_DONE);
     return set;
 }
 
@@ -139,17 +159,31 @@ static void check_splits(const char *name, struct slice symbols, uint64_t set)
     }
 }
 
-/* Lookaheads of books that have a conflict and so no table to read them from. */
+/* Lookaheads, of books that have a conflict and so no table to read them from too, and how many leading symbols of the
+   right side can vanish; or refusals. */
 static const struct {
     const char *name;
     const struct grammar *grammar;
     uint64_t production;
+    struct wanted wanted;
     uint64_t set;
+    uint64_t count;
 } lookaheads[] = {
-    { "J 0", &ones, 0, 0x2 },
-    { "J 1", &ones, 1, 0x2 },
-    { "weak 4", &weak, 4, 0x6 },
-    { "at the end 1", &at_end, 1, END },
+    { "J 0", &ones, 0, DONE, 0x2, 0 },
+    { "J 1", &ones, 1, DONE, 0x2, 0 },
+    { "weak 2", &weak, 2, DONE, 0x7, 1 },
+    { "weak 4", &weak, 4, DONE, 0x6, 0 },
+    { "at the end 1", &at_end, 1, DONE, END, 1 },
+    { "H 0", &house, 0, DONE, 0x1, 0 },
+    { "H 1", &house, 1, DONE, 0x2, 0 },
+    { "H 2", &house, 2, DONE, 0x4, 0 },
+    { "H 3", &house, 3, DONE, END | 0x8, 0 },
+    { "H 4", &house, 4, DONE, 0x8, 0 },
+    { "H 5", &house, 5, DONE, END, 0 },
+    { "H 6", &house, 6, { DESK_PRODUCTION, 6, 0, 0, 0 }, 0, 0 },
+    { "V 0", &leading, 0, DONE, 0x7, 2 },
+    { "V 2", &leading, 2, DONE, 0x6, 0 },
+    { "V 4", &leading, 4, DONE, 0x4, 0 },
 };
 
 void check_sets_and_tables(void)
@@ -157,11 +191,12 @@ void check_sets_and_tables(void)
     for (size_t i = 0; i < COUNT(grammars); i++)
         check_grammar(grammars[i]);
     for (size_t i = 0; i < COUNT(strings); i++) {
-        check_first_of(strings[i].name, house.book, strings[i].symbols, strings[i].wanted, strings[i].set);
+        check_first_of(strings[i].name, house.book, strings[i].symbols, strings[i].wanted, strings[i].set,
+                       strings[i].count);
         if (strings[i].wanted.number == DESK_DONE)
             check_splits(strings[i].name, strings[i].symbols, strings[i].set);
     }
     for (size_t i = 0; i < COUNT(lookaheads); i++)
         check_lookahead(lookaheads[i].name, lookaheads[i].grammar->book, lookaheads[i].production,
-                        (struct wanted)DONE, lookaheads[i].set);
+                        lookaheads[i].wanted, lookaheads[i].set, lookaheads[i].count);
 }

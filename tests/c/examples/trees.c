@@ -91,6 +91,8 @@ static void check_sets_of_l(void)
     grammar.first = first;
     grammar.follow = follow;
     check_grammar(&grammar);
+    check_lookahead("L 0", grammar.book, 0, (struct wanted)DONE, END, 2);
+    check_lookahead("L 10", grammar.book, 10, (struct wanted)DONE, END, 0);
 }
 
 /* Checks trees that need 65,535 productions, the most there can be, and twice as many. */

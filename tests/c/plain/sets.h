@@ -23,6 +23,15 @@ static uint64_t first_of_string(const uint64_t *first, const uint8_t *symbols, s
     return set;
 }
 
+/* How many symbols can vanish before the first that cannot. */
+static size_t leading_vanishing(const uint64_t *first, const uint8_t *symbols, size_t length)
+{
+    size_t count = 0;
+    while (count < length && (first_of_symbol(first, symbols[count]) & EMPTY_STRING))
+        count++;
+    return count;
+}
+
 /* Fills the first N cells with FIRST, growing the sets until a whole pass adds nothing. */
 static void find_first(const struct grammar *grammar, uint64_t *first)
 {

@@ -1,4 +1,4 @@
--- The lookahead and its answer are written, or a buffer is too short.
+-- The lookahead, its number and its answer are written, or a buffer is too short.
 use mathlib.Core.Logic.{⊎-elim}
 use borrow.Author.Tests.{ltb-true, ltb-false}
 use native.Mathlib.Omega.{arith}
@@ -10,13 +10,23 @@ use Rattle.desk.proofs.desk_lookahead.Statement.{statement}
 use Rattle.desk.proofs.desk_lookahead.Tie as tie
 
 returns : tie.Need-returns
-returns c = record { call = short (λ lent. ⊎-elim (λ w. omega (arith, lent .cell)) (λ w. omega (arith, answerSize-is, lent .bytes, ltb-true)) (c .if1 .came)) }
+returns c =
+    record {
+      call =
+          short (λ lent.
+          ⊎-elim (λ w. omega (arith, lent .cell))
+          (⊎-elim (λ w. omega (arith, lent .count, ltb-true)) (λ w. omega (arith, answerSize-is, lent .bytes, ltb-true)))
+          (c .if1 .came));
+    }
 
 lookahead-requires : tie.Need-lookahead-requires
 lookahead-requires c κs = search needs
 
 slice-write-set : tie.Need-slice-write-set
 slice-write-set c = search needs
+
+slice-write-count : tie.Need-slice-write-count
+slice-write-count c = search needs
 
 write-answer-requires : tie.Need-write-answer-requires
 write-answer-requires c κs = omega (arith, answerSize-is, ltb-false)
@@ -27,11 +37,14 @@ same-length c = search needs
 same-length-2 : tie.Need-same-length-2
 same-length-2 c = search needs
 
+same-length-3 : tie.Need-same-length-3
+same-length-3 c = search needs
+
 returns-2 : tie.Need-returns-2
 returns-2 c =
     let lookahead = c .before .before .before .before .before .before .lookahead in
     let write-answer = c .before .before .write-answer in
-    record { call = set-call (lookahead .result) (record { cell = omega arith; bytes = omega (arith, answerSize-is, ltb-false) }) (lookahead .ensures) (write-answer .ensures) }
+    record { call = set-call (lookahead .result) (record { cell = omega arith; count = omega (arith, ltb-false); bytes = omega (arith, answerSize-is, ltb-false) }) (lookahead .ensures) (write-answer .ensures) }
 
 pub desk-lookahead-spec : {M : Type 1} → statement M
 desk-lookahead-spec =
@@ -40,7 +53,9 @@ desk-lookahead-spec =
     returns
     lookahead-requires
     slice-write-set
+    slice-write-count
     write-answer-requires
     same-length
     same-length-2
+    same-length-3
     returns-2)

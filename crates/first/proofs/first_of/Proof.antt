@@ -36,7 +36,10 @@ trail-of-requires : tie.Need-trail-of-requires
 trail-of-requires c κs = search needs
 
 returns-2 : tie.Need-returns-2
-returns-2 c = first-served (ready (c .before .before .before)) (c .before .before .before .before .before .before .before .find-first .ensures) (rw (single-empty (c .before .single .ensures)) at (c .trail-of .ensures))
+returns-2 c =
+    let state = c .before .before .before .before in
+    let find-first = state .before .before .before .before .find-first in
+    first-served (ready state) (find-first .ensures) (rw (single-empty (c .before .before .single .ensures)) at (c .before .trail-of .ensures))
 
 pub first-of-spec : {M : Type 1} → statement M
 first-of-spec =

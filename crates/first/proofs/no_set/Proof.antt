@@ -1,4 +1,4 @@
--- No member is the number 0.
+-- No member is the number 0, and with it no symbol vanishes.
 use mathlib.Core.Path.{refl}
 use borrow.Author.Needs.{needs}
 use Rattle.sets.proofs.Promise.{none-is, number-unique}
@@ -9,7 +9,7 @@ none-requires : tie.Need-none-requires
 none-requires c κs = search needs
 
 returns : tie.Need-returns
-returns c = record { answer = refl; empty = number-unique (none-is (c .none .ensures)) }
+returns c = record { answer = refl; empty = number-unique (none-is (c .none .ensures)); none = refl }
 
 pub no-set-spec : {M : Type 1} → statement M
 no-set-spec = tie.close (tie.spec none-requires returns)

@@ -47,9 +47,9 @@ lookahead-at-requires c κs =
 
 returns-2 : tie.Need-returns-2
 returns-2 c =
-    let state = c .before .before .before .before .before .before .before in
+    let state = c .before .before .before .before .before .before .before .before in
     let find-sets = state .before .before .before .before .find-sets in
-    lookahead-served (find-sets .ensures) (ready state) (rw (c .before .before .before .place-at .ensures) at (c .lookahead-at .ensures))
+    lookahead-served (find-sets .ensures) (ready state) (rw (c .before .before .before .before .place-at .ensures) at (c .before .lookahead-at .ensures))
 
 pub lookahead-spec : {M : Type 1} → statement M
 lookahead-spec =

@@ -49,7 +49,7 @@ returns : tie.Need-returns
 returns c =
     let pre = c .before .before .before .before .before .before .before .before .pre in
     let load = c .before .before .before .load in
-    rw (c .trail-of .ensures, load .ensures .loaded, right-part _ _ pre)
+    rw (load .ensures .loaded, right-part _ _ pre) at (c .trail-of .ensures)
 
 pub lookahead-at-spec : {M : Type 1} → statement M
 lookahead-at-spec =

@@ -16,11 +16,11 @@ loop-holds c = search needs
 lookahead-requires : tie.Need-lookahead-requires Inv-loop μ-loop
 lookahead-requires c κs = search needs
 
-slice-aggregate-show-set : tie.Need-slice-aggregate-show-set Inv-loop μ-loop
-slice-aggregate-show-set c = search needs
+slice-aggregate-show-counted : tie.Need-slice-aggregate-show-counted Inv-loop μ-loop
+slice-aggregate-show-counted c = search needs
 
-show-set-requires : tie.Need-show-set-requires Inv-loop μ-loop
-show-set-requires c κs = search needs
+show-counted-requires : tie.Need-show-counted-requires Inv-loop μ-loop
+show-counted-requires c κs = search needs
 
 add-p : tie.Need-add-p Inv-loop μ-loop
 add-p c = search needs
@@ -42,8 +42,8 @@ show-lookaheads-spec =
     μ-loop
     loop-holds
     lookahead-requires
-    slice-aggregate-show-set
-    show-set-requires
+    slice-aggregate-show-counted
+    show-counted-requires
     add-p
     loop-less
     loop-again
