@@ -11,10 +11,11 @@ unfoldable pub use Rattle.machine.proofs.Outcome.{whole}
 pub use Rattle.machine.proofs.RunTheorems.{run-steps, run-sound, run-lists-few, run-stays-low, run-always-enough}
 pub use Rattle.machine.proofs.RunTheorems.{run-place, run-syntax, run-complete, run-short-iff, run-room}
 pub use Rattle.machine.proofs.RunTheorems.{run-inside}
-pub use Rattle.machine.proofs.RoomNeeded.{room-needed}
+pub use Rattle.machine.proofs.RoomNeeded.{room-needed, run-tall}
 pub use Rattle.machine.proofs.ExpandMoves.{finished-is, left-over-is, too-short-is, misfit-is, no-stack-is}
 pub use Rattle.machine.proofs.ExpandMoves.{apply-is, no-output-is, write-is}
 pub use Rattle.machine.proofs.ExpandDerivation.{fits-rule, rule-fits}
 pub use Rattle.machine.proofs.ExpandTheorems.{expand-steps, expand-sound, expand-complete, expand-exact}
 pub use Rattle.machine.proofs.ExpandTheorems.{expand-refuses, expand-place, expand-room}
 pub use Rattle.machine.proofs.ExpandRoom.{WantsRoom, wants-stack, wants-output, expand-stops}
+pub use Rattle.machine.proofs.Depth.{HadStack, run-depth-same, run-depth-short, expand-depth-same, expand-depth-short}
