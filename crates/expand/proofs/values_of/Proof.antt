@@ -3,8 +3,8 @@ use mathlib.Core.Path.{refl}
 use borrow.Author.Needs.{needs}
 use Rattle.expand.specs.Expanding.{closing}
 use Rattle.expand.proofs.ExpandAnswers.{closing-done, closing-stop}
-use Rattle.expand.proofs.answer_to.Statement.{statement}
-use Rattle.expand.proofs.answer_to.Tie as tie
+use Rattle.expand.proofs.values_of.Statement.{statement}
+use Rattle.expand.proofs.values_of.Tie as tie
 
 add-steps : tie.Need-add-steps
 add-steps c = search needs
@@ -57,8 +57,8 @@ returns-4 : tie.Need-returns-4
 unfolding closing
 returns-4 c = closing-stop 7 _ 3 _ (c .stop3 .ensures) (c .before .none3 .ensures) (c .before .before .enum-told4 .given .1) refl
 
-pub answer-to-spec : {M : Type 1} → statement M
-answer-to-spec =
+pub values-of-spec : {M : Type 1} → statement M
+values-of-spec =
     tie.close
     (tie.spec
     add-steps

@@ -1,9 +1,9 @@
--- One answer for each kind of reply.
+-- The values of each kind of reply.
 use mathlib.Core.Path.{refl}
 use borrow.Author.Needs.{needs}
-use Rattle.run.proofs.Expected.{answers-done, answers-stop, answers-refused}
-use Rattle.run.proofs.answering.answer_of.Statement.{statement}
-use Rattle.run.proofs.answering.answer_of.Tie as tie
+use Rattle.run.proofs.Expected.{values-done, values-stop, values-refused}
+use Rattle.run.proofs.answering.values_of.Statement.{statement}
+use Rattle.run.proofs.answering.values_of.Tie as tie
 
 progress-of-requires : tie.Need-progress-of-requires
 progress-of-requires c κs = search needs
@@ -36,7 +36,7 @@ enum-known-reply-2 : tie.Need-enum-known-reply-2
 enum-known-reply-2 c = search needs
 
 returns : tie.Need-returns
-returns c = answers-done _ (c .before .before .before .before .progress-of .ensures) (c .before .before .before .steps-of .ensures) (c .before .enum-told .given .1) (c .done .ensures)
+returns c = values-done _ (c .before .before .before .before .progress-of .ensures) (c .before .before .before .steps-of .ensures) (c .before .enum-told .given .1) (c .done .ensures)
 
 returns-2 : tie.Need-returns-2
 returns-2 c =
@@ -45,13 +45,13 @@ returns-2 c =
     let reply = c .before .before .before .before .before .reply in
     let expects = c .before .before .before .expects in
     let number-of = c .before .before .number-of in
-    answers-stop _ (progress-of .ensures) (steps-of .ensures) (reply .given .1) (expects .ensures) (number-of .ensures) refl (c .before .detail-of .ensures) (c .stop .ensures)
+    values-stop _ (progress-of .ensures) (steps-of .ensures) (reply .given .1) (expects .ensures) (number-of .ensures) refl (c .before .detail-of .ensures) (c .stop .ensures)
 
 returns-3 : tie.Need-returns-3
-returns-3 c = answers-refused _ (c .before .reply2 .given .1)
+returns-3 c = values-refused _ (c .before .reply2 .given .1)
 
-pub answer-of-spec : {M : Type 1} → statement M
-answer-of-spec =
+pub values-of-spec : {M : Type 1} → statement M
+values-of-spec =
     tie.close
     (tie.spec
     progress-of-requires
