@@ -11,7 +11,7 @@ use lib.ListN.{length}
 use Rattle.grammar.specs.Grammar.{Form, Grammar, Column}
 use Rattle.machine.specs.Machine.{State, Offered, taken, stopped, begun, runFrom}
 use Rattle.machine.specs.declared.Reason.the-variants.{FullList, FullStack, WantsEnd, WantsToken, WantsRow}
-use Rattle.machine.specs.Expansion.{Course, Expansion, ended, wrote, applied, expandFrom, expansion}
+use Rattle.machine.specs.Expansion.{Course, Expansion, ended, wrote, applied, expandFrom, opened, expansion}
 use Rattle.machine.specs.declared.Upshot.{Upshot}
 use Rattle.machine.specs.declared.Upshot.the-variants as upshots
 use Rattle.machine.proofs.Walk.{final, Walked, Halt, accepts, left-over, unmatched, vacant, list-full, stack-full}
@@ -124,6 +124,11 @@ module _ (g : Grammar) (output : ℕ) (ps : List ℕ) where
   -- the expansion with so many stack cells
   abbrev expands : ℕ → Expansion
   expands room = expansion g room output ps
+
+  -- the start symbol is on the stack from the beginning
+  pub expand-tall : (room : ℕ) → 1 ≤ expands room .progress .height
+  unfolding opened
+  expand-tall room = omega (arith, expands-higher (whole g room output ps))
 
   pub expand-depth-same : (much room : ℕ) → expands much .ending ≢ upshots.FullStack → expands much .progress .height ≤ room → expands room ≡ expands much
   unfolding ended
