@@ -10,7 +10,14 @@ fn write_words(words: &mut [u64; 6], a: Answer)
     ensures { λ r. ⌜ now (words .exit) ≡ wordsOf a ⌝ }
 {
     let expected = a.expected;
-    *words = [a.number as u64, a.place, a.detail, a.steps, expected.word, a.depth];
+    *words = [
+        a.number as u64,
+        a.place,
+        a.detail,
+        a.steps,
+        expected.word,
+        a.depth,
+    ];
 }
 
 // A run that also shows the part of the tokens not yet matched, as the caller's own memory.
