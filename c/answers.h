@@ -5,7 +5,7 @@
 
 /* What the programs say of an answer: its words, and its number in words. */
 
-/* Reads one of the little-endian words of an answer: 0 place, 1 detail, 2 steps, 3 expected set. */
+/* Reads one of the little-endian words of an answer: 0 place, 1 detail, 2 steps, 3 expected set, 4 depth. */
 static uint64_t word(const uint8_t *answer, size_t index)
 {
     uint64_t value = 0;

@@ -43,6 +43,14 @@ static int refused(const char *what, uint32_t number, const uint8_t *answer)
     return 1;
 }
 
+/* Says how deep a run went, done or refused in steps, so that who lends the stack knows what it needs. */
+static void say_depth(const uint8_t *answer)
+{
+    uint64_t depth = word(answer, 4);
+    if (depth > 0)
+        printf("at most %" PRIu64 " stack cell%s held\n", depth, depth == 1 ? " was" : "s were");
+}
+
 /* Builds the table of the book, which takes N x (T+1) cells. */
 static uint32_t build(uint8_t *answer)
 {
@@ -71,14 +79,18 @@ static int run(uint8_t *answer)
 {
     uint32_t number = desk_run(book.bytes, book.length, table.bytes, table.length, tokens.bytes, tokens.length,
                                stack, sizeof stack, list, sizeof list, answer, DESK_ANSWER_SIZE);
-    if (number != DESK_DONE)
-        return refused("run", number, answer);
+    if (number != DESK_DONE) {
+        refused("run", number, answer);
+        say_depth(answer);
+        return 1;
+    }
     size_t listed = (size_t)word(answer, 2) - tokens.length;
     printf("run done in %" PRIu64 " steps: %zu tokens derived by %zu productions:", word(answer, 2), tokens.length,
            listed);
     for (size_t i = 0; i < listed; i++)
         printf(" %u", list[i]);
     printf("\n");
+    say_depth(answer);
     return expand_back(listed, answer);
 }
 

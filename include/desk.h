@@ -25,15 +25,18 @@ extern "C" {
    with any other length is not allowed. Bytes need no alignment, 16-bit and 64-bit numbers that of uint16_t and
    uint64_t. Lent buffers must not overlap one another or anything the call reads. What is passed as const is only read.
 
-   Every call returns one of the numbers below and writes four words of 64 bits, lowest byte first whatever the
-   machine, into the lent answer buffer: place, detail, steps and expected set, from bytes 0, 8, 16 and 24. The words
-   that the comments below do not name are 0; after DESK_DONE only the steps of a run, an expansion or a cut can be
-   other than 0. The answer is written on every refusal too. Bytes of the answer buffer past 32 stay as they were.
-   There is one exception: where the answer buffer has less than 32 bytes, or a set is answered and its buffer has no
-   cell or that of its number has none, the call returns DESK_ROOM before all else and writes nothing at all, to the
-   answer buffer or to any other. */
+   Every call returns one of the numbers below and writes five words of 64 bits, lowest byte first whatever the
+   machine, into the lent answer buffer: place, detail, steps, expected set and depth, from bytes 0, 8, 16, 24 and 32.
+   The words that the comments below do not name are 0; after DESK_DONE only the steps of a run, an expansion or a cut
+   and the depth of a run or an expansion can be other than 0. The answer is written on every refusal too. Bytes of the
+   answer buffer past 40 stay as they were. There is one exception: where the answer buffer has less than 40 bytes, or a
+   set is answered and its buffer has no cell or that of its number has none, the call returns DESK_ROOM before all else
+   and writes nothing at all, to the answer buffer or to any other.
 
-#define DESK_ANSWER_SIZE 32
+   The depth is the most stack cells that the call held at any moment, the start symbol's included, and 0 where steps
+   did not begin; calls that neither run nor expand have none. It says what stack to lend: see desk_run. */
+
+#define DESK_ANSWER_SIZE 40
 #define DESK_MOST_BOOK_BYTES 2566
 #define DESK_MOST_GRAMMAR_TOKENS 62
 #define DESK_MOST_TOKENS 4096
@@ -135,6 +138,11 @@ enum {
    that needs more is refused with DESK_ROOM. Stack cells past 65,535 are zeroed all the same, list cells past it
    never touched.
 
+   depth is the most stack cells held at any moment, at least 1 once steps have begun; a replacement that is refused for
+   room is not held. With DESK_DONE and DESK_SYNTAX just that many stack cells are enough for the same call, with the
+   same answer and list, and with fewer it is refused with DESK_ROOM, detail DESK_ROOM_STACK. With DESK_ROOM it says
+   what was held before.
+
    Any table that passes DESK_TABLE is run, whoever made it; desk_build makes the one of the book. With another table
    productions may replace one another without end: then the list or the stack fills up, and the call ends with
    DESK_ROOM. */
@@ -166,7 +174,11 @@ uint32_t desk_run(const uint8_t *book, size_t book_len, const uint8_t *table, si
 
    Room: at most 65,535 cells of the stack and of `tokens` count, so 65,535 of each is as good as any; 4,096 cells
    of `tokens` are enough for the list of a run that was done. Stack cells past 65,535 are zeroed all the same,
-   token cells past it never touched. */
+   token cells past it never touched.
+
+   depth is the most stack cells held at any moment, as in a run. With DESK_DONE and DESK_PRODUCTION just that many
+   stack cells are enough for the same call with as many `tokens`, with the same answer and tokens, and with fewer it is
+   refused with DESK_ROOM, detail DESK_ROOM_STACK. */
 uint32_t desk_expand(const uint8_t *book, size_t book_len, const uint8_t *list, size_t list_len,
                      uint8_t *stack, size_t stack_len, uint8_t *tokens, size_t tokens_len,
                      uint8_t *answer, size_t answer_len);

@@ -16,7 +16,7 @@ use Rattle.machine.specs.Room.{rightOf}
 use Rattle.machine.specs.Machine.{Offered, final}
 use Rattle.machine.proofs.Promise.{Counted, Rows, right-of, run-steps, run-sound}
 use Rattle.offer.specs.Strings.{ran}
-use Rattle.offer.specs.Stops.{expected}
+use Rattle.offer.specs.Stops.{expected, runAnswer}
 use Rattle.offer.proofs.Promise.{Told, told, told-done, told-steps}
 use Rattle.demands.specs.Demands.{Ran}
 use Rattle.demands.proofs.Kept.{EndsRun}
@@ -24,6 +24,7 @@ use Rattle.demands.proofs.Kept.{EndsRun}
 module _ {g : Grammar} {table tokens stack list : List ℕ} {r : Ran} (e : EndsRun g table tokens stack list r) where
   -- how the machine ended, and the answer
   pub ends-told : Told (expected g table) (ran g table tokens stack list) (r .answer)
+  unfolding runAnswer
   ends-told = rw (e .answer) (told (expected g table) (ran g table tokens stack list))
 
   -- the steps are the productions listed and the tokens matched

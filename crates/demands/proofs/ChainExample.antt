@@ -18,7 +18,7 @@ use Rattle.grammar.proofs.WorkedCells.{workedCell, conflictTest, conflict-test-
 use Rattle.grammar.proofs.WorkedForm.{formTest, form-tested}
 use Rattle.grammar.proofs.WorkedUseful.{productives, has}
 use Rattle.sets.specs.Sets.{only, united, added}
-use Rattle.answers.specs.Answers.{stop}
+use Rattle.answers.specs.Answers.{stop, atDepth}
 use Rattle.answers.specs.Refusals.{syntax}
 use Rattle.reader.specs.Book.{reads, spells, marked, wanted, records, symbols, symbolOf, ending}
 use Rattle.book.specs.Judging.{AllUseful}
@@ -26,7 +26,7 @@ use Rattle.table.specs.Table.{size, held, BuiltWithoutConflict, cellOf}
 use Rattle.table.proofs.Promise.{workedFirst, workedFollow, workedUseful, useful-tested, first-tested, follow-tested, tableTest, table-tested}
 use Rattle.machine.specs.Machine.{begun, meets, popped, replaced, used, facing, offer, runFrom, final}
 use Rattle.machine.specs.Room.{rightOf, listCells, stackCells}
-use Rattle.offer.specs.Stops.{marking, filledBelow, expected, answered}
+use Rattle.offer.specs.Stops.{marking, filledBelow, expected, answered, runAnswer}
 use Rattle.offer.specs.Strings.{ran}
 use Rattle.run.specs.Running as running
 use Rattle.demands.specs.Examples.{Allowed, Given, answering}
@@ -120,7 +120,7 @@ long-room = (refl, refl)
 
 -- with that room the definitions give the row of the first book, and no other outcome
 pub chain-run-allowed : Allowed chainRun
-unfolding Allowed chainRun runsZero answering chainGrammar chainTable chain-built built-tested chain-premises zeros-premises begun meets popped replaced used facing offer runFrom rightOf cellOf held only united added marking filledBelow ran expected answered final stop
+unfolding Allowed chainRun runsZero answering chainGrammar chainTable chain-built built-tested chain-premises zeros-premises begun meets popped replaced used facing offer runFrom rightOf cellOf held only united added marking filledBelow ran expected answered runAnswer atDepth final stop
 chain-run-allowed = running.ended (chain-built .serves) (premises-admit (chain-premises one-zero) (replicate 31 9) (omega arith))
 
 pub chain-run-given : Given chainRun
@@ -137,7 +137,7 @@ chain-never-room r o =
 
 -- the definitions give the rows of the second book
 pub long-runs-allowed : Every Allowed (longRun ∷ lowRun ∷ listlessRun ∷ [])
-unfolding Allowed longRun lowRun listlessRun runsZero answering longGrammar longTable long-built built-tested long-premises zeros-premises begun meets popped replaced used facing offer runFrom rightOf cellOf held only united added marking filledBelow ran expected answered final stop
+unfolding Allowed longRun lowRun listlessRun runsZero answering longGrammar longTable long-built built-tested long-premises zeros-premises begun meets popped replaced used facing offer runFrom rightOf cellOf held only united added marking filledBelow ran expected answered runAnswer atDepth final stop
 long-runs-allowed =
     each {x = longRun} (running.ended (long-built .serves) (premises-admit (long-premises one-zero) (replicate 16 9) (omega arith)))
     (each {x = lowRun} (running.ended (long-built .serves) (premises-admit (long-premises one-zero) (replicate 15 9) (omega arith)))

@@ -9,8 +9,8 @@ use lib.Seq.{take-at}
 use Rattle.grammar.specs.Grammar.{Grammar, Complete}
 use Rattle.grammar.proofs.Theorems.{leftmost-unique}
 use Rattle.answers.specs.declared.Answer.{Answer}
-use Rattle.answers.specs.Answers.{done}
-use Rattle.answers.specs.Refusals.{room, syntax, production}
+use Rattle.answers.specs.Answers.{done, atDepth}
+use Rattle.answers.specs.Refusals.{room, syntax, production, stackRoom}
 use Rattle.answers.specs.Buffers.{over, counted}
 use Rattle.answers.specs.Limits.{longestList, mostCells}
 use Rattle.book.specs.Judging.{Serves}
@@ -28,7 +28,8 @@ use Rattle.run.specs.Running.{Admits}
 use Rattle.demands.specs.Demands.{Built, Ran, Expanded, MayBuild, MayRun, MayExpand, Premises, RunRoom, expanded}
 use Rattle.demands.specs.Demands.{BuildMeets2, ExpandMeets2, RunMeets2, RunMeets3, RunStepsAdd, ExpandStepsAdd}
 use Rattle.demands.specs.RoomPlace.{StopsForRoom, ExpansionStops}
-use Rattle.demands.specs.Offers.{startOn, atStart, OfferedInTurn, MakesRun}
+use Rattle.demands.specs.Depth.{RunDepth, ExpandDepth}
+use Rattle.demands.specs.Offers.{startOn, atStart, OfferedInTurn, deepestOf, MakesRun}
 use Rattle.demands.proofs.BuildDemands.{done-exactly, conflict-exactly, done-exactly-if}
 use Rattle.demands.proofs.ExpandDemands.{ends-moves, done-complete, done-exact, unfit-exact, unfit-place}
 use Rattle.demands.proofs.ExpandDemands.{expands-to, complete-room-iff}
@@ -39,6 +40,9 @@ use Rattle.demands.proofs.AnyTable.{ends-told, ends-steps, any-accepted
 use Rattle.demands.proofs.RunDemands.{accepted-derived, syntax-place, served-or-short, room-short}
 use Rattle.demands.proofs.RunDemands.{short-room-refused, runs-back, done-had-room}
 use Rattle.demands.proofs.RunRoom.{room-place, decides-exactly}
+use Rattle.demands.proofs.Depth.{run-depth-told, run-goes-same, run-lacks-stack, run-deep-as-peak}
+use Rattle.demands.proofs.Depth.{expand-depth-told, expansion-goes-same, expansion-lacks-stack}
+use Rattle.demands.proofs.Depth.{expansion-deep-as-peak}
 use Rattle.demands.proofs.Offers.{offers-made, turn-unique}
 -- room by formula: where no right side is empty, a run of n tokens keeps within N × n list cells and 1 + 15 × N × n
 -- stack cells, and with those it is never refused for room
@@ -80,7 +84,7 @@ module _ (book table tokens stack list : List ℕ) (r : Ran) (o : MayRun book ta
 
   -- demand 2: under the premises of demand 3 and with room, the string of a complete list runs back to the list
   pub run-meets2 : RunMeets2 book table tokens stack list r
-  unfolding done
+  unfolding done atDepth
   run-meets2 =
       record {
         back = λ {ps} h d l k.
@@ -94,13 +98,13 @@ module _ (book table tokens stack list : List ℕ) (r : Ran) (o : MayRun book ta
       record {
         sum = λ {g} s a. ends-steps (run-ends book table tokens stack list r o s a);
         listed = λ {g} s a. run-ends book table tokens stack list r o s a .written;
-        none = λ n. before-steps n o .0;
+        none = λ n. before-steps n o .0 .steps;
       }
 
   -- where steps do not begin, nothing is changed
   pub run-before-steps : ((g : Grammar) → Serves book g → ¬ Admits g table tokens stack)
       → (r .stack ≡ stack) × (r .list ≡ list)
-  run-before-steps n = let (steps, stacked, listed) = before-steps n o in (stacked, listed)
+  run-before-steps n = let (early, stacked, listed) = before-steps n o in (stacked, listed)
 
   -- a derivable string that is refused for room: the detail, the place, the steps and what is listed then
   pub run-place-room : (h : Premises book table tokens) {ps : List ℕ} (d : Complete (h .built .grammar) ps tokens)
@@ -115,6 +119,28 @@ module _ (book table tokens stack list : List ℕ) (r : Ran) (o : MayRun book ta
       → (need : RoomNeeded (h .built .grammar) (cellOf (h .built .grammar) table) tokens)
       → ((r .answer .number ≡ 0) ⊎ (r .answer .number ≡ syntax)) ↔ RunRoom need stack list
   run-enough h need = decides-exactly h stack list need (run-begins book table tokens stack list r o h)
+
+  -- the depth is the most stack cells held at any moment, and 0 where steps do not begin
+  pub run-depth : RunDepth book table tokens stack list r
+  run-depth = run-depth-told book table tokens stack list r o
+
+  module _ (decides : (r .answer .number ≡ 0) ⊎ (r .answer .number ≡ syntax)) (other : List ℕ) (q : Ran)
+      (p : MayRun book table tokens other list q) where
+    -- a run that ends with 0 or 11, on any table that passes refusal 9, ends with the same answer and list on every
+    -- stack of which at least so many cells count
+    pub run-depth-enough : r .answer .depth ≤ counted other → (q .answer ≡ r .answer) × (q .list ≡ r .list)
+    run-depth-enough = run-goes-same book table tokens stack list r o decides other q p
+
+    -- and with fewer, down to none, it is refused for room, for want of stack
+    pub run-depth-least : counted other < r .answer .depth
+        → (q .answer .number ≡ room) × (q .answer .detail ≡ stackRoom)
+    run-depth-least = run-lacks-stack book table tokens stack list r o decides other q p
+
+  -- where a derivable string is accepted, the depth is the greatest height along its derivation
+  pub run-depth-peak : (h : Premises book table tokens) {ps : List ℕ} (d : Complete (h .built .grammar) ps tokens)
+      → r .answer .number ≡ 0
+      → r .answer .depth ≡ peak d
+  run-depth-peak h d n = run-deep-as-peak book table tokens stack list r o h d n
 
   -- on any table that passes refusal 9 the run is done, or refuses for room or for syntax
   pub run-any-ends : {g : Grammar}
@@ -147,15 +173,35 @@ module _ (book list stack output : List ℕ) (r : Expanded) (o : MayExpand book 
       record {
         sum = λ {g} s short k. ends-moves g list stack output (expansion-ends book list stack output r o s short k);
         written = λ {g} s short k. expansion-ends book list stack output r o s short k .written;
-        none = λ n. expansion-before-steps n o .0;
+        none = λ n. expansion-before-steps n o .0 .steps;
       }
 
   -- where steps do not begin, nothing is changed
   pub expand-before-steps : ((g : Grammar) → Serves book g → length list ≤ longestList → 1 ≤ length stack → ⊥)
       → (r .stack ≡ stack) × (r .output ≡ output)
-  expand-before-steps n = let (steps, stacked, written) = expansion-before-steps n o in (stacked, written)
+  expand-before-steps n = let (early, stacked, written) = expansion-before-steps n o in (stacked, written)
+
+  -- the depth is the most stack cells held at any moment, and 0 where steps do not begin
+  pub expand-depth : ExpandDepth book list stack output r
+  expand-depth = expand-depth-told book list stack output r o
+
+  module _ (decides : (r .answer .number ≡ 0) ⊎ (r .answer .number ≡ production)) (other : List ℕ) (q : Expanded)
+      (p : MayExpand book list other output q) where
+    -- an expansion that ends with 0 or 12 ends with the same answer and output on every stack of which at least so many
+    -- cells count
+    pub expand-depth-enough : r .answer .depth ≤ counted other → (q .answer ≡ r .answer) × (q .output ≡ r .output)
+    expand-depth-enough = expansion-goes-same book list stack output r o decides other q p
+
+    -- and with fewer, down to none, it is refused for room, for want of stack
+    pub expand-depth-least : counted other < r .answer .depth
+        → (q .answer .number ≡ room) × (q .answer .detail ≡ stackRoom)
+    expand-depth-least = expansion-lacks-stack book list stack output r o decides other q p
 
   module _ {g : Grammar} (s : Serves book g) (short : length list ≤ longestList) where
+    -- where a complete list is done, the depth is the greatest height along its derivation
+    pub expand-depth-peak : {w : List ℕ} (d : Complete g list w) → r .answer .number ≡ 0 → r .answer .depth ≡ peak d
+    expand-depth-peak d n = expansion-deep-as-peak book list stack output r o s short d n
+
     -- with room it is done exactly if the list is complete
     pub expand-exact : r .answer .number ≢ room → (r .answer .number ≡ 0) ↔ ((w : List ℕ) × Complete g list w)
     expand-exact = done-exact g list stack output (expansion-begins book list stack output r o s short)
@@ -220,7 +266,7 @@ module _ (book table : List ℕ) where
       → peak d ≤ counted other
       → length tokens ≤ counted output
       → (e .answer .number ≡ 0) × (e .output ≡ over tokens output)))
-  unfolding done
+  unfolding done atDepth
   run-expand tokens stack list other output h {r} y accepted =
       let begun = run-begins book table tokens stack list r y h in
       let (ps, d, written) = run-meets3 book table tokens stack list r y .accepts h accepted in
@@ -240,15 +286,15 @@ module _ (book table : List ℕ) where
 module _ (book : List ℕ) (reading : Reading) (table tokens stack list : List ℕ) where
   -- offers make a run: with the start symbol on the stack, an offer for each token and then one of the end mark give
   -- what a run on the judged book gives, for any reading and table, a string of the book's tokens that can be counted
-  -- and a stack cell
+  -- and a stack cell; its depth is the greatest that any of the offers tells
   pub offers-run : 1 ≤ length stack
       → length tokens ≤ mostCells
       → ((i : ℕ) → i < length tokens → getD tokens i 0 < reading .tokens)
       → {r : Reply} {s l : List ℕ}
-      → OfferedInTurn book reading table tokens atStart (startOn reading stack) list r s l
+      → (turn : OfferedInTurn book reading table tokens atStart (startOn reading stack) list r s l)
       → {a : Answer} {stack′ list′ : List ℕ}
       → JudgedRun book reading table tokens stack list a stack′ list′
-      → MakesRun book reading table stack r s l a stack′ list′
+      → MakesRun book reading table stack r (deepestOf turn) s l a stack′ list′
   offers-run some-cell short known turn = offers-made book reading table tokens stack list some-cell short known turn
 
 -- and offers in turn allow one outcome

@@ -8,7 +8,7 @@ use Rattle.grammar.specs.House.{house}
 use Rattle.grammar.proofs.Tests.{below, below-each}
 use Rattle.grammar.proofs.Every.{every-map}
 use Rattle.sets.specs.Sets.{only, united, added}
-use Rattle.answers.specs.Answers.{done, refusal, stop}
+use Rattle.answers.specs.Answers.{done, refusal, stop, atDepth}
 use Rattle.book.proofs.Promise.{house-serves, useless-refused}
 use Rattle.table.specs.Examples.{houseTable}
 use Rattle.table.specs.Calls as calls
@@ -17,12 +17,12 @@ use Rattle.table.proofs.Promise.{house-table-of, conflicted-house-build, nested
 use Rattle.machine.specs.Machine.{begun, meets, popped, replaced, used, facing, offer, runFrom, final}
 use Rattle.machine.specs.Expansion.{ended, wrote, applied, writing, applying, expandFrom, opened}
 use Rattle.machine.specs.Room.{rightOf, isOf}
-use Rattle.offer.specs.Stops.{marking, filledBelow, expected, answered}
+use Rattle.offer.specs.Stops.{marking, filledBelow, expected, answered, runAnswer}
 use Rattle.offer.specs.Strings.{ran}
 use Rattle.run.specs.Running.{FirstStrange, strange}
 use Rattle.run.specs.Running as running
 use Rattle.run.proofs.Promise.{run-outcome-unique}
-use Rattle.expand.specs.Expanding.{closing, answeredBy}
+use Rattle.expand.specs.Expanding.{closing, answeredBy, expandAnswer}
 use Rattle.expand.specs.Expanding as expanding
 use Rattle.expand.proofs.Promise.{expand-outcome-unique}
 use Rattle.demands.specs.Examples.{Example, Allowed, Given, answering, runs, expands, exampleA, exampleB, exampleC, exampleD, exampleE, exampleF, exampleG, refusesBuilding, exampleH1, exampleI, exampleJ, exampleK, exampleKShort, examples}
@@ -45,7 +45,7 @@ four-strange =
 
 -- the definitions allow every row
 pub examples-allowed : Every Allowed examples
-unfolding examples Allowed exampleA exampleB exampleC exampleD exampleE exampleF exampleG refusesBuilding exampleH1 exampleI exampleJ exampleK exampleKShort runs expands answering house houseTable below begun meets popped replaced used facing offer runFrom rightOf isOf cellOf held only united added marking filledBelow ran expected answered final done stop refusal ended wrote applied writing applying expandFrom opened closing answeredBy
+unfolding examples Allowed exampleA exampleB exampleC exampleD exampleE exampleF exampleG refusesBuilding exampleH1 exampleI exampleJ exampleK exampleKShort runs expands answering house houseTable below begun meets popped replaced used facing offer runFrom rightOf isOf cellOf held only united added marking filledBelow ran expected answered runAnswer atDepth final done stop refusal ended wrote applied writing applying expandFrom opened closing answeredBy expandAnswer
 examples-allowed =
     each {x = exampleA} (running.ended house-serves (house-admits _ (omega arith) tt _ (omega arith)))
     (each {x = exampleB} (running.ended house-serves (house-admits _ (omega arith) tt _ (omega arith)))

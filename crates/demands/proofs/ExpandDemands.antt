@@ -8,7 +8,7 @@ use native.Mathlib.Omega.{arith}
 use lib.ListN.{length}
 use Rattle.grammar.specs.Grammar.{Grammar, Complete}
 use Rattle.answers.specs.declared.Answer.{Answer}
-use Rattle.answers.specs.Answers.{done, refusal, stop}
+use Rattle.answers.specs.Answers.{done, refusal, stop, atDepth}
 use Rattle.answers.specs.Refusals.{room, production}
 use Rattle.answers.specs.Buffers.{over, counted}
 use Rattle.book.specs.Judging.{Serves}
@@ -36,11 +36,11 @@ module _ (g : Grammar) (list stack output : List ℕ) where
     ends-moves = told-moves ends-told-by ∙ expand-steps g (counted stack) (counted output) list .moves
 
     ends-done : expandedBy .ending ≡ Finished → r .answer .number ≡ 0
-    unfolding done
+    unfolding done atDepth
     ends-done h = ap (λ (a : Answer). a .number) (e .answer ∙ complete-done expandedBy h)
 
     ends-unfit : expandedBy .ending ≡ Unfit → r .answer .number ≡ production
-    unfolding stop
+    unfolding stop atDepth
     ends-unfit h = ap (λ (a : Answer). a .number) (e .answer ∙ unfit-refused expandedBy h)
 
   -- done only of a complete list, the output is the string it derives, and the steps are the productions and its tokens

@@ -6,7 +6,7 @@ use native.Mathlib.Omega.{arith}
 use lib.ListN.{length}
 use Rattle.grammar.specs.Grammar.{Form, Grammar}
 use Rattle.answers.specs.declared.Answer.{Answer}
-use Rattle.answers.specs.Answers.{done, stop, noSet}
+use Rattle.answers.specs.Answers.{done, stop, noSet, atDepth}
 use Rattle.answers.specs.Refusals.{room, stackRoom, outputRoom}
 use Rattle.answers.specs.Buffers.{over, counted, cleared}
 use Rattle.machine.specs.Expansion.{Course, ended, Expansion}
@@ -39,14 +39,14 @@ module _ {g : Grammar} {list stack output : List ℕ} (stacked : 1 ≤ length st
       → Midway g list s rest α
       → Lacks g (counted stack) (counted output) s FullStack rest α
       → ExpansionStops g list (ended FullStack s) stack output
-      (stop room (s .used) stackRoom (s .used + length (s .written)) noSet) (cleared stack) (over (s .written) output)
+      (atDepth (s .height) (stop room (s .used) stackRoom (s .used + length (s .written)) noSet)) (cleared stack) (over (s .written) output)
   lacking-stack m (lacks-stack short) = places.no-stack-cells stacked refl m short
 
   lacking-output : {s : Course} {rest : List ℕ} {α : Form}
       → Midway g list s rest α
       → Lacks g (counted stack) (counted output) s FullOutput rest α
       → ExpansionStops g list (ended FullOutput s) stack output
-      (stop room (s .used) outputRoom (s .used + length (s .written)) noSet) (cleared stack) (over (s .written) output)
+      (atDepth (s .height) (stop room (s .used) outputRoom (s .used + length (s .written)) noSet)) (cleared stack) (over (s .written) output)
   lacking-output m (lacks-output full) = places.no-output-cell stacked refl m full
 
   ends-midway : {e : Upshot} {s : Course} {a : Answer} {st out : List ℕ}
@@ -57,15 +57,15 @@ module _ {g : Grammar} {list stack output : List ℕ} (stacked : 1 ≤ length st
       → (WantsRoom e → Stands g list (counted stack) (counted output) e s)
       → a .number ≡ room
       → ExpansionStops g list (ended e s) stack output a st out
-  unfolding done stop
+  unfolding done stop atDepth
   ends-midway finished b c m k n = absurd (omega arith)
   ends-midway misfitting b c m k n = absurd (omega arith)
   ends-midway {s = s} out-of-stack b c m k n =
       let (rest, (α, here, short)) = k wants-stack in
-      stops-as (ap (λ (i : ℕ). stop room (s .used) stackRoom i noSet) m) b c (lacking-stack here short)
+      stops-as (ap (λ (i : ℕ). atDepth (s .height) (stop room (s .used) stackRoom i noSet)) m) b c (lacking-stack here short)
   ends-midway {s = s} out-of-output b c m k n =
       let (rest, (α, here, full)) = k wants-output in
-      stops-as (ap (λ (i : ℕ). stop room (s .used) outputRoom i noSet) m) b c (lacking-output here full)
+      stops-as (ap (λ (i : ℕ). atDepth (s .height) (stop room (s .used) outputRoom i noSet)) m) b c (lacking-output here full)
 
 -- it stands midway in the list, right before what it has no room for
 pub room-midway : (g : Grammar) (list stack output : List ℕ) {r : Expanded}

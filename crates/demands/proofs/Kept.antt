@@ -1,5 +1,6 @@
 -- What a call that keeps its promise answers and leaves, where the book serves: steps begin, or there is no stack cell.
 use mathlib.Core.Path.{_≡_, refl, ap}
+use mathlib.Core.Logic.{⊎-elim}
 use mathlib.Core.List.{List}
 use Prim.Native.Nat.{ℕ, _≤_, _<_}
 use native.Mathlib.Decide.{decLt}
@@ -11,17 +12,19 @@ use Rattle.answers.specs.declared.Answer.{Answer}
 use Rattle.answers.specs.Answers.{refusal}
 use Rattle.answers.specs.Refusals.{room, stackRoom}
 use Rattle.answers.specs.Buffers.{over, counted, cleared}
+use Rattle.reader.specs.Faults.{Fault, bad-mark, extra-byte, over-limit, not-a-symbol}
+use Rattle.reader.proofs.Promise.{refused-kinds}
 use Rattle.book.specs.Judging.{Refuses, misread, useless-one, Serves}
 use Rattle.table.specs.Table.{cellOf}
 use Rattle.table.proofs.Promise.{built-exact, table-fits}
 use Rattle.machine.specs.Expansion.{expansion}
 use Rattle.machine.specs.Machine.{final}
 use Rattle.offer.specs.Strings.{ran}
-use Rattle.offer.specs.Stops.{answered, expected}
+use Rattle.offer.specs.Stops.{runAnswer}
 use Rattle.run.specs.Running.{Barred, Admits, RunOutcome}
 use Rattle.run.specs.Running as running
 use Rattle.run.proofs.Promise.{Result, run-outcome-unique}
-use Rattle.expand.specs.Expanding.{ExpandOutcome, answeredBy}
+use Rattle.expand.specs.Expanding.{ExpandOutcome, expandAnswer}
 use Rattle.expand.specs.Expanding as expanding
 use Rattle.expand.proofs.Promise.{expand-outcome-unique}
 use Rattle.demands.specs.Demands.{Ran, Expanded, Premises}
@@ -37,13 +40,13 @@ module _ {book table tokens : List ℕ} (h : Premises book table tokens) where
 
 -- a run that ended in steps: the machine's answer, a cleared stack, and the productions listed over the list
 pub record EndsRun (g : Grammar) (table tokens stack list : List ℕ) (r : Ran) : Type 0 where
-  pub answer : r .answer ≡ answered (expected g table) (ran g table tokens stack list)
+  pub answer : r .answer ≡ runAnswer g table (ran g table tokens stack list)
   pub cleared : r .stack ≡ cleared stack
   pub written : r .list ≡ over (final (ran g table tokens stack list) .listed) list
 
 -- an expansion that ended in steps
 pub record EndsExpansion (g : Grammar) (list stack output : List ℕ) (r : Expanded) : Type 0 where
-  pub answer : r .answer ≡ answeredBy (expansion g (counted stack) (counted output) list)
+  pub answer : r .answer ≡ expandAnswer (expansion g (counted stack) (counted output) list)
   pub cleared : r .stack ≡ cleared stack
   pub written : r .output ≡ over (expansion g (counted stack) (counted output) list .progress .written) output
 
@@ -73,22 +76,36 @@ module _ (book table tokens stack list : List ℕ) (r : Ran) (o : RunOutcome boo
           let same = run-outcome-unique book table tokens stack list o (running.barred (h .built .serves) (running.no-stack (table-fits (h .built .built)) (h .short) (h .known) none)) in
           stackless none (ap (λ (x : Result). x .0) same) (ap (λ (x : Result). x .1) same) (ap (λ (x : Result). x .2) same)
 
-refuses-no-steps : {book : List ℕ} {a : Answer} → Refuses book a → a .steps ≡ 0
-unfolding refusal
-refuses-no-steps (misread e) = refl
-refuses-no-steps (useless-one e l) = refl
+-- an answer before steps: none is counted, no cell is held, and the number is one of 1 to 10
+pub record Early (a : Answer) : Type 0 where
+  pub steps : a .steps ≡ 0
+  pub depth : a .depth ≡ 0
+  pub number : (1 ≤ a .number) × (a .number ≤ 10)
 
-barred-no-steps : {g : Grammar} {table tokens stack : List ℕ} {a : Answer} → Barred g table tokens stack a → a .steps ≡ 0
+refusal-early : (n place detail : ℕ) → (1 ≤ n) × (n ≤ 10) → Early (refusal n place detail)
 unfolding refusal
-barred-no-steps (running.bad-table m) = refl
-barred-no-steps (running.too-long f h) = refl
-barred-no-steps (running.strange f h s) = refl
-barred-no-steps (running.no-stack f h k e) = refl
+refusal-early n place detail number = record { steps = refl; depth = refl; number = number }
 
--- where steps do not begin, none is counted, and nothing is changed
-pub before-steps : {book table tokens stack list : List ℕ} → ((g : Grammar) → Serves book g → ¬ Admits g table tokens stack) → {a : Answer} {s l : List ℕ} → RunOutcome book table tokens stack list a s l → (a .steps ≡ 0) × (s ≡ stack) × (l ≡ list)
-before-steps n (running.refused r) = (refuses-no-steps r, refl, refl)
-before-steps n (running.barred s b) = (barred-no-steps b, refl, refl)
+pub refuses-early : {book : List ℕ} {a : Answer} → Refuses book a → Early a
+refuses-early {book} (misread {number = n} {place = k} e) = refusal-early n k 0 (⊎-elim (λ short. omega arith) (λ fault. known fault) (refused-kinds book e .kind))
+  where
+    known : {n : ℕ} → Fault n → (1 ≤ n) × (n ≤ 10)
+    known bad-mark = omega arith
+    known extra-byte = omega arith
+    known over-limit = omega arith
+    known not-a-symbol = omega arith
+refuses-early (useless-one {A = A} e l) = refusal-early 6 A 0 (omega arith)
+
+pub barred-early : {g : Grammar} {table tokens stack : List ℕ} {a : Answer} → Barred g table tokens stack a → Early a
+barred-early (running.bad-table {k = k} m) = refusal-early 9 k 0 (omega arith)
+barred-early (running.too-long f h) = refusal-early 4 4096 0 (omega arith)
+barred-early (running.strange {i = i} f h s) = refusal-early 10 i 0 (omega arith)
+barred-early (running.no-stack f h k e) = refusal-early 7 0 1 (omega arith)
+
+-- where steps do not begin, the answer is one before steps, and nothing is changed
+pub before-steps : {book table tokens stack list : List ℕ} → ((g : Grammar) → Serves book g → ¬ Admits g table tokens stack) → {a : Answer} {s l : List ℕ} → RunOutcome book table tokens stack list a s l → Early a × (s ≡ stack) × (l ≡ list)
+before-steps n (running.refused r) = (refuses-early r, refl, refl)
+before-steps n (running.barred s b) = (barred-early b, refl, refl)
 before-steps n (running.ended {g = g} s a) = absurd (n g s a)
 
 module _ (book list stack output : List ℕ) (r : Expanded) (o : ExpandOutcome book list stack output (r .answer) (r .stack) (r .output)) {g : Grammar} (s : Serves book g) (short : length list ≤ 65535) where
@@ -112,10 +129,9 @@ module _ (book list stack output : List ℕ) (r : Expanded) (o : ExpandOutcome b
       go (stackless e a b c) = absurd (omega arith)
       go (begins l e) = e
 
--- where an expansion's steps do not begin, none is counted, and nothing is changed
-pub expansion-before-steps : {book list stack output : List ℕ} → ((g : Grammar) → Serves book g → length list ≤ 65535 → 1 ≤ length stack → ⊥) → {a : Answer} {s w : List ℕ} → ExpandOutcome book list stack output a s w → (a .steps ≡ 0) × (s ≡ stack) × (w ≡ output)
-unfolding refusal
-expansion-before-steps n (expanding.refused r) = (refuses-no-steps r, refl, refl)
-expansion-before-steps n (expanding.too-long s h) = (refl, refl, refl)
-expansion-before-steps n (expanding.no-stack s h e) = (refl, refl, refl)
+-- where an expansion's steps do not begin
+pub expansion-before-steps : {book list stack output : List ℕ} → ((g : Grammar) → Serves book g → length list ≤ 65535 → 1 ≤ length stack → ⊥) → {a : Answer} {s w : List ℕ} → ExpandOutcome book list stack output a s w → Early a × (s ≡ stack) × (w ≡ output)
+expansion-before-steps n (expanding.refused r) = (refuses-early r, refl, refl)
+expansion-before-steps n (expanding.too-long s h) = (refusal-early 4 65535 0 (omega arith), refl, refl)
+expansion-before-steps n (expanding.no-stack s h e) = (refusal-early 7 0 1 (omega arith), refl, refl)
 expansion-before-steps n (expanding.ended {g = g} s h k) = absurd (n g s h k)

@@ -8,6 +8,7 @@ pub mod Offers
 pub mod BuildDemands
 pub mod ExpandDemands
 pub mod ExpandRoom
+pub mod Depth
 pub mod Demands
 pub mod Shown
 pub mod House

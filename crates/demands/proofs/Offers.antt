@@ -3,7 +3,7 @@ use mathlib.Core.Path.{_≡_, refl, sym, _∙_, ap, subst}
 use mathlib.Core.Logic.{_≢_}
 use mathlib.Core.List.{List, [], _∷_}
 use mathlib.Core.Option.{Option}
-use Prim.Native.Nat.{ℕ, suc, _+_, _-_, _%_, _≤_, _<_, min}
+use Prim.Native.Nat.{ℕ, suc, _+_, _-_, _%_, _≤_, _<_, min, max}
 use native.Mathlib.Decide.{decLt}
 use native.Mathlib.Omega.{arith}
 use borrow.Author.Tests.{lt-ltb, le-ltb}
@@ -14,7 +14,7 @@ use Rattle.grammar.specs.declared.Symbol.the-variants.{Nonterminal}
 use Rattle.grammar.specs.declared.Symbol.{Symbol}
 use Rattle.sets.specs.declared.Set.{Set}
 use Rattle.answers.specs.declared.Answer.{Answer}
-use Rattle.answers.specs.Answers.{done}
+use Rattle.answers.specs.Answers.{done, atDepth}
 use Rattle.answers.specs.Buffers.{over, counted, cleared}
 use Rattle.answers.specs.Limits.{mostCells}
 use Rattle.answers.specs.Refusals.{served}
@@ -34,7 +34,7 @@ use Rattle.stack.specs.Stack.{Spelled, spelledBy, stacked}
 use Rattle.stack.proofs.Promise.{symbols-spelled, cells-spelled, nonterminal-spelled, every-append, every-rest}
 use Rattle.stack.proofs.Promise.{length-spelled, length-stacked, spelled-stacked, length-over, over-over}
 use Rattle.offer.specs.Resuming.{progressOf, reported, clamped, standing, offeredTo, Offers, OfferedOn, OfferOutcome, refused, offered}
-use Rattle.offer.specs.Stops.{expected, answered, answerOf}
+use Rattle.offer.specs.Stops.{expected, answered, runAnswer, valuesOf, deepestIn, answerOf}
 use Rattle.offer.specs.Strings.{ran}
 use Rattle.offer.specs.declared.Progress.{Progress}
 use Rattle.offer.specs.declared.Reply.the-variants.{Taken, Refused}
@@ -42,7 +42,7 @@ use Rattle.offer.specs.declared.Reply.{Reply}
 use Rattle.offer.proofs.Promise.{OfferResult, offer-outcome-unique}
 use Rattle.run.specs.Judged.{JudgedRun, RanOn, ran-on}
 use Rattle.run.specs.Judged as judged
-use Rattle.demands.specs.Offers.{startOn, atStart, OfferedInTurn, at-end, stops, goes-on, MakesRun}
+use Rattle.demands.specs.Offers.{startOn, atStart, OfferedInTurn, at-end, stops, goes-on, deepestOf, MakesRun}
 use Rattle.demands.proofs.Height.{Alike, AlikeEnds, both-taken, both-stopped, alike-final, run-alike}
 
 -- every right side of a book is spelled by its bytes
@@ -86,10 +86,24 @@ offer-every right cell room cells rights l (token t) s e h =
 offer-every right cell room cells rights l endmark s e h =
     comes-every rights (offer-answers right cell room cells [] l s e) h
 
-answered-alike : (e : Reason → Set) {o q : Offered} → AlikeEnds o q → answered e o ≡ answered e q
+answered-alike : (e : Reason → Set) {before : ℕ} {o q : Offered} → AlikeEnds before o q → answered e o ≡ answered e q
 unfolding answered
 answered-alike e (both-taken a) = ap done (a .moves)
 answered-alike e (both-stopped a) = rw (a .matched, a .moves)
+
+-- where the machine was higher before, the answer is the same at the greater of the two depths
+raised-answer : (g : Grammar) (table : List ℕ) {before : ℕ} {o q : Offered}
+    → AlikeEnds before o q
+    → (deepest : ℕ) (values : Answer)
+    → atDepth deepest values ≡ runAnswer g table o
+    → atDepth (max before deepest) values ≡ runAnswer g table q
+unfolding runAnswer atDepth
+raised-answer g table {before} {o} {q} a deepest values e =
+    let depth : deepest ≡ final o .height = ap (λ (x : Answer). x .depth) e in
+    let height : max before deepest ≡ final q .height = omega (arith, alike-final a .height) in
+    ap (λ (x : Answer). atDepth (max before deepest) x) e
+    ∙ ap (λ (x : Answer). atDepth (max before deepest) x) (answered-alike (expected g table) a)
+    ∙ ap (λ (n : ℕ). atDepth n (answered (expected g table) q)) height
 
 -- the counts are within the room, and n tokens more can be counted
 record Within (at : Progress) (stack list : List ℕ) (n : ℕ) : Type 0 where
@@ -99,14 +113,15 @@ record Within (at : Progress) (stack list : List ℕ) (n : ℕ) : Type 0 where
   pub matched : at .matched + n ≤ mostCells
 
 module _ {at : Progress} {stack list : List ℕ} {n : ℕ} (h : Within at stack list n) where
-  -- so they count as they are
-  within-clamped : clamped at (length stack) (length list) ≡ at
+  -- so they count as they are, all but the most cells held, which is not believed
+  within-clamped : clamped at (length stack) (length list)
+      ≡ record { height = at .height; listed = at .listed; matched = at .matched; deepest = at .height }
   unfolding clamped
   within-clamped =
       let height : min (at .height) (counted stack) ≡ at .height = omega (arith, h .height) in
       let listed : min (at .listed) (counted list) ≡ at .listed = omega (arith, h .listed) in
       let matched : min (at .matched) mostCells ≡ at .matched = omega (arith, h .matched) in
-      λ i. record { height = height i; listed = listed i; matched = matched i }
+      λ i. record { height = height i; listed = listed i; matched = matched i; deepest = height i }
 
   within-listed : length (standing at stack list .listed) ≡ at .listed
   unfolding standing
@@ -136,9 +151,9 @@ module _ (book : List ℕ) (reading : Reading) (table : List ℕ) where
       offer (rightOf g) (cellOf g table) (counted stack) (counted list)
       (counted list - length (standing at stack list .listed)) c (standing at stack list)
 
-  -- what was lent this stack and list comes to the outcome
-  record Comes (o : Offered) (stack list : List ℕ) (r : Reply) (stack′ list′ : List ℕ) : Type 0 where
-    pub answer : answerOf g table r ≡ answered (expected g table) o
+  -- what was lent this stack and list comes to the outcome, with so many cells held at most
+  record Comes (o : Offered) (stack list : List ℕ) (r : Reply) (deepest : ℕ) (stack′ list′ : List ℕ) : Type 0 where
+    pub answer : atDepth deepest (valuesOf g table r) ≡ runAnswer g table o
     pub lists : list′ ≡ over (final o .listed) list
     pub stack-length : length stack′ ≡ length stack
 
@@ -154,7 +169,7 @@ module _ (book : List ℕ) (reading : Reading) (table : List ℕ) where
       (same : columnOf g column ≡ c) {r : Reply} {stack′ list′ : List ℕ}
       (on : OfferedOn g table column at stack list r stack′ list′) where
     offered-is : offeredTo g table column (clamped at (length stack) (length list)) stack list ≡ offers c at stack list
-    unfolding offeredTo
+    unfolding offeredTo standing
     offered-is = rw (within-clamped h, same, within-listed h)
 
     left-is : length (standing at stack list .listed) + (counted list - length (standing at stack list .listed)) ≡ counted list
@@ -181,12 +196,13 @@ module _ (book : List ℕ) (reading : Reading) (table : List ℕ) where
         (counted list - length (standing at stack list .listed)) c (standing at stack list) left-is
         (cells-spelled stack (at .height))
 
-    step-comes : Comes (offers c at stack list) stack list r stack′ list′
+    step-comes : Comes (offers c at stack list) stack list r (deepestIn r) stack′ list′
+    unfolding answerOf
     step-comes =
         let o : Offered = offers c at stack list in
         let low : final o .height ≤ counted stack = step-counted .height-fits (omega (arith, h .some-cell)) in
         record {
-          answer = on .told ∙ ap (answered (expected g table)) offered-is;
+          answer = on .told ∙ ap (runAnswer g table) offered-is;
           lists = step-offers .list-cells;
           stack-length = ap length (step-offers .stack-cells)
               ∙ length-stacked (final o .stack) (final o .height) stack (step-counted .stack-within) (omega arith);
@@ -196,21 +212,23 @@ module _ (book : List ℕ) (reading : Reading) (table : List ℕ) where
   left-alike : (e : State) (stack list : List ℕ)
       → Every Spelled (e .stack)
       → e .moves ≡ length (e .listed) + e .matched
-      → Alike (standing (progressOf e) (stacked (e .stack) (e .height) stack) (over (e .listed) list)) e
+      → length (e .stack) ≤ e .height
+      → Alike (e .height) (standing (progressOf e) (stacked (e .stack) (e .height) stack) (over (e .listed) list)) e
   unfolding standing progressOf
-  left-alike e stack list spelled steps =
+  left-alike e stack list spelled steps high =
       record {
         stack = spelled-stacked spelled (e .height) stack;
         listed = take-at (e .listed) (drop (length (e .listed)) list) (length (e .listed)) refl;
         matched = refl;
         moves = sym steps;
+        height = omega arith;
       }
 
   -- a token is taken, and the run goes on from what the offer left
   record Goes (t : ℕ) (at : Progress) (stack list : List ℕ) (next : Progress) (stack₁ list₁ : List ℕ) (n : ℕ) : Type 0 where
     pub state : State
     pub comes : offers (token t) at stack list ≡ taken state
-    pub alike : Alike (standing next stack₁ list₁) state
+    pub alike : Alike (next .deepest) (standing next stack₁ list₁) state
     pub lists : list₁ ≡ over (state .listed) list
     pub stack-length : length stack₁ ≡ length stack
     pub list-length : length list₁ ≡ length list
@@ -242,7 +260,7 @@ module _ (book : List ℕ) (reading : Reading) (table : List ℕ) where
         record {
           state = last;
           comes = f ∙ ap taken (sym left-in);
-          alike = rw (here, x .stack-cells, x .list-cells) (left-alike last stack list (step-spelled h same on) (counts .steps));
+          alike = rw (here, x .stack-cells, x .list-cells) (left-alike last stack list (step-spelled h same on) (counts .steps) (counts .stack-within));
           lists = comes .lists;
           stack-length = comes .stack-length;
           list-length = long;
@@ -268,18 +286,18 @@ module _ (book : List ℕ) (reading : Reading) (table : List ℕ) where
   module _ {t : ℕ} (w : List ℕ) {at : Progress} {stack list : List ℕ} {next : Progress} {stack₁ list₁ : List ℕ} {n : ℕ}
       (k : Goes t at stack list next stack₁ list₁ n) where
     -- the rest of the run from what was left, and from where the machine came to
-    goes-alike : AlikeEnds (runs w next stack₁ list₁) (runs (t ∷ w) at stack list)
+    goes-alike : AlikeEnds (next .deepest) (runs w next stack₁ list₁) (runs (t ∷ w) at stack list)
     goes-alike =
         let room : counted stack₁ ≡ counted stack = ap (λ (n : ℕ). min n mostCells) (k .stack-length) in
         let cells : counted list₁ ≡ counted list = ap (λ (n : ℕ). min n mostCells) (k .list-length) in
         let on = run-taken (rightOf g) (cellOf g table) (counted stack) (counted list) t w (standing at stack list) (k .comes) in
-        subst (λ (o : Offered). AlikeEnds (runs w next stack₁ list₁) o) (rw (room, cells) (sym on))
+        subst (λ (o : Offered). AlikeEnds (next .deepest) (runs w next stack₁ list₁) o) (rw (room, cells) (sym on))
         (run-alike (rightOf g) (cellOf g table) (counted stack₁) (counted list₁) w (k .alike))
 
-    goes-comes : {r : Reply} {stack′ list′ : List ℕ}
-        → Comes (runs w next stack₁ list₁) stack₁ list₁ r stack′ list′
-        → Comes (runs (t ∷ w) at stack list) stack list r stack′ list′
-    goes-comes c =
+    goes-comes : {r : Reply} {deepest : ℕ} {stack′ list′ : List ℕ}
+        → Comes (runs w next stack₁ list₁) stack₁ list₁ r deepest stack′ list′
+        → Comes (runs (t ∷ w) at stack list) stack list r (max (next .deepest) deepest) stack′ list′
+    goes-comes {r = r} {deepest = deepest} c =
         let o : Offered = runs w next stack₁ list₁ in
         let s : State = standing next stack₁ list₁ in
         let fits : length (s .listed) ≤ counted list₁ = omega (arith, within-listed (k .within), k .within .listed) in
@@ -287,7 +305,7 @@ module _ (book : List ℕ) (reading : Reading) (table : List ℕ) where
         let longer : length (k .state .listed) ≤ length (final o .listed) =
         omega (arith, ap length (grown .lists), length-append (s .listed) (grown .new), ap length (k .alike .listed)) in
         record {
-          answer = c .answer ∙ answered-alike (expected g table) goes-alike;
+          answer = raised-answer g table goes-alike deepest (valuesOf g table r) (c .answer);
           lists = c .lists ∙ ap (over (final o .listed)) (k .lists) ∙ over-over (k .state .listed) (final o .listed) list longer
               ∙ ap (λ (l : List ℕ). over l list) (alike-final goes-alike .listed);
           stack-length = c .stack-length ∙ k .stack-length;
@@ -307,24 +325,24 @@ module _ (book : List ℕ) (reading : Reading) (table : List ℕ) where
         → {r : Reply} {stack′ list′ : List ℕ}
         → OfferedOn g table t at stack list r stack′ list′
         → ((next : Progress) → r ≢ Taken next)
-        → Comes (runs (t ∷ w) at stack list) stack list r stack′ list′
+        → Comes (runs (t ∷ w) at stack list) stack list r (deepestIn r) stack′ list′
     unfolding reported
     stops-comes {t} w {at} {stack} {list} h small {r} {stack′} {list′} on other = go (offers (token t) at stack list) refl
       where
-        go : (o : Offered) → offers (token t) at stack list ≡ o → Comes (runs (t ∷ w) at stack list) stack list r stack′ list′
+        go : (o : Offered) → offers (token t) at stack list ≡ o → Comes (runs (t ∷ w) at stack list) stack list r (deepestIn r) stack′ list′
         go (taken e) f = absurd (other (progressOf e) (step-offers h (column-token small) on .answer ∙ ap reported f))
         go (stopped q e) f =
-            subst (λ (o : Offered). Comes o stack list r stack′ list′)
+            subst (λ (o : Offered). Comes o stack list r (deepestIn r) stack′ list′)
             (f ∙ sym (run-stopped (rightOf g) (cellOf g table) (counted stack) (counted list) t w (standing at stack list) f))
             (step-comes h (column-token small) on)
 
     -- offers in turn come to what the machine makes of the tokens
     turn-comes : {w : List ℕ} {at : Progress} {stack list : List ℕ} {r : Reply} {stack′ list′ : List ℕ}
-        → OfferedInTurn book reading table w at stack list r stack′ list′
+        → (turn : OfferedInTurn book reading table w at stack list r stack′ list′)
         → Within at stack list (length w)
         → ((i : ℕ) → i < length w → getD w i 0 < reading .tokens)
-        → Comes (runs w at stack list) stack list r stack′ list′
-    unfolding runFrom
+        → Comes (runs w at stack list) stack list r (deepestOf turn) stack′ list′
+    unfolding runFrom deepestOf
     turn-comes (at-end o) h known = step-comes h column-end (on-grammar o)
     turn-comes (stops {w = w} o other) h known = stops-comes w h (known 0 (omega arith)) (on-grammar o) other
     turn-comes (goes-on {w = w} o rest) h known =
@@ -369,10 +387,21 @@ module _ (book : List ℕ) (reading : Reading) (table : List ℕ) where
   turn-refused (stops (offered e on) other) n = absurd (n e)
   turn-refused (goes-on o rest) n = absurd (n (not-taken o refl))
 
+  refused-deepest : {w : List ℕ} {at : Progress} {stack list : List ℕ} {r : Reply} {stack′ list′ : List ℕ}
+      → (turn : OfferedInTurn book reading table w at stack list r stack′ list′)
+      → reading .answer .number ≢ served
+      → deepestOf turn ≡ 0
+  unfolding deepestOf deepestIn
+  refused-deepest (at-end (refused k)) n = refl
+  refused-deepest (at-end (offered e on)) n = absurd (n e)
+  refused-deepest (stops (refused k) other) n = refl
+  refused-deepest (stops (offered e on) other) n = absurd (n e)
+  refused-deepest (goes-on o rest) n = absurd (n (not-taken o refl))
+
   -- the start symbol alone on the stack
   start-alike : (stack list : List ℕ)
       → 1 ≤ length stack
-      → Alike (standing atStart (startOn reading stack) list) (begun (g .start))
+      → Alike 0 (standing atStart (startOn reading stack) list) (begun (g .start))
   unfolding standing begun spelledBy outlined
   start-alike [] list h = absurd (omega arith)
   start-alike (x ∷ stack) list h =
@@ -381,6 +410,7 @@ module _ (book : List ℕ) (reading : Reading) (table : List ℕ) where
         listed = refl;
         matched = refl;
         moves = refl;
+        height = refl;
       }
 
   module _ (tokens stack list : List ℕ) (some-cell : 1 ≤ length stack) (short : length tokens ≤ mostCells)
@@ -392,7 +422,7 @@ module _ (book : List ℕ) (reading : Reading) (table : List ℕ) where
         record { some-cell = omega arith; height = omega arith; listed = omega arith; matched = omega arith }
 
     -- the machine from what the buffers spell, and from the start symbol
-    start-ran : AlikeEnds (runs tokens atStart (startOn reading stack) list) (ran g table tokens stack list)
+    start-ran : AlikeEnds 0 (runs tokens atStart (startOn reading stack) list) (ran g table tokens stack list)
     unfolding ran
     start-ran =
         let long = length-set stack 0 (byteOf (Nonterminal (reading .start % 128))) in
@@ -400,15 +430,16 @@ module _ (book : List ℕ) (reading : Reading) (table : List ℕ) where
         rw same (run-alike (rightOf g) (cellOf g table) (counted stack) (counted list) tokens (start-alike stack list some-cell))
 
     made-served : (fine : reading .answer .number ≡ served)
-        → MakesRun book reading table stack r s l
-        (answered (expected g table) (ran g table tokens stack list))
+        → MakesRun book reading table stack r (deepestOf turn) s l
+        (runAnswer g table (ran g table tokens stack list))
         (cleared stack)
         (over (final (ran g table tokens stack list) .listed) list)
     made-served fine =
         let c = turn-comes fine turn start-within known in
+        let deepest : deepestOf turn ≡ max 0 (deepestOf turn) = omega arith in
         let same = length-set stack 0 (byteOf (Nonterminal (reading .start % 128))) in
         record {
-          answer = sym (c .answer ∙ answered-alike (expected g table) start-ran);
+          answer = sym (ap (λ (n : ℕ). atDepth n (valuesOf g table r)) deepest ∙ raised-answer g table start-ran (deepestOf turn) (valuesOf g table r) (c .answer));
           list = sym (c .lists ∙ ap (λ (ps : List ℕ). over ps list) (alike-final start-ran .listed));
           stack-cleared = λ e. ap (λ (n : ℕ). replicate n 0) (sym (c .stack-length ∙ same));
           stack-kept = λ n. absurd (n fine);
@@ -417,18 +448,18 @@ module _ (book : List ℕ) (reading : Reading) (table : List ℕ) where
     made-ran : {a : Answer} {stack′ list′ : List ℕ}
         → reading .answer .number ≡ served
         → RanOn g table tokens stack list a stack′ list′
-        → MakesRun book reading table stack r s l a stack′ list′
+        → MakesRun book reading table stack r (deepestOf turn) s l a stack′ list′
     made-ran fine (judged.no-stack e) = absurd (omega arith)
     made-ran fine (judged.ended h) = made-served fine
 
     pub offers-made : {a : Answer} {stack′ list′ : List ℕ}
         → JudgedRun book reading table tokens stack list a stack′ list′
-        → MakesRun book reading table stack r s l a stack′ list′
-    unfolding answerOf
+        → MakesRun book reading table stack r (deepestOf turn) s l a stack′ list′
+    unfolding valuesOf
     offers-made (judged.refused n) =
         let same = turn-refused turn n in
         record {
-          answer = sym (ap (λ (x : OfferResult). answerOf g table (x .0)) same);
+          answer = sym (ap (λ (d : ℕ). atDepth d (valuesOf g table r)) (refused-deepest turn n) ∙ ap (λ (x : OfferResult). atDepth 0 (valuesOf g table (x .0))) same);
           list = sym (ap (λ (x : OfferResult). x .2) same);
           stack-cleared = λ e. absurd (n e);
           stack-kept = λ m. (refl, ap (λ (x : OfferResult). x .1) same);

@@ -10,7 +10,7 @@ use Rattle.grammar.specs.Grammar.{Grammar, Complete}
 use Rattle.grammar.specs.Machine.{Longest}
 use Rattle.grammar.proofs.Leftmost.{leftmost-derives}
 use Rattle.answers.specs.declared.Answer.{Answer}
-use Rattle.answers.specs.Answers.{done, refusal}
+use Rattle.answers.specs.Answers.{done, refusal, atDepth}
 use Rattle.answers.specs.Refusals.{room, syntax}
 use Rattle.answers.specs.Buffers.{over, counted}
 use Rattle.book.proofs.Promise.{serves-limits}
@@ -19,7 +19,7 @@ use Rattle.machine.specs.Machine.{Offered, taken, final}
 use Rattle.machine.specs.Room.{peak}
 use Rattle.machine.proofs.Promise.{whole, run-syntax, run-place, run-complete, run-short-iff, peak-start}
 use Rattle.offer.specs.Strings.{ran}
-use Rattle.offer.specs.Stops.{answered, expected}
+use Rattle.offer.specs.Stops.{answered, expected, runAnswer}
 use Rattle.offer.proofs.Promise.{told-room, told-syntax, told-numbers, short-room}
 use Rattle.demands.specs.Demands.{Ran, Premises}
 use Rattle.demands.proofs.AnyTable.{ends-told, any-accepted}
@@ -66,15 +66,16 @@ module _ {book table tokens : List ℕ} (h : Premises book table tokens) (stack 
         run-short-iff (premises-exact h) (counted stack) (counted list) d (omega arith) .0 (reason, s, why, stopped-at)
 
     pub short-room-refused : {r : Ran} → RunBegins grammar table tokens stack list r → (counted list < length ps) ⊎ (counted stack < peak d) → r .answer .number ≡ room
-    unfolding ran refusal
+    unfolding ran refusal runAnswer atDepth
     short-room-refused (stackless e a b c) n = ap (λ (x : Answer). x .number) a
     short-room-refused (begins k e) n =
         let (reason, s, why, stopped-at) = run-short-iff (premises-exact h) (counted stack) (counted list) d (omega arith) .1 n in
         ap (λ (x : Answer). x .number) (e .answer) ∙ ap (λ (o : Offered). answered (expected grammar table) o .number) stopped-at ∙ short-room (expected grammar table) s why
 
-    -- with room for the derivation the run is done, lists it, and has made one step for each production and each token
-    pub runs-back : {r : Ran} → length ps ≤ counted list → peak d ≤ counted stack → RunBegins grammar table tokens stack list r → (r .answer ≡ done (length ps + length tokens)) × (r .list ≡ over ps list)
-    unfolding ran answered final whole
+    -- with room for the derivation the run is done, lists it, has made one step for each production and each token, and went as high as the
+    -- derivation does
+    pub runs-back : {r : Ran} → length ps ≤ counted list → peak d ≤ counted stack → RunBegins grammar table tokens stack list r → (r .answer ≡ atDepth (peak d) (done (length ps + length tokens))) × (r .list ≡ over ps list)
+    unfolding ran answered runAnswer final whole
     runs-back l k (stackless e a b c) = absurd (omega (arith, peak-start d))
     runs-back l k (begins m e) =
         let taken-at : ran grammar table tokens stack list ≡ taken (whole d) = run-complete (premises-exact h) (counted stack) (counted list) d l k in

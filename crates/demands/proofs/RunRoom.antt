@@ -8,7 +8,7 @@ use lib.ListN.{length}
 use Rattle.grammar.specs.Grammar.{Grammar, Complete}
 use Rattle.sets.specs.declared.Set.{Set}
 use Rattle.answers.specs.declared.Answer.{Answer}
-use Rattle.answers.specs.Answers.{done, refusal, stop, noSet}
+use Rattle.answers.specs.Answers.{done, refusal, stop, noSet, atDepth}
 use Rattle.answers.specs.Refusals.{room, syntax, stackRoom, listRoom}
 use Rattle.answers.specs.Buffers.{over, counted, cleared}
 use Rattle.table.specs.Table.{cellOf}
@@ -18,7 +18,7 @@ use Rattle.machine.specs.Room.{rightOf}
 use Rattle.machine.specs.Stopping.{RoomNeeded, Decided, accepted, refused}
 use Rattle.machine.proofs.Promise.{Counted, Outcome, enough, list-short, stack-short, run-steps, run-room}
 use Rattle.offer.specs.Strings.{ran}
-use Rattle.offer.specs.Stops.{answered, expected}
+use Rattle.offer.specs.Stops.{answered, expected, runAnswer}
 use Rattle.offer.proofs.Promise.{Told, served, short-of-list, short-of-stack, blocked}
 use Rattle.demands.specs.Demands.{Ran, Premises, RunRoom}
 use Rattle.demands.specs.RoomPlace.{StopsForRoom, no-stack, no-list-cell, no-stack-cells}
@@ -30,21 +30,21 @@ module _ {g : Grammar} {ps w : List ℕ} {d : Complete g ps w} {o : Offered} {st
   stops-as e f k x = rw (e, f, k) x
 
 module _ {g : Grammar} {ps w : List ℕ} {d : Complete g ps w} {stack list : List ℕ} (stacked : 1 ≤ length stack) (table : List ℕ) {r : Ran} where
-  outcome-stops : {o : Offered} → Outcome (counted stack) (counted list) d o → Counted (counted stack) (counted list) (final o) → r .answer ≡ answered (expected g table) o → r .stack ≡ cleared stack → r .list ≡ over (final o .listed) list → r .answer .number ≡ room → StopsForRoom g d o stack list (r .answer) (r .stack) (r .list)
-  unfolding answered final done stop expected
+  outcome-stops : {o : Offered} → Outcome (counted stack) (counted list) d o → Counted (counted stack) (counted list) (final o) → r .answer ≡ runAnswer g table o → r .stack ≡ cleared stack → r .list ≡ over (final o .listed) list → r .answer .number ≡ room → StopsForRoom g d o stack list (r .answer) (r .stack) (r .list)
+  unfolding answered runAnswer final done stop expected atDepth
   outcome-stops (enough l k) c a b e n = absurd (omega (arith, ap (λ (x : Answer). x .number) a))
-  outcome-stops (list-short {s = s} at l k) c a b e n = stops-as (a ∙ ap (λ (m : ℕ). stop room (s .matched) listRoom m noSet) (c .steps)) b e (no-list-cell stacked refl at l k)
-  outcome-stops (stack-short {s = s} at l k m q) c a b e n = stops-as (a ∙ ap (λ (m : ℕ). stop room (s .matched) stackRoom m noSet) (c .steps)) b e (no-stack-cells stacked refl at l k m)
+  outcome-stops (list-short {s = s} at l k) c a b e n = stops-as (a ∙ ap (λ (m : ℕ). atDepth (s .height) (stop room (s .matched) listRoom m noSet)) (c .steps)) b e (no-list-cell stacked refl at l k)
+  outcome-stops (stack-short {s = s} at l k m q) c a b e n = stops-as (a ∙ ap (λ (m : ℕ). atDepth (s .height) (stop room (s .matched) stackRoom m noSet)) (c .steps)) b e (no-stack-cells stacked refl at l k m)
 
 decided-numbers : {e : Reason → Set} {o : Offered} {a : Answer} → Decided o → Told e o a → (a .number ≡ 0) ⊎ (a .number ≡ syntax)
-unfolding done stop
+unfolding done stop atDepth
 decided-numbers q (served s) = inl refl
 decided-numbers (refused q) (short-of-list s) = elim q [ ]
 decided-numbers (refused q) (short-of-stack s) = elim q [ ]
 decided-numbers q (blocked s k) = inr refl
 
-told-decided : {e : Reason → Set} {o : Offered} {a : Answer} → Told e o a → (a .number ≡ 0) ⊎ (a .number ≡ syntax) → Decided o
-unfolding done stop
+pub told-decided : {e : Reason → Set} {o : Offered} {a : Answer} → Told e o a → (a .number ≡ 0) ⊎ (a .number ≡ syntax) → Decided o
+unfolding done stop atDepth
 told-decided (served s) k = accepted
 told-decided (short-of-list s) k = absurd (⊎-elim (λ n. omega arith) (λ n. omega arith) k)
 told-decided (short-of-stack s) k = absurd (⊎-elim (λ n. omega arith) (λ n. omega arith) k)

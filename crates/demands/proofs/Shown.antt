@@ -7,13 +7,13 @@ use lib.ListN.{length, drop}
 use lib.Seq.{drop-length}
 use Rattle.grammar.specs.Grammar.{Grammar}
 use Rattle.answers.specs.declared.Answer.{Answer}
-use Rattle.answers.specs.Answers.{done, stop}
+use Rattle.answers.specs.Answers.{done, stop, atDepth}
 use Rattle.answers.specs.Buffers.{counted}
 use Rattle.table.specs.Fitting.{FitTable}
 use Rattle.machine.specs.Machine.{Offered, final}
 use Rattle.machine.proofs.Promise.{run-sound}
 use Rattle.offer.specs.Strings.{ran}
-use Rattle.offer.specs.Stops.{answered, expected}
+use Rattle.offer.specs.Stops.{expected, runAnswer}
 use Rattle.offer.proofs.Promise.{Told, told, served, short-of-list, short-of-stack, blocked, told-done}
 use Rattle.run.specs.Running.{wordsOf, RunOutcome, BesideOutcome}
 use Rattle.demands.proofs.AnyTable.{fit-rows}
@@ -25,8 +25,8 @@ module _ {book table tokens stack list : List ℕ} where
 
 module _ (g : Grammar) (table tokens stack list : List ℕ) where
   -- in steps, the rest begins at the place of a refusal
-  pub rest-refused : answered (expected g table) (ran g table tokens stack list) .number ≢ 0 → final (ran g table tokens stack list) .matched ≡ answered (expected g table) (ran g table tokens stack list) .place
-  unfolding stop done final
+  pub rest-refused : runAnswer g table (ran g table tokens stack list) .number ≢ 0 → final (ran g table tokens stack list) .matched ≡ runAnswer g table (ran g table tokens stack list) .place
+  unfolding stop done atDepth runAnswer final
   rest-refused n = go (told (expected g table) (ran g table tokens stack list)) n
     where
       go : {o : Offered} {a : Answer} → Told (expected g table) o a → a .number ≢ 0 → final o .matched ≡ a .place
@@ -36,8 +36,8 @@ module _ (g : Grammar) (table tokens stack list : List ℕ) where
       go (blocked s k) n = refl
 
   -- and is empty when all is done
-  pub rest-done : FitTable g table → answered (expected g table) (ran g table tokens stack list) .number ≡ 0 → drop (final (ran g table tokens stack list) .matched) tokens ≡ []
-  unfolding ran final
+  pub rest-done : FitTable g table → runAnswer g table (ran g table tokens stack list) .number ≡ 0 → drop (final (ran g table tokens stack list) .matched) tokens ≡ []
+  unfolding ran runAnswer final
   rest-done fit n =
       let (s, taken-at) = told-done (told (expected g table) (ran g table tokens stack list)) n in
       let all : s .matched ≡ length tokens = run-sound (fit-rows fit) (counted stack) (counted list) tokens taken-at .matches in

@@ -51,15 +51,15 @@ runsZero book table stack list answer written =
 
 -- both productions are listed before the token is matched
 unfoldable pub chainRun : Example
-chainRun = runsZero chainBook chainTable 31 2 (answering 11 1 0 3 (2 ^ 0)) (0 ∷ 1 ∷ [])
+chainRun = runsZero chainBook chainTable 31 2 (answering 11 1 0 3 (2 ^ 0) 3) (0 ∷ 1 ∷ [])
 
 -- the right side of 16 symbols just fits
 unfoldable pub longRun : Example
-longRun = runsZero longBook longTable 16 1 (answering 11 1 0 2 (2 ^ 0)) (0 ∷ [])
+longRun = runsZero longBook longTable 16 1 (answering 11 1 0 2 (2 ^ 0) 16) (0 ∷ [])
 
 -- and with one stack cell less, or one list cell less, there is no room for it
 unfoldable pub lowRun : Example
-lowRun = runsZero longBook longTable 15 1 (answering 7 0 1 0 0) (9 ∷ [])
+lowRun = runsZero longBook longTable 15 1 (answering 7 0 1 0 0 1) (9 ∷ [])
 
 unfoldable pub listlessRun : Example
-listlessRun = runsZero longBook longTable 16 0 (answering 7 0 2 0 0) []
+listlessRun = runsZero longBook longTable 16 0 (answering 7 0 2 0 0 1) []

@@ -20,15 +20,16 @@ Allowed (building book first follow table r) = MayBuild book first follow table 
 Allowed (running book table tokens stack list r) = MayRun book table tokens stack list r
 Allowed (expanding book list stack output r) = MayExpand book list stack output r
 
--- number, place, detail, steps and expected set
-unfoldable pub answering : (number place detail steps expected : ℕ) → Answer
-answering number place detail steps expected =
+-- number, place, detail, steps, expected set and depth
+unfoldable pub answering : (number place detail steps expected depth : ℕ) → Answer
+answering number place detail steps expected depth =
     record {
       number = number;
       place = place;
       detail = detail;
       steps = steps;
       expected = record { word = expected };
+      depth = depth;
     }
 
 -- a run, or an expansion, with the house book and its table: what is lent, then the answer and what is left
@@ -44,43 +45,43 @@ expands list stack output answer after written =
 unfoldable pub exampleA : Example
 exampleA =
     runs (0 ∷ 1 ∷ 2 ∷ 1 ∷ 3 ∷ 1 ∷ []) (9 ∷ 9 ∷ 9 ∷ []) (9 ∷ 9 ∷ 9 ∷ 9 ∷ 9 ∷ 9 ∷ 9 ∷ [])
-    (answering 0 0 0 13 0) (0 ∷ 0 ∷ 0 ∷ []) (0 ∷ 1 ∷ 2 ∷ 4 ∷ 1 ∷ 3 ∷ 5 ∷ [])
+    (answering 0 0 0 13 0 3) (0 ∷ 0 ∷ 0 ∷ []) (0 ∷ 1 ∷ 2 ∷ 4 ∷ 1 ∷ 3 ∷ 5 ∷ [])
 
 -- A with a stack of two cells
 unfoldable pub exampleB : Example
 exampleB =
     runs (0 ∷ 1 ∷ 2 ∷ 1 ∷ 3 ∷ 1 ∷ []) (9 ∷ 9 ∷ []) (9 ∷ 9 ∷ 9 ∷ 9 ∷ 9 ∷ 9 ∷ 9 ∷ [])
-    (answering 7 1 1 2 0) (0 ∷ 0 ∷ []) (0 ∷ 9 ∷ 9 ∷ 9 ∷ 9 ∷ 9 ∷ 9 ∷ [])
+    (answering 7 1 1 2 0 2) (0 ∷ 0 ∷ []) (0 ∷ 9 ∷ 9 ∷ 9 ∷ 9 ∷ 9 ∷ 9 ∷ [])
 
 -- A with a list of six cells
 unfoldable pub exampleC : Example
 exampleC =
     runs (0 ∷ 1 ∷ 2 ∷ 1 ∷ 3 ∷ 1 ∷ []) (9 ∷ 9 ∷ 9 ∷ []) (9 ∷ 9 ∷ 9 ∷ 9 ∷ 9 ∷ 9 ∷ [])
-    (answering 7 6 2 12 0) (0 ∷ 0 ∷ 0 ∷ []) (0 ∷ 1 ∷ 2 ∷ 4 ∷ 1 ∷ 3 ∷ [])
+    (answering 7 6 2 12 0 3) (0 ∷ 0 ∷ 0 ∷ []) (0 ∷ 1 ∷ 2 ∷ 4 ∷ 1 ∷ 3 ∷ [])
 
 -- restore name
 unfoldable pub exampleD : Example
 exampleD =
     runs (0 ∷ 1 ∷ []) (9 ∷ 9 ∷ 9 ∷ 9 ∷ []) (9 ∷ 9 ∷ 9 ∷ 9 ∷ 9 ∷ 9 ∷ [])
-    (answering 0 0 0 6 0) (0 ∷ 0 ∷ 0 ∷ 0 ∷ []) (0 ∷ 1 ∷ 3 ∷ 5 ∷ 9 ∷ 9 ∷ [])
+    (answering 0 0 0 6 0 3) (0 ∷ 0 ∷ 0 ∷ 0 ∷ []) (0 ∷ 1 ∷ 3 ∷ 5 ∷ 9 ∷ 9 ∷ [])
 
 -- no tokens
 unfoldable pub exampleE : Example
 exampleE =
     runs [] (9 ∷ 9 ∷ 9 ∷ []) (9 ∷ 9 ∷ [])
-    (answering 11 0 0 0 (2 ^ 0)) (0 ∷ 0 ∷ 0 ∷ []) (9 ∷ 9 ∷ [])
+    (answering 11 0 0 0 (2 ^ 0) 1) (0 ∷ 0 ∷ 0 ∷ []) (9 ∷ 9 ∷ [])
 
 -- restore name name
 unfoldable pub exampleF : Example
 exampleF =
     runs (0 ∷ 1 ∷ 1 ∷ []) (9 ∷ 9 ∷ 9 ∷ []) (9 ∷ 9 ∷ 9 ∷ 9 ∷ [])
-    (answering 11 2 0 4 (2 ^ 2 + 2 ^ 3 + 2 ^ 62)) (0 ∷ 0 ∷ 0 ∷ []) (0 ∷ 1 ∷ 9 ∷ 9 ∷ [])
+    (answering 11 2 0 4 (2 ^ 2 + 2 ^ 3 + 2 ^ 62) 3) (0 ∷ 0 ∷ 0 ∷ []) (0 ∷ 1 ∷ 9 ∷ 9 ∷ [])
 
 -- token 4 is none of the grammar's
 unfoldable pub exampleG : Example
 exampleG =
     runs (0 ∷ 1 ∷ 4 ∷ []) (9 ∷ 9 ∷ 9 ∷ []) (9 ∷ 9 ∷ 9 ∷ 9 ∷ [])
-    (answering 10 2 0 0 0) (9 ∷ 9 ∷ 9 ∷ []) (9 ∷ 9 ∷ 9 ∷ 9 ∷ [])
+    (answering 10 2 0 0 0 0) (9 ∷ 9 ∷ 9 ∷ []) (9 ∷ 9 ∷ 9 ∷ 9 ∷ [])
 
 -- building is refused, with so many cells of 9 in each buffer, and leaves them as they were
 unfoldable pub refusesBuilding : (book : List ℕ) (sets cells : ℕ) → Answer → Example
@@ -90,26 +91,26 @@ refusesBuilding book sets cells answer =
 
 -- H with the right side of production 4 changed
 unfoldable pub exampleH1 : Example
-exampleH1 = refusesBuilding conflictedHouseBook 4 20 (answering 8 12 515 0 0)
+exampleH1 = refusesBuilding conflictedHouseBook 4 20 (answering 8 12 515 0 0 0)
 
 -- B is used only beside C, which derives nothing
 unfoldable pub exampleI : Example
-exampleI = refusesBuilding uselessBook 3 9 (answering 6 1 0 0 0)
+exampleI = refusesBuilding uselessBook 3 9 (answering 6 1 0 0 0 0)
 
 -- A → 1 A 1, A → B 0, B → 1
 unfoldable pub exampleJ : Example
-exampleJ = refusesBuilding nestedBook 2 6 (answering 8 1 1 0 0)
+exampleJ = refusesBuilding nestedBook 2 6 (answering 8 1 1 0 0 0)
 
 -- a complete list, and one that ends too soon
 unfoldable pub exampleK : Example
 exampleK =
     expands (0 ∷ 1 ∷ 3 ∷ 5 ∷ []) (9 ∷ 9 ∷ 9 ∷ []) (9 ∷ 9 ∷ 9 ∷ [])
-    (answering 0 0 0 6 0) (0 ∷ 0 ∷ 0 ∷ []) (0 ∷ 1 ∷ 9 ∷ [])
+    (answering 0 0 0 6 0 3) (0 ∷ 0 ∷ 0 ∷ []) (0 ∷ 1 ∷ 9 ∷ [])
 
 unfoldable pub exampleKShort : Example
 exampleKShort =
     expands (0 ∷ 1 ∷ 3 ∷ []) (9 ∷ 9 ∷ 9 ∷ []) (9 ∷ 9 ∷ 9 ∷ [])
-    (answering 12 3 0 5 0) (0 ∷ 0 ∷ 0 ∷ []) (0 ∷ 1 ∷ 9 ∷ [])
+    (answering 12 3 0 5 0 3) (0 ∷ 0 ∷ 0 ∷ []) (0 ∷ 1 ∷ 9 ∷ [])
 
 unfoldable pub examples : List Example
 examples =

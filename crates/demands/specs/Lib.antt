@@ -1,5 +1,6 @@
 pub mod Demands
 pub mod RoomPlace
+pub mod Depth
 pub mod Formula
 pub mod Offers
 pub mod Examples

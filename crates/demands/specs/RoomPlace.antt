@@ -6,7 +6,7 @@ use Prim.Native.Nat.{ℕ, _+_, _≤_, _<_}
 use lib.ListN.{length}
 use Rattle.grammar.specs.declared.Symbol.the-variants.{Token, Nonterminal}
 use Rattle.grammar.specs.Grammar.{Form, Grammar, Complete}
-use Rattle.answers.specs.Answers.{refusal, stop, noSet}
+use Rattle.answers.specs.Answers.{refusal, stop, noSet, atDepth}
 use Rattle.answers.specs.Buffers.{counted, over, cleared}
 use Rattle.answers.specs.Refusals.{room, stackRoom, listRoom, outputRoom}
 use Rattle.answers.specs.declared.Answer.{Answer}
@@ -29,7 +29,9 @@ pub data StopsForRoom (g : Grammar) {ps w : List ℕ} (d : Complete g ps w) (o :
       → length (s .listed) ≡ counted list
       → s .height ≤ counted stack
       → StopsForRoom g d o stack list
-      (stop room (s .matched) listRoom (length (s .listed) + s .matched) noSet) (cleared stack) (over (s .listed) list)
+      (atDepth (s .height) (stop room (s .matched) listRoom (length (s .listed) + s .matched) noSet))
+      (cleared stack)
+      (over (s .listed) list)
   no-stack-cells : {p : ℕ} {below : Form} {s : State}
       → 1 ≤ length stack
       → o ≡ stopped FullStack s
@@ -38,7 +40,9 @@ pub data StopsForRoom (g : Grammar) {ps w : List ℕ} (d : Complete g ps w) (o :
       → s .height ≤ counted stack
       → counted stack < length (rightOf g p ++ below)
       → StopsForRoom g d o stack list
-      (stop room (s .matched) stackRoom (length (s .listed) + s .matched) noSet) (cleared stack) (over (s .listed) list)
+      (atDepth (s .height) (stop room (s .matched) stackRoom (length (s .listed) + s .matched) noSet))
+      (cleared stack)
+      (over (s .listed) list)
 
 -- what an expansion that comes to e leaves if it stops for room: no stack cell; or, midway in the list, right before
 -- the first production whose right side does not fit the stack, or the first token for which the output is full
@@ -51,11 +55,15 @@ pub data ExpansionStops (g : Grammar) (list : List ℕ) (e : Expansion) (stack o
       → Midway g list s (p ∷ rest) (Nonterminal A ∷ below)
       → counted stack < length (rightOf g p ++ below)
       → ExpansionStops g list e stack output
-      (stop room (s .used) stackRoom (s .used + length (s .written)) noSet) (cleared stack) (over (s .written) output)
+      (atDepth (s .height) (stop room (s .used) stackRoom (s .used + length (s .written)) noSet))
+      (cleared stack)
+      (over (s .written) output)
   no-output-cell : {t : ℕ} {rest : List ℕ} {below : Form} {s : Course}
       → 1 ≤ length stack
       → e ≡ ended upshots.FullOutput s
       → Midway g list s rest (Token t ∷ below)
       → length (s .written) ≡ counted output
       → ExpansionStops g list e stack output
-      (stop room (s .used) outputRoom (s .used + length (s .written)) noSet) (cleared stack) (over (s .written) output)
+      (atDepth (s .height) (stop room (s .used) outputRoom (s .used + length (s .written)) noSet))
+      (cleared stack)
+      (over (s .written) output)

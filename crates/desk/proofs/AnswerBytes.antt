@@ -14,16 +14,17 @@ pub answer-size : (a : Answer) → length (answerBytes a) ≡ answerSize
 unfolding answerSize answerBytes littleEndian
 answer-size a = refl
 
-pub answerSize-is : answerSize ≡ 32
+pub answerSize-is : answerSize ≡ 40
 unfolding answerSize answerBytes littleEndian
 answerSize-is = refl
 
--- four words one after the other are the answer, written over the buffer
-pub words-written : (a : Answer) (entry : List ℕ) {place detail steps exit : List ℕ} → Lent entry
+-- five words one after the other are the answer, written over the buffer
+pub words-written : (a : Answer) (entry : List ℕ) {place detail steps expected exit : List ℕ} → Lent entry
     → place ≡ sets entry 0 (littleEndian 8 (a .place))
     → detail ≡ sets place 8 (littleEndian 8 (a .detail))
     → steps ≡ sets detail 16 (littleEndian 8 (a .steps))
-    → exit ≡ sets steps 24 (littleEndian 8 (number (a .expected)))
+    → expected ≡ sets steps 24 (littleEndian 8 (number (a .expected)))
+    → exit ≡ sets expected 32 (littleEndian 8 (a .depth))
     → exit ≡ over (answerBytes a) entry
 unfolding answerSize answerBytes littleEndian
-words-written a entry lent p d s e = rw (e, s, d, p) (sets-eq (answerBytes a) entry 0 lent)
+words-written a entry lent p d s x e = rw (e, x, s, d, p) (sets-eq (answerBytes a) entry 0 lent)

@@ -1,4 +1,4 @@
--- Every answer fits its four words, wherever the book and the table are shorter than 2 ^ 64.
+-- Every answer fits its five words, wherever the book and the table are shorter than 2 ^ 64.
 use mathlib.Core.List.{List}
 use mathlib.Core.Option.{Option, some, none}
 use Prim.Native.Nat.{ℕ, zero, suc, _+_, _*_, _^_, _≤_, _<_}
@@ -14,7 +14,7 @@ use Rattle.sets.specs.Sets.{width, endMark, columnPlace}
 use Rattle.sets.specs.declared.Set.{Set}
 use Rattle.sets.proofs.Promise.{added-fits}
 use Rattle.answers.specs.declared.Answer.{Answer}
-use Rattle.answers.specs.Answers.{done, refusal, stop}
+use Rattle.answers.specs.Answers.{done, refusal, stop, atDepth}
 use Rattle.answers.specs.Buffers.{counted}
 use Rattle.patterns.specs.Calls.{JudgePatterns}
 use Rattle.patterns.specs.Calls as patterns
@@ -47,7 +47,7 @@ use Rattle.machine.specs.Expansion.{expansion, Course}
 use Rattle.machine.specs.declared.Upshot.{Upshot}
 use Rattle.machine.specs.Room.{rightOf}
 use Rattle.machine.proofs.Promise.{Counted, run-steps, run-inside, expand-steps}
-use Rattle.offer.specs.Stops.{marking, filledBelow, expected, answered}
+use Rattle.offer.specs.Stops.{marking, filledBelow, expected, runAnswer}
 use Rattle.offer.specs.Strings.{ran}
 use Rattle.offer.proofs.Promise.{Told, told, served, short-of-list, short-of-stack, blocked, told-steps}
 use Rattle.run.specs.Running.{Barred, bad-table, too-long, strange, no-stack, RunOutcome}
@@ -59,11 +59,11 @@ use Rattle.desk.proofs.ReadBack.{FitsWords}
 
 done-fits : (n : ℕ) → n < 2 ^ 64 → FitsWords (done n)
 unfolding done
-done-fits n h = record { place = omega arith; detail = omega arith; steps = h; expected = omega arith }
+done-fits n h = record { place = omega arith; detail = omega arith; steps = h; expected = omega arith; depth = omega arith }
 
 refusal-fits : (number : ℕ) {place detail : ℕ} → place < 2 ^ 64 → detail < 2 ^ 64 → FitsWords (refusal number place detail)
 unfolding refusal
-refusal-fits number h k = record { place = h; detail = k; steps = omega arith; expected = omega arith }
+refusal-fits number h k = record { place = h; detail = k; steps = omega arith; expected = omega arith; depth = omega arith }
 
 -- no table has more than 64 × 63 cells
 size-bounded : {g : Grammar} → Limits g → size g ≤ 4032
@@ -111,12 +111,12 @@ expected-fits g table WantsEnd = marking-fits endMark 0 (omega arith)
 expected-fits g table (WantsToken t) = marking-fits t 0 (omega arith)
 expected-fits g table (WantsRow A) = filled-fits g table A (g .tokens + 1)
 
-told-fits : {e : Reason → Set} {o : Offered} {a : Answer} → Told e o a → ((r : Reason) → sets.number (e r) < 2 ^ 64) → final o .matched < 2 ^ 64 → a .steps < 2 ^ 64 → FitsWords a
-unfolding final done stop
-told-fits (served s) sets-fit h k = done-fits (s .moves) k
-told-fits (short-of-list s) sets-fit h k = record { place = h; detail = omega arith; steps = k; expected = sets-fit FullList }
-told-fits (short-of-stack s) sets-fit h k = record { place = h; detail = omega arith; steps = k; expected = sets-fit FullStack }
-told-fits (blocked {r = r} s b) sets-fit h k = record { place = h; detail = omega arith; steps = k; expected = sets-fit r }
+told-fits : {e : Reason → Set} {o : Offered} {a : Answer} → Told e o a → ((r : Reason) → sets.number (e r) < 2 ^ 64) → final o .matched < 2 ^ 64 → a .steps < 2 ^ 64 → final o .height < 2 ^ 64 → FitsWords a
+unfolding final done stop atDepth
+told-fits (served s) sets-fit h k d = record { place = omega arith; detail = omega arith; steps = k; expected = omega arith; depth = d }
+told-fits (short-of-list s) sets-fit h k d = record { place = h; detail = omega arith; steps = k; expected = sets-fit FullList; depth = d }
+told-fits (short-of-stack s) sets-fit h k d = record { place = h; detail = omega arith; steps = k; expected = sets-fit FullStack; depth = d }
+told-fits (blocked {r = r} s b) sets-fit h k d = record { place = h; detail = omega arith; steps = k; expected = sets-fit r; depth = d }
 
 module _ (g : Grammar) (table tokens stack list : List ℕ) where
   ran-counted : Counted (counted stack) (counted list) (final (ran g table tokens stack list))
@@ -131,24 +131,26 @@ module _ (g : Grammar) (table tokens stack list : List ℕ) where
   pub ran-bounded : (length (final (ran g table tokens stack list) .listed) ≤ 65535) × (final (ran g table tokens stack list) .matched ≤ length tokens)
   ran-bounded = (omega (arith, ran-counted .list-fits), ran-inside)
 
-  ran-fits : length tokens ≤ 4096 → FitsWords (answered (expected g table) (ran g table tokens stack list))
-  ran-fits short =
+  ran-fits : length tokens ≤ 4096 → 1 ≤ length stack → FitsWords (runAnswer g table (ran g table tokens stack list))
+  unfolding runAnswer
+  ran-fits short stacked =
       let o : Offered = ran g table tokens stack list in
-      let answer : Told (expected g table) o (answered (expected g table) o) = told (expected g table) o in
-      told-fits answer (expected-fits g table) (omega (arith, ran-inside)) (omega (arith, told-steps answer, ran-counted .steps, ran-counted .list-fits, ran-inside))
+      let answer : Told (expected g table) o (runAnswer g table o) = told (expected g table) o in
+      let low = ran-counted .height-fits (omega arith) in
+      told-fits answer (expected-fits g table) (omega (arith, ran-inside)) (omega (arith, told-steps answer, ran-counted .steps, ran-counted .list-fits, ran-inside)) (omega arith)
 
 -- the answer of a run
 pub run-fits : {book table tokens stack list : List ℕ} {a : Answer} {stack′ list′ : List ℕ} → length book < 2 ^ 64 → length table < 2 ^ 64 → RunOutcome book table tokens stack list a stack′ list′ → FitsWords a
 run-fits b t (running.refused r) = refused-fits b r
 run-fits b t (running.barred s r) = barred-fits (serves-limits s) t r
-run-fits {table = table} {tokens} {stack} {list} b t (running.ended {g = g} s a) = ran-fits g table tokens stack list (a .short)
+run-fits {table = table} {tokens} {stack} {list} b t (running.ended {g = g} s a) = ran-fits g table tokens stack list (a .short) (a .stacked)
 
-told-by-fits : {s : Course} {e : Upshot} {a : Answer} → ToldBy s e a → s .used < 2 ^ 64 → s .moves < 2 ^ 64 → FitsWords a
-unfolding stop
-told-by-fits {s} finished h k = done-fits (s .moves) k
-told-by-fits misfitting h k = record { place = h; detail = omega arith; steps = k; expected = omega arith }
-told-by-fits out-of-stack h k = record { place = h; detail = omega arith; steps = k; expected = omega arith }
-told-by-fits out-of-output h k = record { place = h; detail = omega arith; steps = k; expected = omega arith }
+told-by-fits : {s : Course} {e : Upshot} {a : Answer} → ToldBy s e a → s .used < 2 ^ 64 → s .moves < 2 ^ 64 → s .height < 2 ^ 64 → FitsWords a
+unfolding done stop atDepth
+told-by-fits finished h k d = record { place = omega arith; detail = omega arith; steps = k; expected = omega arith; depth = d }
+told-by-fits misfitting h k d = record { place = h; detail = omega arith; steps = k; expected = omega arith; depth = d }
+told-by-fits out-of-stack h k d = record { place = h; detail = omega arith; steps = k; expected = omega arith; depth = d }
+told-by-fits out-of-output h k d = record { place = h; detail = omega arith; steps = k; expected = omega arith; depth = d }
 
 -- of an expansion
 pub expand-fits : {book list stack output : List ℕ} {a : Answer} {stack′ output′ : List ℕ} → length book < 2 ^ 64 → ExpandOutcome book list stack output a stack′ output′ → FitsWords a
@@ -157,7 +159,7 @@ expand-fits b (expanding.too-long s h) = refusal-fits 4 (omega arith) (omega ari
 expand-fits b (expanding.no-stack s h e) = refusal-fits 7 (omega arith) (omega arith)
 expand-fits {list = list} {stack} {output} b (expanding.ended {g = g} s h k) =
     let counts = expand-steps g (counted stack) (counted output) list in
-    told-by-fits (told-by (expansion g (counted stack) (counted output) list)) (omega (arith, counts .used)) (omega (arith, counts .used, counts .written, counts .moves))
+    told-by-fits (told-by (expansion g (counted stack) (counted output) list)) (omega (arith, counts .used)) (omega (arith, counts .used, counts .written, counts .moves)) (omega (arith, counts .height))
 
 room-fits : {g : Grammar} {first follow : List ℕ} {a : Answer} → Limits g → SetsRoom g first follow a → FitsWords a
 room-fits l (no-first h) = refusal-fits 7 (omega (arith, l .nonterminals-fit)) (omega arith)
@@ -223,9 +225,9 @@ line-fits {line = line} {pieces = pieces} {ending = ending} short cut = go endin
     steps = omega (arith, pieces-few cut)
 
     go : (e : Ending) → answerOf e (length pieces) .place ≤ 0 + length line → FitsWords (answerOf e (length pieces))
-    go Whole h = record { place = omega arith; detail = omega arith; steps = steps; expected = omega arith }
-    go (NoToken place) h = record { place = omega arith; detail = omega arith; steps = steps; expected = omega arith }
-    go (NoRoom place) h = record { place = omega arith; detail = omega arith; steps = steps; expected = omega arith }
+    go Whole h = record { place = omega arith; detail = omega arith; steps = steps; expected = omega arith; depth = omega arith }
+    go (NoToken place) h = record { place = omega arith; detail = omega arith; steps = steps; expected = omega arith; depth = omega arith }
+    go (NoRoom place) h = record { place = omega arith; detail = omega arith; steps = steps; expected = omega arith; depth = omega arith }
 
 pub cut-fits : {patterns lengths line machine tokens machine′ tokens′ : List ℕ} {a : Answer}
     → length patterns < 2 ^ 64

@@ -21,6 +21,7 @@ pub record FitsWords (a : Answer) : Type 0 where
   pub detail : a .detail < 2 ^ 64
   pub steps : a .steps < 2 ^ 64
   pub expected : sets.number (a .expected) < 2 ^ 64
+  pub depth : a .depth < 2 ^ 64
 
 -- r is read from the words of a: its number is a's, and so is each field of a that fits a word
 pub record ReadFrom (a r : Answer) : Type 0 where
@@ -29,6 +30,7 @@ pub record ReadFrom (a r : Answer) : Type 0 where
   pub detail : a .detail < 2 ^ 64 → r .detail ≡ a .detail
   pub steps : a .steps < 2 ^ 64 → r .steps ≡ a .steps
   pub expected : sets.number (a .expected) < 2 ^ 64 → sets.number (r .expected) ≡ sets.number (a .expected)
+  pub depth : a .depth < 2 ^ 64 → r .depth ≡ a .depth
 
 written-read : (a : Answer) (answer : List ℕ) → ReadFrom a (answerFrom (a .number) (over (answerBytes a) answer))
 unfolding answerFrom wordAt answerBytes littleEndian
@@ -39,6 +41,7 @@ written-read a answer =
       detail = λ h. word-back (a .detail) h;
       steps = λ h. word-back (a .steps) h;
       expected = λ h. word-back (sets.number (a .expected)) h;
+      depth = λ h. word-back (a .depth) h;
     }
 
 -- so it is with the answer of a call
@@ -49,7 +52,7 @@ answer-read {answer = answer} x = rw (x .returned, x .written) (written-read (x 
 read-exact : {a r : Answer} → ReadFrom a r → FitsWords a → r ≡ a
 read-exact x fits =
     let set = number-unique (x .expected (fits .expected)) in
-    λ i. record { number = x .number i; place = x .place (fits .place) i; detail = x .detail (fits .detail) i; steps = x .steps (fits .steps) i; expected = set i }
+    λ i. record { number = x .number i; place = x .place (fits .place) i; detail = x .detail (fits .detail) i; steps = x .steps (fits .steps) i; expected = set i; depth = x .depth (fits .depth) i }
 
 -- where the answer fits its words, the caller reads the outcome itself
 pub called-exact : {Buffers Enough : Type 0} {Outcome : Answer → Buffers → Type 0} {before : Buffers} {answer : List ℕ} {n : ℕ} {after : Buffers} {bytes : List ℕ}

@@ -24,10 +24,11 @@ use Rattle.run.specs.Running.{RunOutcome}
 use Rattle.run.proofs.Promise.{run-outcome-unique}
 use Rattle.expand.specs.Expanding.{ExpandOutcome}
 use Rattle.expand.proofs.Promise.{expand-outcome-unique}
+use Rattle.demands.specs.Depth.{RunDepth, ExpandDepth}
 use Rattle.demands.specs.Formula.{RunWithinFormula}
 use Rattle.demands.specs.Demands.{BuildMeets2, ExpandMeets2, RunMeets2, RunMeets3, RunStepsAdd, ExpandStepsAdd}
 use Rattle.demands.proofs.Promise.{build-meets2, run-meets3, run-meets2, run-steps-add, run-formula, expand-meets2}
-use Rattle.demands.proofs.Promise.{expand-steps-add}
+use Rattle.demands.proofs.Promise.{expand-steps-add, run-depth, expand-depth}
 use Rattle.desk.specs.Desk.{littleEndian, answerBytes, answerSize, Lent, LentCell, JudgeOutcome, SetOutcome}
 use Rattle.desk.specs.Desk.{JudgeCall, PatternsCall, CutCall, CutWithCall, SetsCall, BuildCall, RunCall}
 use Rattle.desk.specs.Desk.{ExpandCall, LookaheadCall, FirstCall}
@@ -241,6 +242,25 @@ module _ {answer : List ℕ} (lent : Lent answer) where
           none = λ m. let zero = adds .none m in read .steps (omega arith) ∙ zero;
         }
 
+    -- the depth is the most stack cells held at any moment, and 0 where steps do not begin
+    pub desk-run-depth :
+        RunDepth book table tokens stack list (record { answer = answerFrom n x; stack = s; list = l })
+    desk-run-depth =
+        let told = called-answer lent (c .call) in
+        let read = answer-read told in
+        let deep =
+        run-depth book table tokens stack list (record { answer = told .told; stack = s; list = l })
+        (told .outcome) in
+        record {
+          held = λ {g} serves admits.
+              let (some, low) = deep .within serves admits in
+              read .depth (omega arith) ∙ deep .held serves admits;
+          within = λ {g} serves admits.
+              let (some, low) = deep .within serves admits in
+              rw (read .depth (omega arith)) (some, low);
+          none = λ m. let zero = deep .none m in read .depth (omega arith) ∙ zero;
+        }
+
     -- room by formula: with N × n list cells and 1 + 15 × N × n stack cells, both counted, it is never refused for room
     pub desk-run-formula :
         RunWithinFormula book table tokens stack list (record { answer = answerFrom n x; stack = s; list = l })
@@ -294,6 +314,25 @@ module _ {answer : List ℕ} (lent : Lent answer) where
         none = λ m. let zero = adds .none m in read .steps (omega arith) ∙ zero;
       }
 
+  pub desk-expand-depth : {book list stack output : List ℕ} {n : ℕ} {s v x : List ℕ}
+      → ExpandCall book list stack output answer n s v x
+      → ExpandDepth book list stack output (record { answer = answerFrom n x; stack = s; output = v })
+  desk-expand-depth {book} {list} {stack} {output} {n} {s} {v} c =
+      let told = called-answer lent (c .call) in
+      let read = answer-read told in
+      let deep =
+      expand-depth book list stack output (record { answer = told .told; stack = s; output = v })
+      (told .outcome) in
+      record {
+        held = λ {g} serves short k.
+            let (some, low) = deep .within serves short k in
+            read .depth (omega arith) ∙ deep .held serves short k;
+        within = λ {g} serves short k.
+            let (some, low) = deep .within serves short k in
+            rw (read .depth (omega arith)) (some, low);
+        none = λ m. let zero = deep .none m in read .depth (omega arith) ∙ zero;
+      }
+
   -- demand 2 of building: sets and tables have no member missing and none added, and a conflict is found exactly if two
   -- productions claim one cell
   pub desk-build-meets2 : {book first follow table : List ℕ} {n : ℕ} {f w t x : List ℕ}
@@ -313,7 +352,7 @@ module _ {answer : List ℕ} (lent : Lent answer) where
         cells = λ {g} serves m. meets .cells serves (sym (read .number) ∙ m);
       }
 
--- an answer buffer has 32 bytes or more
-pub answer-size : answerSize ≡ 32
+-- an answer buffer has 40 bytes or more
+pub answer-size : answerSize ≡ 40
 unfolding answerSize answerBytes littleEndian
 answer-size = refl

@@ -24,4 +24,5 @@ answerFrom number bytes =
       detail = wordAt 1 bytes;
       steps = wordAt 2 bytes;
       expected = record { word = wordAt 3 bytes };
+      depth = wordAt 4 bytes;
     }

@@ -1,5 +1,6 @@
--- What the C functions answer and leave in the lent buffers: the number is returned, and place, detail, steps and
--- expected set go into a lent answer buffer. Document 01, "Running and expanding": the restore desk's own program.
+-- What the C functions answer and leave in the lent buffers: the number is returned, and place, detail, steps, expected
+-- set and depth go into a lent answer buffer. Document 01, "Running and expanding": the restore desk's own program;
+-- document 02, W7.
 use mathlib.Core.Path.{_≡_}
 use mathlib.Core.List.{List, [], _∷_, _++_}
 use Prim.Native.Nat.{ℕ, zero, suc, _/_, _%_, _≤_}
@@ -26,11 +27,11 @@ unfoldable pub littleEndian : ℕ → ℕ → List ℕ
 littleEndian zero n = []
 littleEndian (suc bytes) n = n % 256 ∷ littleEndian bytes (n / 256)
 
--- place, detail, steps and expected set as little-endian 64-bit words
+-- place, detail, steps, expected set and depth as little-endian 64-bit words
 unfoldable pub answerBytes : Answer → List ℕ
 answerBytes a =
-    littleEndian 8 (a .place) ++ littleEndian 8 (a .detail) ++ littleEndian 8 (a .steps) ++ littleEndian 8
-    (number (a .expected))
+    littleEndian 8 (a .place) ++ littleEndian 8 (a .detail) ++ littleEndian 8 (a .steps)
+    ++ littleEndian 8 (number (a .expected)) ++ littleEndian 8 (a .depth)
 
 -- how long an answer buffer must be: as long as the bytes of any answer
 unfoldable pub answerSize : ℕ

@@ -8,7 +8,7 @@ ghost use Rattle.desk.specs.Desk.{littleEndian, answerBytes, Lent};
 use answers::Answer;
 
 // How many bytes the words of an answer take.
-pub(crate) const ANSWER_SIZE: usize = 32;
+pub(crate) const ANSWER_SIZE: usize = 40;
 
 // A word in eight bytes from a place on, the lowest byte first.
 fn write_word(out: &mut [u8], at: usize, word: u64)
@@ -24,7 +24,7 @@ fn write_word(out: &mut [u8], at: usize, word: u64)
     }
 }
 
-// Place, detail, steps and expected set; later bytes stay.
+// Place, detail, steps, expected set and depth; later bytes stay.
 pub(crate) fn write_answer(out: &mut [u8], a: Answer)
     requires { ⌜ Lent (now out) ⌝ }
     ensures { λ r. ⌜ now (out .exit) ≡ over (answerBytes a) (now (out .entry)) ⌝ }
@@ -34,4 +34,5 @@ pub(crate) fn write_answer(out: &mut [u8], a: Answer)
     write_word(out, 8, a.detail);
     write_word(out, 16, a.steps);
     write_word(out, 24, expected.word);
+    write_word(out, 32, a.depth);
 }

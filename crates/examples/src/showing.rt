@@ -18,7 +18,7 @@ fn show_set(word: u64) {
     io::print_hex(STDOUT_FILENO, word, 16);
 }
 
-// The example's name, then number, place, detail, steps and expected set.
+// The example's name, then number, place, detail, steps, expected set and depth.
 pub(crate) fn show_answer(name: &[u8], answer: Answer) {
     let expected = answer.expected;
     show_word(name);
@@ -27,6 +27,7 @@ pub(crate) fn show_answer(name: &[u8], answer: Answer) {
     show_number(answer.detail);
     show_number(answer.steps);
     show_set(expected.word);
+    show_number(answer.depth);
 }
 
 // A buffer's name, then its cells.

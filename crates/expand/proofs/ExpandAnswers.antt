@@ -9,7 +9,7 @@ use Rattle.grammar.specs.Grammar.{Grammar}
 use Rattle.sets.specs.Calls.{None}
 use Rattle.sets.specs.declared.Set.{Set}
 use Rattle.sets.proofs.Promise.{none-is, number-unique}
-use Rattle.answers.specs.Answers.{done, refusal, stop, noSet}
+use Rattle.answers.specs.Answers.{done, refusal, stop, noSet, atDepth}
 use Rattle.answers.specs.Refusals.{limit, room, stackRoom}
 use Rattle.answers.specs.declared.Answer.{Answer}
 use Rattle.answers.specs.Buffers.{counted, cleared}
@@ -21,7 +21,7 @@ use Rattle.machine.specs.Expansion.{expansion, Expansion}
 use Rattle.machine.specs.declared.Upshot.{Upshot}
 use Rattle.machine.specs.declared.Upshot.the-variants.{Finished}
 use Rattle.machine.proofs.Promise.{expand-steps}
-use Rattle.expand.specs.Expanding.{closing, answeredBy, ExpandOutcome, refused, too-long, no-stack, ended}
+use Rattle.expand.specs.Expanding.{closing, answeredBy, expandAnswer, ExpandOutcome, refused, too-long, no-stack, ended}
 use Rattle.expand.specs.Turns.{unfolded, Unfolds, ExpandedOn}
 use Rattle.expand.specs.declared.Unfolding.{Unfolding}
 
@@ -48,12 +48,12 @@ module _ {g : Grammar} {list stack output : List ℕ} {u : Unfolding} {stack′ 
       omega (arith, ap (λ (x : Unfolding). x .used) (h .answer), ap (λ (x : Unfolding). x .written) (h .answer), counts .used, counts .written)
 
   -- the steps answered, and the stack cleared
-  pub unfolds-answered : {r : Answer} {cells : List ℕ} → r ≡ closing (u .upshot) (u .used) (u .used + u .written) → cells ≡ cleared stack′ → ExpandedOn g list stack output r cells output′
-  unfolding unfolded answeredBy
+  pub unfolds-answered : {r : Answer} {cells : List ℕ} → r ≡ atDepth (u .deepest) (closing (u .upshot) (u .used) (u .used + u .written)) → cells ≡ cleared stack′ → ExpandedOn g list stack output r cells output′
+  unfolding unfolded answeredBy expandAnswer
   unfolds-answered answer clears =
       let e : Expansion = end g list stack output in
       record {
-        answer = answer ∙ ap (λ (x : Unfolding). closing (x .upshot) (x .used) (x .used + x .written)) (h .answer) ∙ ap (closing (e .ending) (e .progress .used)) (sym (expand-steps g (counted stack) (counted output) list .moves));
+        answer = answer ∙ ap (λ (x : Unfolding). atDepth (x .deepest) (closing (x .upshot) (x .used) (x .used + x .written))) (h .answer) ∙ ap (λ (n : ℕ). atDepth (e .progress .height) (closing (e .ending) (e .progress .used) n)) (sym (expand-steps g (counted stack) (counted output) list .moves));
         stack-cells = clears ∙ ap (λ (n : ℕ). replicate n 0) (h .stack-length);
         output-cells = h .written;
       }

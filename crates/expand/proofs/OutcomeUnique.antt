@@ -12,7 +12,7 @@ use Rattle.answers.specs.Refusals.{limit, room, stackRoom}
 use Rattle.answers.specs.Buffers.{over, counted, cleared}
 use Rattle.machine.specs.Expansion.{expansion}
 use Rattle.stack.proofs.Promise.{Call, refused, barred, ended, call-unique}
-use Rattle.expand.specs.Expanding.{ExpandOutcome, answeredBy}
+use Rattle.expand.specs.Expanding.{ExpandOutcome, expandAnswer}
 use Rattle.expand.specs.Expanding as expanding
 
 -- what is refused before steps of an expansion whose book serves
@@ -45,7 +45,7 @@ module _ (book list stack output : List ℕ) where
 
   abbrev end : Grammar → Result
   end g =
-      (answeredBy (expansion g (counted stack) (counted output) list), cleared stack, over (expansion g (counted stack) (counted output) list .progress .written) output)
+      (expandAnswer (expansion g (counted stack) (counted output) list), cleared stack, over (expansion g (counted stack) (counted output) list .progress .written) output)
 
   abbrev Expands : Result → Type 0
   Expands = Call book (λ g. Unopened list stack) (λ g. Opens list stack) kept end

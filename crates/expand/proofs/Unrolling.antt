@@ -2,7 +2,7 @@
 use mathlib.Core.Path.{_≡_, refl, sym, _∙_, ap, subst, subst₂, subst₃}
 use mathlib.Core.Bool.{Bool}
 use mathlib.Core.List.{List, [], _∷_, _++_}
-use Prim.Native.Nat.{ℕ, zero, suc, _+_, _-_, _%_, _≤_, _<_, min}
+use Prim.Native.Nat.{ℕ, zero, suc, _+_, _-_, _%_, _≤_, _<_, min, max}
 use native.Mathlib.Omega.{arith}
 use lib.ListN.{length, getD, drop, set, length-append, length-set}
 use lib.Seq.{sets, drop-nil}
@@ -51,7 +51,7 @@ module _ (book places : List ℕ) (o : Outline) (lefts lengths list stack₀ out
     pub lengths-are : Lengths book places o lengths
     pub cells-are : cells ≡ counted output₀
 
-  pub record Unrolled (stack output : List ℕ) (height used written : ℕ) : Type 0 where
+  pub record Unrolled (stack output : List ℕ) (height used written deepest : ℕ) : Type 0 where
     pub given : Given
     pub form : Form
     pub progress : Course
@@ -59,6 +59,7 @@ module _ (book places : List ℕ) (o : Outline) (lefts lengths list stack₀ out
     pub height-is : height ≡ length form
     pub used-is : used ≡ progress .used
     pub written-is : written ≡ length (progress .written)
+    pub deepest-is : deepest ≡ progress .height
     pub inside : used ≤ length list
     pub highest : length form ≤ progress .height
     pub stack-room : progress .height ≤ counted stack₀
@@ -67,7 +68,7 @@ module _ (book places : List ℕ) (o : Outline) (lefts lengths list stack₀ out
     pub stack-cells : stack ≡ stacked form (progress .height) stack₀
     pub output-cells : output ≡ over (progress .written) output₀
 
-  pub unrolled-start : (stack : List ℕ) → Given → 1 ≤ length stack → stack₀ ≡ set stack 0 (byteOf (Nonterminal (o .start % 128))) → Unrolled stack₀ output₀ 1 0 0
+  pub unrolled-start : (stack : List ℕ) → Given → 1 ≤ length stack → stack₀ ≡ set stack 0 (byteOf (Nonterminal (o .start % 128))) → Unrolled stack₀ output₀ 1 0 0 1
   unfolding opened outlined
   unrolled-start stack given h e =
       record {
@@ -78,6 +79,7 @@ module _ (book places : List ℕ) (o : Outline) (lefts lengths list stack₀ out
         height-is = refl;
         used-is = refl;
         written-is = refl;
+        deepest-is = refl;
         inside = omega arith;
         highest = omega arith;
         stack-room = omega (arith, ap length e, length-set stack 0 (byteOf (Nonterminal (o .start % 128))));
@@ -87,7 +89,7 @@ module _ (book places : List ℕ) (o : Outline) (lefts lengths list stack₀ out
         output-cells = refl;
       }
 
-  module _ {stack output : List ℕ} {height used written : ℕ} (u : Unrolled stack output height used written) where
+  module _ {stack output : List ℕ} {height used written deepest : ℕ} (u : Unrolled stack output height used written deepest) where
     pub unrolled-stack : length stack ≡ length stack₀
     unrolled-stack = ap length (u .stack-cells) ∙ length-stacked (u .form) (u .progress .height) stack₀ (u .highest) (omega (arith, u .stack-room))
 
@@ -118,11 +120,11 @@ module _ (book places : List ℕ) (o : Outline) (lefts lengths list stack₀ out
           go : Turns fits right (counted stack₀) (counted output₀) (drop used list) (u .form) (length (u .progress .written)) (Write t) → WriteFits
           go (Turns.writes e h) = record { some-symbol = omega (arith, u .height-is, ap length e); output-left = omega (arith, u .written-is) }
 
-      pub unrolled-write : {t : ℕ} → m ≡ Write t → Unrolled (set stack (height - 1) 0) (set output written t) (height - 1) used (written + 1)
+      pub unrolled-write : {t : ℕ} → m ≡ Write t → Unrolled (set stack (height - 1) 0) (set output written t) (height - 1) used (written + 1) deepest
       unfolding wrote
       unrolled-write {t = t} same = go (by-form same)
         where
-          go : Turns fits right (counted stack₀) (counted output₀) (drop used list) (u .form) (length (u .progress .written)) (Write t) → Unrolled (set stack (height - 1) 0) (set output written t) (height - 1) used (written + 1)
+          go : Turns fits right (counted stack₀) (counted output₀) (drop used list) (u .form) (length (u .progress .written)) (Write t) → Unrolled (set stack (height - 1) 0) (set output written t) (height - 1) used (written + 1) deepest
           go (Turns.writes {β = β} e h) =
               let n : height ≡ suc (length β) = u .height-is ∙ ap length e in
               let below : height - 1 ≡ length β = omega arith in
@@ -134,6 +136,7 @@ module _ (book places : List ℕ) (o : Outline) (lefts lengths list stack₀ out
                 height-is = below;
                 used-is = u .used-is;
                 written-is = omega (arith, u .written-is, length-append (u .progress .written) (t ∷ []));
+                deepest-is = u .deepest-is;
                 inside = u .inside;
                 highest = omega (arith, u .highest, u .height-is);
                 stack-room = u .stack-room;
@@ -159,14 +162,15 @@ module _ (book places : List ℕ) (o : Outline) (lefts lengths list stack₀ out
               let many : length (right p) ≡ count = ap length (side .symbols) ∙ length-symbols book (getD places p 0 + 4) count in
               record { some-symbol = omega (arith, u .height-is, ap length e); list-left = drop-next list used f .1; stack-left = omega (arith, u .height-is, ap length e, length-append (right p) β) }
 
-      pub unrolled-apply : {p count place : ℕ} {after : List ℕ}
+      pub unrolled-apply : {p count place deeper : ℕ} {after : List ℕ}
           → m ≡ Apply p
           → count ≡ getD lengths p 0
           → place ≡ getD places p 0
           → after ≡ replacing (stackBytes (formIn book (place + 4) count)) (height - 1) stack
-          → Unrolled after output (height - 1 + count) (used + 1) written
+          → deeper ≡ max deepest (height - 1 + count)
+          → Unrolled after output (height - 1 + count) (used + 1) written deeper
       unfolding applied
-      unrolled-apply {p = p} {count = count} {place = place} {after = after} same counts at replaced = go (by-form same)
+      unrolled-apply {p = p} {count = count} {place = place} {deeper = deeper} {after = after} same counts at replaced greatest = go (by-form same)
         where
           side : RightSide book places o p count
           side = right-side book places o p (u .given .lengths-are) counts
@@ -179,7 +183,7 @@ module _ (book places : List ℕ) (o : Outline) (lefts lengths list stack₀ out
               replaced
               ∙ replacing-fits book (place + 4) count (height - 1) stack (omega (arith, room .some-symbol, unrolled-height, unrolled-stack)) (omega (arith, room .stack-left, unrolled-stack))
 
-          go : Turns fits right (counted stack₀) (counted output₀) (drop used list) (u .form) (length (u .progress .written)) (Apply p) → Unrolled after output (height - 1 + count) (used + 1) written
+          go : Turns fits right (counted stack₀) (counted output₀) (drop used list) (u .form) (length (u .progress .written)) (Apply p) → Unrolled after output (height - 1 + count) (used + 1) written deeper
           go (Turns.applies {A = A} {β = β} {qs = qs} e f g h) =
               let n : height ≡ suc (length β) = u .height-is ∙ ap length e in
               let below : height - 1 ≡ length β = omega arith in
@@ -194,6 +198,7 @@ module _ (book places : List ℕ) (o : Outline) (lefts lengths list stack₀ out
                 height-is = omega arith;
                 used-is = omega (arith, u .used-is);
                 written-is = u .written-is;
+                deepest-is = omega (arith, greatest, u .deepest-is);
                 inside = omega arith;
                 highest = omega arith;
                 stack-room = omega (arith, u .stack-room);
@@ -204,24 +209,24 @@ module _ (book places : List ℕ) (o : Outline) (lefts lengths list stack₀ out
               }
 
       -- where no move is made
-      closes : (e : Upshot) → runs (drop used list) (u .form) (u .progress) ≡ ended e (u .progress) → Unfolds (outlined book places o) list stack₀ output₀ (record { upshot = e; used = used; written = written }) stack output
+      closes : (e : Upshot) → runs (drop used list) (u .form) (u .progress) ≡ ended e (u .progress) → Unfolds (outlined book places o) list stack₀ output₀ (record { upshot = e; used = used; written = written; deepest = deepest }) stack output
       unfolding unfolded ended
       closes e k =
           let last : whole ≡ ended e (u .progress) = sym (u .same) ∙ k in
           record {
-            answer = (λ i. record { upshot = e; used = u .used-is i; written = u .written-is i }) ∙ ap unfolded (sym last);
+            answer = (λ i. record { upshot = e; used = u .used-is i; written = u .written-is i; deepest = u .deepest-is i }) ∙ ap unfolded (sym last);
             written = u .output-cells ∙ ap (λ (x : Expansion). over (x .progress .written) output₀) (sym last);
             stack-length = unrolled-stack;
             output-length = unrolled-output;
           }
 
-      pub unrolled-close : {f : Upshot} → m ≡ Close f → Unfolds (outlined book places o) list stack₀ output₀ (record { upshot = f; used = used; written = written }) stack output
+      pub unrolled-close : {f : Upshot} → m ≡ Close f → Unfolds (outlined book places o) list stack₀ output₀ (record { upshot = f; used = used; written = written; deepest = deepest }) stack output
       unrolled-close same = go (by-form same)
         where
           from : (ps : List ℕ) (α : Form) → drop used list ≡ ps → u .form ≡ α → {x : Expansion} → runs ps α (u .progress) ≡ x → runs (drop used list) (u .form) (u .progress) ≡ x
           from ps α f g h = rw (f, g) h
 
-          go : {f : Upshot} → Turns fits right (counted stack₀) (counted output₀) (drop used list) (u .form) (length (u .progress .written)) (Close f) → Unfolds (outlined book places o) list stack₀ output₀ (record { upshot = f; used = used; written = written }) stack output
+          go : {f : Upshot} → Turns fits right (counted stack₀) (counted output₀) (drop used list) (u .form) (length (u .progress .written)) (Close f) → Unfolds (outlined book places o) list stack₀ output₀ (record { upshot = f; used = used; written = written; deepest = deepest }) stack output
           go (Turns.finished e f) = closes Finished (from _ _ f e (finished-is fits right (counted stack₀) (counted output₀) (u .progress)))
           go (Turns.left-over {p = p} {qs = qs} e f) = closes Unfit (from _ _ f e (left-over-is fits right (counted stack₀) (counted output₀) p qs (u .progress)))
           go (Turns.too-short {A = A} {β = β} e f) = closes Unfit (from _ _ f e (too-short-is fits right (counted stack₀) (counted output₀) A β (u .progress)))

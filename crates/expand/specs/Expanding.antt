@@ -6,7 +6,7 @@ use Prim.Native.Nat.{ℕ, _≤_, _<_}
 use lib.ListN.{length}
 use Rattle.grammar.specs.Grammar.{Grammar}
 use Rattle.answers.specs.declared.Answer.{Answer}
-use Rattle.answers.specs.Answers.{done, refusal, stop, noSet}
+use Rattle.answers.specs.Answers.{done, refusal, stop, noSet, atDepth}
 use Rattle.answers.specs.Refusals.{limit, room, production, stackRoom, outputRoom}
 use Rattle.answers.specs.Buffers.{over, counted, cleared}
 use Rattle.answers.specs.Limits.{longestList}
@@ -25,6 +25,10 @@ closing FullOutput used steps = stop room used outputRoom steps noSet
 unfoldable pub answeredBy : Expansion → Answer
 answeredBy e = closing (e .ending) (e .progress .used) (e .progress .moves)
 
+-- the answer: those values, and the most stack cells held at any moment
+unfoldable pub expandAnswer : Expansion → Answer
+expandAnswer e = atDepth (e .progress .height) (answeredBy e)
+
 -- an expansion: refused before steps, with nothing changed, or ended in them
 pub data ExpandOutcome (book list stack output : List ℕ) : Answer → List ℕ → List ℕ → Type 0 where
   refused : {a : Answer} → Refuses book a → ExpandOutcome book list stack output a stack output
@@ -42,6 +46,6 @@ pub data ExpandOutcome (book list stack output : List ℕ) : Answer → List ℕ
       → length list ≤ longestList
       → 1 ≤ length stack
       → ExpandOutcome book list stack output
-      (answeredBy (expansion g (counted stack) (counted output) list))
+      (expandAnswer (expansion g (counted stack) (counted output) list))
       (cleared stack)
       (over (expansion g (counted stack) (counted output) list .progress .written) output)

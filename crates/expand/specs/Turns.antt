@@ -18,7 +18,7 @@ use Rattle.machine.specs.declared.Upshot.the-variants.{Finished, Unfit, FullSta
 use Rattle.stack.specs.Stack.{spelledBy}
 use Rattle.stack.specs.declared.Ahead.the-variants.{Next, End}
 use Rattle.stack.specs.declared.Ahead.{Ahead}
-use Rattle.expand.specs.Expanding.{answeredBy}
+use Rattle.expand.specs.Expanding.{expandAnswer}
 use Rattle.expand.specs.declared.Turn.the-variants.{Write, Apply, Close}
 use Rattle.expand.specs.declared.Turn.{Turn}
 use Rattle.expand.specs.declared.Unfolding.{Unfolding}
@@ -73,7 +73,13 @@ pub record TurnAt (lefts lengths : List ℕ) (o : Outline) (list : List ℕ) (us
       r
 
 unfoldable pub unfolded : Expansion → Unfolding
-unfolded e = record { upshot = e .ending; used = e .progress .used; written = length (e .progress .written) }
+unfolded e =
+    record {
+      upshot = e .ending;
+      used = e .progress .used;
+      written = length (e .progress .written);
+      deepest = e .progress .height;
+    }
 
 -- steps made from the start, before the stack is cleared
 pub record Unfolds (g : Grammar) (list stack output : List ℕ) (r : Unfolding) (stack′ output′ : List ℕ) : Type 0 where
@@ -84,6 +90,6 @@ pub record Unfolds (g : Grammar) (list stack output : List ℕ) (r : Unfolding) 
 
 -- steps made and answered, and the stack cleared
 pub record ExpandedOn (g : Grammar) (list stack output : List ℕ) (r : Answer) (stack′ output′ : List ℕ) : Type 0 where
-  pub answer : r ≡ answeredBy (expansion g (counted stack) (counted output) list)
+  pub answer : r ≡ expandAnswer (expansion g (counted stack) (counted output) list)
   pub stack-cells : stack′ ≡ cleared stack
   pub output-cells : output′ ≡ over (expansion g (counted stack) (counted output) list .progress .written) output

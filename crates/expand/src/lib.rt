@@ -2,11 +2,13 @@
 ghost use mathlib.Core.Path.{_≡_};
 ghost use Prim.Native.Nat.{_+_, _^_, _≤_, _<_};
 ghost use lib.ListN.{length};
+ghost use Rattle.answers.specs.Answers.{atDepth};
 ghost use Rattle.book.specs.Columns.{outlined, Lefts, Lengths};
 ghost use Rattle.expand.specs.Expanding.{closing, ExpandOutcome};
 ghost use Rattle.expand.specs.Turns.{Unfolds, ExpandedOn};
 use crate::turns::turn_at;
 use answers::Answer;
+use answers::at_depth;
 use answers::done;
 use answers::limits::LONGEST_LIST;
 use answers::refusal;
@@ -28,6 +30,7 @@ use reader::fields::place_at;
 use sets::none;
 use stack::clear;
 use stack::counts;
+use stack::greater;
 use stack::put_start;
 use stack::replace;
 
@@ -40,11 +43,13 @@ pub(crate) enum Turn {
     Close(Upshot),
 }
 
-// An expansion that has ended, with the productions used and the tokens written.
+// An expansion that has ended, with the productions used, the tokens written, and the most stack cells in use at any
+// moment.
 pub(crate) struct Unfolding {
     pub upshot: Upshot,
     pub used: usize,
     pub written: usize,
+    pub deepest: usize,
 }
 
 // From the start symbol on, tokens on top are written and the list's productions used.
@@ -75,6 +80,7 @@ fn unfold_all(
     let mut height: usize = 1;
     let mut used: usize = 0;
     let mut written: usize = 0;
+    let mut deepest: usize = 1;
     loop {
         let turn = turn_at(
             lefts,
@@ -99,6 +105,7 @@ fn unfold_all(
                 let below = height - 1;
                 replace(book, place_at(places, p as usize), count, stack, below);
                 height = below + count as usize;
+                deepest = greater(deepest, height);
                 used += 1;
             }
             Turn::Close(upshot) => {
@@ -106,14 +113,15 @@ fn unfold_all(
                     upshot,
                     used,
                     written,
+                    deepest,
                 };
             }
         }
     }
 }
 
-// The answer to an expansion that has ended.
-fn answer_to(u: Unfolding) -> Answer
+// The paper's values of an expansion that has ended.
+fn values_of(u: Unfolding) -> Answer
     requires { ⌜ u .used + u .written < 2 ^ 64 ⌝ }
     ensures { λ r. ⌜ r ≡ closing (u .upshot) (u .used) (u .used + u .written) ⌝ }
 {
@@ -126,6 +134,15 @@ fn answer_to(u: Unfolding) -> Answer
         Upshot::FullStack => stop(ROOM, used, STACK_ROOM, steps, none()),
         Upshot::FullOutput => stop(ROOM, used, OUTPUT_ROOM, steps, none()),
     }
+}
+
+// The answer to an expansion that has ended: its values, and the most stack cells held.
+fn answer_to(u: Unfolding) -> Answer
+    requires { ⌜ u .used + u .written < 2 ^ 64 ⌝ }
+    ensures { λ r. ⌜ r ≡ atDepth (u .deepest) (closing (u .upshot) (u .used) (u .used + u .written)) ⌝ }
+{
+    let values = values_of(u);
+    at_depth(values, u.deepest as u64)
 }
 
 // The steps of an expansion and their answer; after them every stack cell is 0.

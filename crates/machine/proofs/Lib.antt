@@ -25,4 +25,5 @@ pub mod ExpandPlace
 pub mod ExpandWhole
 pub mod ExpandTheorems
 pub mod ExpandRoom
+pub mod Depth
 pub mod Promise

@@ -16,10 +16,12 @@ pub use Rattle.machine.proofs.RunTheorems.{run-plain-no-more, run-plain
 pub use Rattle.machine.proofs.PlainHint.{Wanted, wants-end, wants-token, wants-row}
 pub use Rattle.machine.proofs.LastOffer.{OneOffer, by-match, by-halt, LastOffer, last-offer}
 pub use Rattle.machine.proofs.NextTokens.{Since}
-pub use Rattle.machine.proofs.RoomNeeded.{room-needed}
+pub use Rattle.machine.proofs.RoomNeeded.{room-needed, run-tall}
 pub use Rattle.machine.proofs.ExpandMoves.{finished-is, left-over-is, too-short-is, misfit-is, no-stack-is}
 pub use Rattle.machine.proofs.ExpandMoves.{apply-is, no-output-is, write-is}
 pub use Rattle.machine.proofs.ExpandDerivation.{fits-rule, rule-fits}
 pub use Rattle.machine.proofs.ExpandTheorems.{expand-steps, expand-sound, expand-complete, expand-exact}
 pub use Rattle.machine.proofs.ExpandTheorems.{expand-refuses, expand-place, expand-room}
 pub use Rattle.machine.proofs.ExpandRoom.{WantsRoom, wants-stack, wants-output, expand-stops}
+pub use Rattle.machine.proofs.Depth.{HadStack, run-depth-same, run-depth-short}
+pub use Rattle.machine.proofs.Depth.{expand-tall, expand-depth-same, expand-depth-short}

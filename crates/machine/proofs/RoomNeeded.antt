@@ -27,7 +27,7 @@ module _ {right : ℕ → Form} {cell : ℕ → Column → Option ℕ} {much man
 
   module _ {room cells : ℕ} where
     -- a walk needs as many list cells as it lists, and as much stack as it gets high
-    walk-within : {z w : List ℕ} {e s : State} → length (e .listed) ≤ cells → e .height ≤ room → Walk right cell much many z e w s → Walk right cell room cells z e w s
+    pub walk-within : {z w : List ℕ} {e s : State} → length (e .listed) ≤ cells → e .height ≤ room → Walk right cell much many z e w s → Walk right cell room cells z e w s
     unfolding popped replaced
     walk-within h k here = here
     walk-within h k (match f r) = match f (walk-within h k r)
@@ -50,7 +50,7 @@ run-within right cell much many room cells start w q h k =
     let height = ap (λ (s : State). s .height) (halt-final (r .halt)) in
     walk-runs (walk-within (omega arith) (omega arith) (r .walk)) (omega arith) (decided-halts (r .halt) q)
 
-run-tall : (right : ℕ → Form) (cell : ℕ → Column → Option ℕ) (room cells start : ℕ) (w : List ℕ) → 1 ≤ final (runFrom right cell room cells w (begun start)) .height
+pub run-tall : (right : ℕ → Form) (cell : ℕ → Column → Option ℕ) (room cells start : ℕ) (w : List ℕ) → 1 ≤ final (runFrom right cell room cells w (begun start)) .height
 unfolding begun
 run-tall right cell room cells start w =
     let r : Walked right cell room cells w (begun start) (runFrom right cell room cells w (begun start)) = ran right cell room cells w (begun start) (omega arith) in

@@ -2,7 +2,7 @@
 use mathlib.Core.Path.{_≡_, refl, sym, _∙_, ap, subst, subst₂}
 use mathlib.Core.List.{List, [], _∷_, _++_}
 use mathlib.Core.Option.{Option}
-use Prim.Native.Nat.{ℕ, suc, _+_, _-_, _≤_, _<_}
+use Prim.Native.Nat.{ℕ, suc, _+_, _-_, _≤_, _<_, max}
 use native.Mathlib.Omega.{arith}
 use lib.ListN.{length, set, length-append}
 use lib.Seq.{sets}
@@ -27,6 +27,16 @@ use Rattle.offer.specs.declared.Progress.{Progress}
 use Rattle.offer.specs.declared.Reply.the-variants.{Taken, Stopped}
 use Rattle.offer.specs.declared.Reply.{Reply}
 
+-- the counts after the symbol on top gave way to so many
+abbrev pub grownBy : ℕ → Progress → Progress
+grownBy count at =
+    record {
+      height = at .height - 1 + count;
+      listed = at .listed + 1;
+      matched = at .matched;
+      deepest = max (at .deepest) (at .height - 1 + count);
+    }
+
 module _ {s : State} {at : Progress} {stack₀ list₀ stack list : List ℕ} (h : Holds s at stack₀ list₀ stack list) where
   -- the first cells spell the stack
   pub holds-spells : spelledBy stack (at .height) ≡ s .stack
@@ -34,7 +44,7 @@ module _ {s : State} {at : Progress} {stack₀ list₀ stack list : List ℕ} (h
 
   pub holds-progress : at ≡ progressOf s
   unfolding progressOf
-  holds-progress = λ i. record { height = h .height i; listed = h .listed i; matched = h .matched i }
+  holds-progress = λ i. record { height = h .height i; listed = h .listed i; matched = h .matched i; deepest = h .deepest i }
 
   -- the buffers hold the state in which an outcome leaves the machine
   pub holds-outcome : {o o′ : Offered} {r : Reply} → o ≡ o′ → final o ≡ s → r ≡ reported o → Offering o′ stack₀ list₀ r stack list
@@ -43,7 +53,7 @@ module _ {s : State} {at : Progress} {stack₀ list₀ stack list : List ℕ} (h
       (record { answer = answer; holds = subst (λ (e : State). Holds e (progressOf e) stack₀ list₀ stack list) (sym left) (subst (λ (x : Progress). Holds s x stack₀ list₀ stack list) holds-progress h) })
 
   -- the token on top is matched and popped
-  holds-pop : {x : Symbol} {α : Form} → s .stack ≡ x ∷ α → Holds (popped α s) (record { height = at .height - 1; listed = at .listed; matched = at .matched + 1 }) stack₀ list₀ (set stack (at .height - 1) 0) list
+  holds-pop : {x : Symbol} {α : Form} → s .stack ≡ x ∷ α → Holds (popped α s) (record { height = at .height - 1; listed = at .listed; matched = at .matched + 1; deepest = at .deepest }) stack₀ list₀ (set stack (at .height - 1) 0) list
   unfolding popped
   holds-pop {x} {α} e =
       let n : at .height ≡ suc (length α) = h .height ∙ ap length e in
@@ -52,6 +62,7 @@ module _ {s : State} {at : Progress} {stack₀ list₀ stack list : List ℕ} (h
         height = below;
         listed = h .listed;
         matched = omega (arith, h .matched);
+        deepest = h .deepest;
         moves = omega (arith, h .moves);
         highest = omega (arith, h .highest, h .height);
         stack-room = h .stack-room;
@@ -63,7 +74,7 @@ module _ {s : State} {at : Progress} {stack₀ list₀ stack list : List ℕ} (h
 
   -- the symbol on top gives way to the right side of production p, which is listed
   holds-use : (book : List ℕ) (from count p : ℕ) {x : Symbol} {α β : Form} → s .stack ≡ x ∷ α → β ≡ formIn book from count → length (s .listed) < counted list₀ → length (β ++ α) ≤ counted stack₀
-      → Holds (replaced p (β ++ α) s) (record { height = at .height - 1 + count; listed = at .listed + 1; matched = at .matched }) stack₀ list₀ (sets (set stack (at .height - 1) 0) (at .height - 1) (stackBytes (formIn book from count))) (set list (at .listed) p)
+      → Holds (replaced p (β ++ α) s) (grownBy count at) stack₀ list₀ (sets (set stack (at .height - 1) 0) (at .height - 1) (stackBytes (formIn book from count))) (set list (at .listed) p)
   unfolding replaced
   holds-use book from count p {x} {α} {β} e side room fits =
       let n : at .height ≡ suc (length α) = h .height ∙ ap length e in
@@ -74,6 +85,7 @@ module _ {s : State} {at : Progress} {stack₀ list₀ stack list : List ℕ} (h
         height = omega arith;
         listed = omega (arith, h .listed, length-append (s .listed) (p ∷ []));
         matched = h .matched;
+        deepest = omega (arith, h .deepest);
         moves = omega (arith, h .moves);
         highest = omega arith;
         stack-room = omega (arith, h .stack-room);
@@ -106,10 +118,10 @@ module _ (right : ℕ → Form) (cell : ℕ → Column → Option ℕ) (c : Colu
     counts-left = omega (arith, w .holds .listed, w .holds .list-room)
 
     pub walking-use : (book : List ℕ) (from count : ℕ) {p : ℕ} → right p ≡ formIn book from count → Chosen right cell (counted stack₀) (counted list₀) c (spelledBy stack (at .height)) (at .listed) (Use p)
-        → Walking (record { height = at .height - 1 + count; listed = at .listed + 1; matched = at .matched }) (sets (set stack (at .height - 1) 0) (at .height - 1) (stackBytes (formIn book from count))) (set list (at .listed) p)
+        → Walking (grownBy count at) (sets (set stack (at .height - 1) 0) (at .height - 1) (stackBytes (formIn book from count))) (set list (at .listed) p)
     walking-use book from count {p} side k = go (chosen-by k)
       where
-        go : Chosen right cell (counted stack₀) (counted list₀) c (w .state .stack) (length (w .state .listed)) (Use p) → Walking (record { height = at .height - 1 + count; listed = at .listed + 1; matched = at .matched }) (sets (set stack (at .height - 1) 0) (at .height - 1) (stackBytes (formIn book from count))) (set list (at .listed) p)
+        go : Chosen right cell (counted stack₀) (counted list₀) c (w .state .stack) (length (w .state .listed)) (Use p) → Walking (grownBy count at) (sets (set stack (at .height - 1) 0) (at .height - 1) (stackBytes (formIn book from count))) (set list (at .listed) p)
         go (Chosen.uses {β = β} e f l m) =
             let one : counted list₀ - at .listed ≡ suc (counted list₀ - (at .listed + 1)) = omega (arith, w .holds .listed) in
             record {

@@ -21,7 +21,7 @@ use Rattle.stack.specs.declared.Ahead.{Ahead}
 use Rattle.stack.proofs.Promise.{cells-spelled, length-spelled, stacked-spelled}
 use Rattle.offer.specs.Offering.{Holds, Ready, ColumnAhead, OfferedAt}
 use Rattle.offer.specs.Resuming.{progressOf, reported, clamped, standing, offeredTo, Offers, OfferedOn}
-use Rattle.offer.specs.Stops.{answerOf, expected, answered}
+use Rattle.offer.specs.Stops.{valuesOf, deepestIn, answerOf, answered, runAnswer}
 use Rattle.offer.specs.declared.Progress.{Progress}
 use Rattle.offer.specs.declared.Reply.{Reply}
 
@@ -37,15 +37,16 @@ pub clamped-ready : (at : Progress) (stack list : List ℕ) → Ready (clamped a
 unfolding clamped
 clamped-ready at stack list = record { height = omega arith; listed = omega arith; matched = omega arith }
 
--- the buffers hold the state that they spell
-standing-held : {at : Progress} {stack list : List ℕ} → Ready at stack list → Holds (standing at stack list) at stack list stack list
+-- the buffers hold the state that they spell, where the most cells held are those in use
+standing-held : {at : Progress} {stack list : List ℕ} → Ready at stack list → at .deepest ≡ at .height → Holds (standing at stack list) at stack list stack list
 unfolding standing
-standing-held {at} {stack} {list} ready =
+standing-held {at} {stack} {list} ready deepest =
     let cells : length (take (at .listed) list) ≡ at .listed = length-take-le (at .listed) list (omega (arith, ready .listed)) in
     record {
       height = sym (length-spelled stack (at .height));
       listed = sym cells;
       matched = refl;
+      deepest = deepest;
       moves = refl;
       highest = omega (arith, length-spelled stack (at .height));
       stack-room = ready .height;
@@ -56,13 +57,13 @@ standing-held {at} {stack} {list} ready =
     }
 
 -- the reply has the answer of the outcome, where the moves are those counted
-pub reply-told : (g : Grammar) (table : List ℕ) (o : Offered) → final o .moves ≡ length (final o .listed) + final o .matched → answerOf g table (reported o) ≡ answered (expected g table) o
-unfolding final reported progressOf answerOf answered
+pub reply-told : (g : Grammar) (table : List ℕ) (o : Offered) → final o .moves ≡ length (final o .listed) + final o .matched → answerOf g table (reported o) ≡ runAnswer g table o
+unfolding final reported progressOf valuesOf deepestIn answerOf answered runAnswer
 reply-told g table (taken s) e = rw e
 reply-told g table (stopped r s) e = rw e
 
 -- and from the state that the buffers spell they are
-offered-told : (g : Grammar) (table : List ℕ) (column : ℕ) {at : Progress} {stack list : List ℕ} → Ready at stack list → answerOf g table (reported (offeredTo g table column at stack list)) ≡ answered (expected g table) (offeredTo g table column at stack list)
+offered-told : (g : Grammar) (table : List ℕ) (column : ℕ) {at : Progress} {stack list : List ℕ} → Ready at stack list → answerOf g table (reported (offeredTo g table column at stack list)) ≡ runAnswer g table (offeredTo g table column at stack list)
 unfolding standing offeredTo
 offered-told g table column {at} {stack} {list} ready =
     let cells : length (take (at .listed) list) ≡ at .listed = length-take-le (at .listed) list (omega (arith, ready .listed)) in
@@ -75,11 +76,12 @@ module _ (book : List ℕ) (reading : Reading) (table : List ℕ) (column : ℕ)
   -- what is offered to every state that the buffers hold is offered to the one that they spell
   spelled-offers : {at : Progress}
       → Ready at stack list
+      → at .deepest ≡ at .height
       → OfferedAt book (reading .places) (outlineIn reading) table ahead at stack list r stack′ list′
       → Offers (offeredTo (grammarIn book reading) table column at stack list) stack list r stack′ list′
   unfolding offeredTo
-  spelled-offers {at} ready offered =
-      let x = offered .offers (standing at stack list) (standing-held ready) in
+  spelled-offers {at} ready deepest offered =
+      let x = offered .offers (standing at stack list) (standing-held ready deepest) in
       let sized = outlined-sized book (reading .places) (outlineIn reading) in
       rw (← same .same (grammarIn book reading) (sized .tokens))
       (record { answer = x .answer; stack-cells = x .holds .stack-cells; list-cells = x .holds .list-cells })
@@ -88,10 +90,11 @@ module _ (book : List ℕ) (reading : Reading) (table : List ℕ) (column : ℕ)
       → from ≡ clamped at (length stack) (length list)
       → OfferedAt book (reading .places) (outlineIn reading) table ahead from stack list r stack′ list′
       → OfferedOn (grammarIn book reading) table column at stack list r stack′ list′
+  unfolding clamped
   offer-resumed at clamps offered =
       let ready = clamped-ready at stack list in
       let x : Offers (offeredTo (grammarIn book reading) table column (clamped at (length stack) (length list)) stack list) stack list r stack′ list′ =
-      spelled-offers ready (rw clamps at offered) in
+      spelled-offers ready refl (rw clamps at offered) in
       record {
         offers = x;
         told = ap (answerOf (grammarIn book reading) table) (x .answer) ∙ offered-told (grammarIn book reading) table column ready;

@@ -45,6 +45,7 @@ module _ {s : State} {at : Progress} {stack₀ list₀ stack list : List ℕ} (h
         height = h .height;
         listed = h .listed;
         matched = h .matched;
+        deepest = h .deepest;
         moves = h .moves;
         highest = h .highest;
         stack-room = omega (arith, h .stack-room, holds-stack-length);
@@ -57,13 +58,14 @@ module _ {s : State} {at : Progress} {stack₀ list₀ stack list : List ℕ} (h
 -- the start symbol stands on the stack
 begun-held : (A : ℕ) (stack list : List ℕ)
     → 1 ≤ length stack
-    → Holds (begun A) (record { height = 1; listed = 0; matched = 0 }) (set stack 0 (byteOf (Nonterminal A))) list (set stack 0 (byteOf (Nonterminal A))) list
+    → Holds (begun A) (record { height = 1; listed = 0; matched = 0; deepest = 1 }) (set stack 0 (byteOf (Nonterminal A))) list (set stack 0 (byteOf (Nonterminal A))) list
 unfolding begun
 begun-held A stack list h =
     record {
       height = refl;
       listed = refl;
       matched = refl;
+      deepest = refl;
       moves = refl;
       highest = omega arith;
       stack-room = omega (arith, length-set stack 0 (byteOf (Nonterminal A)));
@@ -112,7 +114,7 @@ module _ (book places : List ℕ) (o : Outline) (table tokens stack₀ list₀ :
   abbrev Ends : Reply → List ℕ → List ℕ → Type 0
   Ends = Stepped (outlined book places o) table tokens stack₀ list₀
 
-  pub running-start : (stack : List ℕ) → 1 ≤ length stack → stack₀ ≡ set stack 0 (byteOf (Nonterminal (o .start % 128))) → Running (record { height = 1; listed = 0; matched = 0 }) stack₀ list₀
+  pub running-start : (stack : List ℕ) → 1 ≤ length stack → stack₀ ≡ set stack 0 (byteOf (Nonterminal (o .start % 128))) → Running (record { height = 1; listed = 0; matched = 0; deepest = 1 }) stack₀ list₀
   unfolding ran begun outlined
   running-start stack h e =
       record {

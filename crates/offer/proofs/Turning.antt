@@ -2,7 +2,7 @@
 use mathlib.Core.Path.{_≡_, refl, _∙_, ap, subst, subst₂}
 use mathlib.Core.List.{List, _∷_, _++_}
 use mathlib.Core.Option.{Option}
-use Prim.Native.Nat.{ℕ, zero, suc, _+_, _-_, _≤_, _<_, min}
+use Prim.Native.Nat.{ℕ, zero, suc, _+_, _-_, _≤_, _<_, min, max}
 use native.Mathlib.Omega.{arith}
 use lib.ListN.{length, getD, set, length-set}
 use lib.Seq.{length-sets}
@@ -58,20 +58,20 @@ module _ (book places : List ℕ) (o : Outline) (lengths table : List ℕ) (ahea
   abbrev c : Column
   c = columnIn ahead
 
-  -- the loop's invariant, with so many cells in use
-  pub record Turning (stack list : List ℕ) (height listed : ℕ) : Type 0 where
+  -- the loop's invariant, with so many cells in use, and so many of the stack's at most
+  pub record Turning (stack list : List ℕ) (height listed deepest : ℕ) : Type 0 where
     pub lengths-are : Lengths book places o lengths
     pub cells-are : cells ≡ counted list₀
     pub height-fits : height ≤ counted stack₀
     pub listed-fits : listed ≤ counted list₀
     pub stack-length : length stack ≡ length stack₀
     pub list-length : length list ≡ length list₀
-    pub walks : (s : State) → Holds s at₀ stack₀ list₀ stack₀ list₀ → Walking right cell c s at₀ stack₀ list₀ (record { height = height; listed = listed; matched = at₀ .matched }) stack list
+    pub walks : (s : State) → Holds s at₀ stack₀ list₀ stack₀ list₀ → Walking right cell c s at₀ stack₀ list₀ (record { height = height; listed = listed; matched = at₀ .matched; deepest = deepest }) stack list
 
-  pub turning-start : Ready at₀ stack₀ list₀ → Lengths book places o lengths → cells ≡ counted list₀ → Turning stack₀ list₀ (at₀ .height) (at₀ .listed)
+  pub turning-start : Ready at₀ stack₀ list₀ → Lengths book places o lengths → cells ≡ counted list₀ → Turning stack₀ list₀ (at₀ .height) (at₀ .listed) (at₀ .deepest)
   turning-start ready column counts = record { lengths-are = column; cells-are = counts; height-fits = ready .height; listed-fits = ready .listed; stack-length = refl; list-length = refl; walks = λ s h. walking-start right cell c s at₀ stack₀ list₀ h }
 
-  module _ {stack list : List ℕ} {height listed : ℕ} (t : Turning stack list height listed) {m : Move}
+  module _ {stack list : List ℕ} {height listed deepest : ℕ} (t : Turning stack list height listed deepest) {m : Move}
       (choice : Choice lengths o table ahead stack height cells listed m) where
     -- the move is chosen by the room of the buffers as they were lent
     by-room : {n : Move} → m ≡ n → Chosen right cell (counted stack₀) (counted list₀) c (spelledBy stack height) listed n
@@ -99,13 +99,14 @@ module _ (book places : List ℕ) (o : Outline) (lengths table : List ℕ) (ahea
             let long : length (right p ++ β) ≡ height - 1 + count = ap (λ (α : Form). length (right p ++ α)) below ∙ replaced-length side stack (height - 1) in
             record { some-symbol = some-symbol; list-left = l; stack-left = omega arith }
 
-    pub turning-use : {p count place : ℕ} {after : List ℕ}
+    pub turning-use : {p count place deeper : ℕ} {after : List ℕ}
         → m ≡ Use p
         → count ≡ getD lengths p 0
         → place ≡ getD places p 0
         → after ≡ replacing (stackBytes (formIn book (place + 4) count)) (height - 1) stack
-        → Turning after (set list listed p) (height - 1 + count) (listed + 1)
-    turning-use {p = p} {count = count} {place = place} same counts at replaced =
+        → deeper ≡ max deepest (height - 1 + count)
+        → Turning after (set list listed p) (height - 1 + count) (listed + 1) deeper
+    turning-use {p = p} {count = count} {place = place} same counts at replaced greatest =
         let fits = use-fits same counts in
         let side : RightSide book places o p count = right-side book places o p (t .lengths-are) counts in
         let inside : height - 1 < length stack = omega (arith, fits .some-symbol, t .height-fits, t .stack-length) in
@@ -118,13 +119,13 @@ module _ (book places : List ℕ) (o : Outline) (lengths table : List ℕ) (ahea
           listed-fits = omega (arith, fits .list-left);
           stack-length = ap length e ∙ simp (length-sets, length-set) (t .stack-length);
           list-length = simp length-set (t .list-length);
-          walks = λ s h. rw (e, at) (walking-use right cell c s at₀ stack₀ list₀ (t .walks s h) book (getD places p 0 + 4) count (side .symbols) (by-room same));
+          walks = λ s h. rw (e, at, greatest) (walking-use right cell c s at₀ stack₀ list₀ (t .walks s h) book (getD places p 0 + 4) count (side .symbols) (by-room same));
         }
 
     pub turning-finish : {e : Ending} {r : Reply} {after : List ℕ}
         → m ≡ Finish e
-        → r ≡ finished e (record { height = height; listed = listed; matched = at₀ .matched })
-        → after ≡ finishedStack e (record { height = height; listed = listed; matched = at₀ .matched }) stack
+        → r ≡ finished e (record { height = height; listed = listed; matched = at₀ .matched; deepest = deepest })
+        → after ≡ finishedStack e (record { height = height; listed = listed; matched = at₀ .matched; deepest = deepest }) stack
         → OfferedAt book places o table ahead at₀ stack₀ list₀ r after list
     turning-finish same answer after =
         record {

@@ -26,6 +26,7 @@ pub record Holds (s : State) (at : Progress) (stack₀ list₀ stack list : List
   pub height : at .height ≡ length (s .stack)
   pub listed : at .listed ≡ length (s .listed)
   pub matched : at .matched ≡ s .matched
+  pub deepest : at .deepest ≡ s .height
   pub moves : s .moves ≡ at .listed + at .matched
   pub highest : length (s .stack) ≤ s .height
   pub stack-room : s .height ≤ counted stack₀
@@ -48,7 +49,9 @@ pub record Offering (o : Offered) (stack₀ list₀ : List ℕ) (r : Reply) (sta
 -- a token that is matched is popped, and its cell is 0
 unfoldable pub finished : Ending → Progress → Reply
 finished Accept at = Taken at
-finished Match at = Taken (record { height = at .height - 1; listed = at .listed; matched = at .matched + 1 })
+finished Match at =
+    Taken
+    (record { height = at .height - 1; listed = at .listed; matched = at .matched + 1; deepest = at .deepest })
 finished (Stop reason) at = Stopped reason at
 
 unfoldable pub finishedStack : Ending → Progress → List ℕ → List ℕ

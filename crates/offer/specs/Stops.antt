@@ -1,5 +1,5 @@
--- The answer to each way in which steps end: the paper's number, place, detail, steps and expected set.
--- Document 01, "Refusals and their numbers" and "Running and expanding".
+-- The answer to each way in which steps end: the paper's number, place, detail, steps and expected set, and the depth.
+-- Document 01, "Refusals and their numbers" and "Running and expanding"; document 02, W7.
 use mathlib.Core.List.{List}
 use mathlib.Core.Bool.{cond}
 use mathlib.Core.Option.{some, none}
@@ -10,10 +10,10 @@ use Rattle.grammar.specs.Grammar.{Grammar}
 use Rattle.sets.specs.Sets.{width, endMark, added, columnPlace}
 use Rattle.sets.specs.declared.Set.{Set}
 use Rattle.answers.specs.declared.Answer.{Answer}
-use Rattle.answers.specs.Answers.{done, stop, noSet}
+use Rattle.answers.specs.Answers.{done, stop, noSet, atDepth}
 use Rattle.answers.specs.Refusals.{room, syntax, stackRoom, listRoom}
 use Rattle.table.specs.Table.{held}
-use Rattle.machine.specs.Machine.{Offered, taken, stopped}
+use Rattle.machine.specs.Machine.{Offered, taken, stopped, final}
 use Rattle.machine.specs.declared.Reason.{Reason}
 use Rattle.machine.specs.declared.Reason.the-variants.{FullList, FullStack, WantsEnd, WantsToken, WantsRow}
 use Rattle.offer.specs.declared.Reply.the-variants.{Taken, Stopped, Refused}
@@ -60,9 +60,23 @@ unfoldable pub answered : (Reason → Set) → Offered → Answer
 answered e (taken s) = done (s .moves)
 answered e (stopped r s) = stop (numberOf r) (s .matched) (detailOf r) (s .moves) (e r)
 
--- and for each reply of an offer, on a book's grammar and a table
-unfoldable pub answerOf : Grammar → List ℕ → Reply → Answer
-answerOf g table (Taken at) = done (at .listed + at .matched)
-answerOf g table (Stopped r at) =
+-- the answer on a book's grammar and a table: those values, and the most stack cells held at any moment
+unfoldable pub runAnswer : Grammar → List ℕ → Offered → Answer
+runAnswer g table o = atDepth (final o .height) (answered (expected g table) o)
+
+-- the paper's values of a reply to an offer
+unfoldable pub valuesOf : Grammar → List ℕ → Reply → Answer
+valuesOf g table (Taken at) = done (at .listed + at .matched)
+valuesOf g table (Stopped r at) =
     stop (numberOf r) (at .matched) (detailOf r) (at .listed + at .matched) (expected g table r)
-answerOf g table (Refused answer) = answer
+valuesOf g table (Refused answer) = answer
+
+-- the most stack cells held that a reply tells of; where the book was refused no step is made
+unfoldable pub deepestIn : Reply → ℕ
+deepestIn (Taken at) = at .deepest
+deepestIn (Stopped r at) = at .deepest
+deepestIn (Refused answer) = 0
+
+-- and the answer to a reply
+unfoldable pub answerOf : Grammar → List ℕ → Reply → Answer
+answerOf g table r = atDepth (deepestIn r) (valuesOf g table r)

@@ -23,7 +23,7 @@ ran g table tokens stack list =
 pub data StringOutcome (g : Grammar) (table tokens stack list : List ℕ) : Reply → List ℕ → List ℕ → Type 0 where
   no-stack : length stack ≡ 0
       → StringOutcome g table tokens stack list
-      (Stopped FullStack (record { height = 0; listed = 0; matched = 0 }))
+      (Stopped FullStack (record { height = 0; listed = 0; matched = 0; deepest = 0 }))
       stack
       list
   ended : 1 ≤ length stack

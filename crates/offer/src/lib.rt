@@ -27,11 +27,13 @@ pub(crate) enum Move {
     Finish(Ending),
 }
 
-// How many cells of stack and list are in use, and how many tokens are matched.
+// How many cells of stack and list are in use, how many tokens are matched, and the most cells of the stack that were in
+// use at any moment so far.
 pub struct Progress {
     pub height: usize,
     pub listed: usize,
     pub matched: usize,
+    pub deepest: usize,
 }
 
 // What became of an offer: what was offered is taken, the run stops, or the reading is of a book that was refused with

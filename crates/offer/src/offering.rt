@@ -21,6 +21,7 @@ use book::columns::outline_of;
 use reader::fields::place_at;
 use stack::Ahead;
 use stack::counts;
+use stack::greater;
 use stack::lower;
 use stack::replace;
 
@@ -40,6 +41,7 @@ fn finish(ending: Ending, stack: &mut [u8], at: Progress) -> Reply
                 height: below,
                 listed: at.listed,
                 matched: at.matched + 1,
+                deepest: at.deepest,
             })
         }
         Ending::Stop(reason) => Reply::Stopped(reason, at),
@@ -75,6 +77,7 @@ pub(crate) fn offer_at(
     let cells = counts(list.len());
     let mut height = at.height;
     let mut listed = at.listed;
+    let mut deepest = at.deepest;
     loop {
         let choice = choose(lengths, outline, table, ahead, stack, height, cells, listed);
         match choice {
@@ -85,6 +88,7 @@ pub(crate) fn offer_at(
                 listed += 1;
                 replace(book, place_at(places, p as usize), count, stack, below);
                 height = below + count as usize;
+                deepest = greater(deepest, height);
             }
             Move::Finish(ending) => {
                 return finish(
@@ -94,6 +98,7 @@ pub(crate) fn offer_at(
                         height,
                         listed,
                         matched: at.matched,
+                        deepest,
                     },
                 );
             }
@@ -112,14 +117,16 @@ fn column_ahead(column: u8, tokens: u8) -> Ahead
     }
 }
 
-// The counts as far as they count.
+// The counts as far as they count; the most cells held are those of the stack now, whatever the caller tells.
 fn clamp(at: Progress, stack: usize, list: usize) -> Progress
     ensures { λ r. ⌜ r ≡ clamped at stack list ⌝ }
 {
+    let height = lower(at.height, counts(stack));
     Progress {
-        height: lower(at.height, counts(stack)),
+        height,
         listed: lower(at.listed, counts(list)),
         matched: lower(at.matched, MOST_CELLS),
+        deepest: height,
     }
 }
 
@@ -163,7 +170,8 @@ fn offer_on(
 }
 
 // One column offered to a run in progress, whatever the reading and the counts; every column from T on is the end
-// mark's. Where the book was refused, that is the reply, and nothing changes.
+// mark's. The reply tells the most stack cells held in this offer, those that it began with included. Where the book was
+// refused, that is the reply, and nothing changes.
 pub fn offer(
     book: &[u8],
     reading: Reading,

@@ -40,6 +40,7 @@ fn offer_all(
         height: 1,
         listed: 0,
         matched: 0,
+        deepest: 1,
     };
     loop {
         let i = at.matched;
@@ -93,6 +94,7 @@ pub fn offer_string(
                 height: 0,
                 listed: 0,
                 matched: 0,
+                deepest: 0,
             },
         );
     }

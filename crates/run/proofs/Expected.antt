@@ -15,7 +15,7 @@ use Rattle.sets.specs.Calls.{number, None, With}
 use Rattle.sets.specs.Sets.{width, endMark, columnPlace}
 use Rattle.sets.specs.declared.Set.{Set}
 use Rattle.sets.proofs.Promise.{none-is, with-is, same-members, number-unique}
-use Rattle.answers.specs.Answers.{done, stop}
+use Rattle.answers.specs.Answers.{done, stop, atDepth}
 use Rattle.answers.specs.declared.Answer.{Answer}
 use Rattle.book.specs.Columns.{Outlines}
 use Rattle.book.specs.declared.columns.Outline.{Outline}
@@ -23,11 +23,11 @@ use Rattle.table.specs.Table.{held}
 use Rattle.table.proofs.Promise.{held-vacant, held-filled}
 use Rattle.machine.specs.declared.Reason.{Reason}
 use Rattle.machine.specs.declared.Reason.the-variants.{FullList, FullStack, WantsEnd, WantsToken, WantsRow}
-use Rattle.offer.specs.Stops.{marking, filledBelow, expected, numberOf, detailOf, answerOf}
+use Rattle.offer.specs.Stops.{marking, filledBelow, expected, numberOf, detailOf, valuesOf, deepestIn, answerOf}
 use Rattle.offer.specs.declared.Progress.{Progress}
 use Rattle.offer.specs.declared.Reply.the-variants.{Taken, Stopped, Refused}
 use Rattle.offer.specs.declared.Reply.{Reply}
-use Rattle.run.specs.Answering.{RowColumns, Expects, progressIn, Answers}
+use Rattle.run.specs.Answering.{RowColumns, Expects, progressIn, Values, Answers}
 
 -- a place past the width adds nothing
 pub with-marks : {s : Set} {bit : ℕ} {r : Set} → With s bit r → number r ≡ marking bit (number s)
@@ -81,26 +81,42 @@ module _ {o : Outline} (table : List ℕ) {reason : Reason} {r : Set} where
 
 module _ {o : Outline} (table : List ℕ) {reply : Reply} {at : Progress} {steps : ℕ} {r : Answer}
     (here : at ≡ progressIn reply) (counts : steps ≡ at .listed + at .matched) where
-  pub answers-done : {x : Progress} → reply ≡ Taken x → r ≡ done steps → Answers o table reply r
-  unfolding answerOf
-  answers-done {x} e f =
+  pub values-done : {x : Progress} → reply ≡ Taken x → r ≡ done steps → Values o table reply r
+  unfolding valuesOf
+  values-done {x} e f =
       let same : at ≡ x = here ∙ ap progressIn e in
-      record { answer = λ g sized. f ∙ ap done counts ∙ rw (e, same) }
+      record { values = λ g sized. f ∙ ap done counts ∙ rw (e, same) }
 
-  pub answers-stop : {x : Progress} {reason : Reason} {n place d : ℕ} {set : Set}
+  pub values-stop : {x : Progress} {reason : Reason} {n place d : ℕ} {set : Set}
       → reply ≡ Stopped reason x
       → Expects o table reason set
       → n ≡ numberOf reason
       → place ≡ at .matched
       → d ≡ detailOf reason
       → r ≡ stop n place d steps set
-      → Answers o table reply r
-  unfolding answerOf
-  answers-stop {x} {reason} e expects number-is place-is detail-is f =
+      → Values o table reply r
+  unfolding valuesOf
+  values-stop {x} {reason} e expects number-is place-is detail-is f =
       let same : at ≡ x = here ∙ ap progressIn e in
-      record { answer = λ g sized. f ∙ rw (number-is, place-is, detail-is, counts, expects .given g sized, e, same) }
+      record { values = λ g sized. f ∙ rw (number-is, place-is, detail-is, counts, expects .given g sized, e, same) }
 
 -- a refusal is its answer
-pub answers-refused : {o : Outline} (table : List ℕ) {reply : Reply} {r : Answer} → reply ≡ Refused r → Answers o table reply r
+pub values-refused : {o : Outline} (table : List ℕ) {reply : Reply} {r : Answer} → reply ≡ Refused r → Values o table reply r
+unfolding valuesOf
+values-refused table e = record { values = λ g sized. rw e }
+
+progress-deepest : (reply : Reply) → progressIn reply .deepest ≡ deepestIn reply
+unfolding deepestIn
+progress-deepest (Taken at) = refl
+progress-deepest (Stopped reason at) = refl
+progress-deepest (Refused answer) = refl
+
+-- the values and the most stack cells held are the answer
+pub answers-at : {o : Outline} (table : List ℕ) {reply : Reply} {at : Progress} {values r : Answer}
+    → at ≡ progressIn reply
+    → Values o table reply values
+    → r ≡ atDepth (at .deepest) values
+    → Answers o table reply r
 unfolding answerOf
-answers-refused table e = record { answer = λ g sized. rw e }
+answers-at table {reply} here v f =
+    record { answer = λ g sized. f ∙ rw (here, progress-deepest reply, v .values g sized) }

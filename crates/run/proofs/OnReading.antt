@@ -7,7 +7,8 @@ use native.Mathlib.Omega.{arith}
 use lib.ListN.{length}
 use Rattle.grammar.specs.Grammar.{Grammar}
 use Rattle.answers.specs.declared.Answer.{Answer}
-use Rattle.book.specs.Judging.{Serves, Judged}
+use Rattle.answers.specs.Answers.{refusal, atDepth}
+use Rattle.book.specs.Judging.{Refuses, misread, useless-one, Serves, Judged}
 use Rattle.book.specs.declared.Reading.{Reading}
 use Rattle.book.proofs.Promise.{judged-done, judged-refused, reading-grammar}
 use Rattle.run.specs.Beside.{Shown}
@@ -56,6 +57,12 @@ ran-serves : {book table tokens stack list : List ℕ} {g : Grammar}
 ran-serves serves admits (no-stack e) = absurd (omega (arith, admits .stacked))
 ran-serves serves admits (ended h) = running.ended serves admits
 
+-- a book's refusal has depth 0
+refuses-flat : {book : List ℕ} {a : Answer} → Refuses book a → atDepth 0 a ≡ a
+unfolding refusal atDepth
+refuses-flat (misread e) = refl
+refuses-flat (useless-one e l) = refl
+
 -- on what judging the book gives, with a table, tokens and a stack cell that pass the checks where it serves, a run on the judged book is
 -- the run
 pub judged-run-run : {book table tokens stack list : List ℕ} {reading : Reading}
@@ -64,7 +71,9 @@ pub judged-run-run : {book table tokens stack list : List ℕ} {reading : Readin
     → {a : Answer} {s l : List ℕ}
     → JudgedRun book reading table tokens stack list a s l
     → RunOutcome book table tokens stack list a s l
-judged-run-run judged admits (refused n) = running.refused (judged-refused judged n .0)
+judged-run-run judged admits (refused n) =
+    let refuses = judged-refused judged n .0 in
+    rw (refuses-flat refuses) (running.refused refuses)
 judged-run-run {table = table} {tokens = tokens} {stack = stack} {list = list} judged admits {a} {s} {l} (ran-on e o) =
     let (g, serves, same) = judged-done judged e in
     ran-serves serves (admits g serves) (subst (λ (x : Grammar). RanOn x table tokens stack list a s l) (reading-grammar serves same) o)

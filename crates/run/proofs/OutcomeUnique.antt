@@ -12,7 +12,7 @@ use Rattle.table.proofs.Promise.{misfit-not-fit, misfit-unique}
 use Rattle.machine.specs.Machine.{final}
 use Rattle.stack.proofs.Promise.{Call, refused, barred, ended, Apart, call-unique}
 use Rattle.offer.specs.Strings.{ran}
-use Rattle.offer.specs.Stops.{answered, expected}
+use Rattle.offer.specs.Stops.{runAnswer}
 use Rattle.run.specs.Running.{FirstStrange, Barred, bad-table, too-long, strange, no-stack, Admits, wordsOf, RunOutcome, matchedIn, BesideOutcome}
 use Rattle.run.specs.Running as running
 
@@ -67,7 +67,7 @@ module _ (book table tokens stack list : List ℕ) where
 
   abbrev end : Grammar → Result
   end g =
-      (answered (expected g table) (ran g table tokens stack list), cleared stack, over (final (ran g table tokens stack list) .listed) list)
+      (runAnswer g table (ran g table tokens stack list), cleared stack, over (final (ran g table tokens stack list) .listed) list)
 
   run-call : {a : Answer} {s l : List ℕ} → RunOutcome book table tokens stack list a s l → Calls kept end (a, s, l)
   run-call (running.refused r) = refused r
@@ -86,7 +86,7 @@ module _ (book table tokens stack list : List ℕ) where
 
   abbrev end-beside : Grammar → BesideResult
   end-beside g =
-      (wordsOf (answered (expected g table) (ran g table tokens stack list)), drop (final (ran g table tokens stack list) .matched) tokens, cleared stack, over (final (ran g table tokens stack list) .listed) list)
+      (wordsOf (runAnswer g table (ran g table tokens stack list)), drop (final (ran g table tokens stack list) .matched) tokens, cleared stack, over (final (ran g table tokens stack list) .listed) list)
 
   beside-call : {a r s l : List ℕ} → BesideOutcome book table tokens stack list a r s l → Calls kept-beside end-beside (a, r, s, l)
   unfolding matchedIn

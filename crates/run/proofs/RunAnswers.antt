@@ -7,7 +7,7 @@ use native.Mathlib.Omega.{arith}
 use lib.ListN.{length, take, drop, length-drop}
 use lib.Seq.{take-all}
 use Rattle.grammar.specs.Grammar.{Grammar}
-use Rattle.answers.specs.Answers.{done, refusal, stop}
+use Rattle.answers.specs.Answers.{done, refusal, stop, atDepth}
 use Rattle.answers.specs.declared.Answer.{Answer}
 use Rattle.answers.specs.Buffers.{counted}
 use Rattle.answers.specs.Checks.{passes, stops, goes}
@@ -25,7 +25,7 @@ use Rattle.machine.proofs.Promise as machine
 use Rattle.offer.specs.Strings.{ran, StringOutcome}
 use Rattle.offer.specs.Strings as strings
 use Rattle.offer.specs.Resuming.{progressOf, reported}
-use Rattle.offer.specs.Stops.{expected, answered, answerOf}
+use Rattle.offer.specs.Stops.{expected, runAnswer, valuesOf, deepestIn, answerOf}
 use Rattle.offer.specs.declared.Progress.{Progress}
 use Rattle.offer.specs.declared.Reply.{Reply}
 use Rattle.offer.proofs.Promise.{reply-told}
@@ -67,7 +67,7 @@ module _ (g : Grammar) (table tokens stack list : List ℕ) where
         let listed : progressIn reply .listed ≡ length (last .listed) = ap (λ (x : Reply). progressIn x .listed) reports ∙ ap (λ (x : Progress). x .listed) (progress-reported (ran g table tokens stack list)) in
         omega (arith, reply-matched, ran-inside, ran-counted .list-fits)
 
-    pub ran-answered : {o : Outline} {r : Answer} → Outlines o g → Answers o table reply r → r ≡ answered (expected g table) (ran g table tokens stack list)
+    pub ran-answered : {o : Outline} {r : Answer} → Outlines o g → Answers o table reply r → r ≡ runAnswer g table (ran g table tokens stack list)
     ran-answered sized a = a .answer g sized ∙ ap (answerOf g table) reports ∙ reply-told g table (ran g table tokens stack list) (ran-counted .steps)
 
 module _ {g : Grammar} {table tokens stack list : List ℕ} where
@@ -85,7 +85,7 @@ module _ {g : Grammar} {table tokens stack list : List ℕ} where
       → Outlines o g
       → Answers o table reply r
       → RanOn g table tokens stack list r stack′ list′
-  unfolding answerOf expected stop refusal
+  unfolding answerOf valuesOf deepestIn expected stop refusal atDepth
   judged-answered (strings.no-stack e) sized a = rw (a .answer g sized) (no-stack e)
   judged-answered (strings.ended h) sized a = rw (ran-answered g table tokens stack list refl sized a) (ended h)
 

@@ -11,7 +11,7 @@ use Rattle.answers.specs.declared.Answer.{Answer}
 use Rattle.book.specs.Columns.{Outlines}
 use Rattle.book.specs.declared.columns.Outline.{Outline}
 use Rattle.machine.specs.declared.Reason.{Reason}
-use Rattle.offer.specs.Stops.{filledBelow, expected, answerOf}
+use Rattle.offer.specs.Stops.{filledBelow, expected, valuesOf, answerOf}
 use Rattle.offer.specs.declared.Progress.{Progress}
 use Rattle.offer.specs.declared.Reply.the-variants.{Taken, Stopped, Refused}
 use Rattle.offer.specs.declared.Reply.{Reply}
@@ -34,8 +34,11 @@ pub record Expects (o : Outline) (table : List ℕ) (reason : Reason) (r : Set) 
 abbrev pub progressIn : Reply → Progress
 progressIn (Taken at) = at
 progressIn (Stopped reason at) = at
-progressIn (Refused answer) = record { height = 0; listed = 0; matched = 0 }
+progressIn (Refused answer) = record { height = 0; listed = 0; matched = 0; deepest = 0 }
 
--- the answer to a reply
+-- the values of a reply, and the answer to it
+pub record Values (o : Outline) (table : List ℕ) (reply : Reply) (r : Answer) : Type 0 where
+  pub values : (g : Grammar) → Outlines o g → r ≡ valuesOf g table reply
+
 pub record Answers (o : Outline) (table : List ℕ) (reply : Reply) (r : Answer) : Type 0 where
   pub answer : (g : Grammar) → Outlines o g → r ≡ answerOf g table reply

@@ -16,7 +16,7 @@ use Rattle.answers.specs.Lowest.{Lowest}
 use Rattle.book.specs.Judging.{Refuses, Serves}
 use Rattle.table.specs.Fitting.{FitTable, Misfit}
 use Rattle.machine.specs.Machine.{final}
-use Rattle.offer.specs.Stops.{expected, answered}
+use Rattle.offer.specs.Stops.{runAnswer}
 use Rattle.offer.specs.Strings.{ran}
 
 -- token i is T or above
@@ -63,7 +63,7 @@ pub data RunOutcome (book table tokens stack list : List ℕ) : Answer → List 
       → Serves book g
       → Admits g table tokens stack
       → RunOutcome book table tokens stack list
-      (answered (expected g table) (ran g table tokens stack list))
+      (runAnswer g table (ran g table tokens stack list))
       (cleared stack)
       (over (final (ran g table tokens stack list) .listed) list)
 
@@ -76,9 +76,9 @@ matchedIn (barred s b) = 0
 matchedIn {table = table} {tokens = tokens} {stack = stack} {list = list} (ended {g = g} s a) =
     final (ran g table tokens stack list) .matched
 
--- number, place, detail, steps and expected set
+-- number, place, detail, steps, expected set and depth
 unfoldable pub wordsOf : Answer → List ℕ
-wordsOf a = a .number ∷ a .place ∷ a .detail ∷ a .steps ∷ number (a .expected) ∷ []
+wordsOf a = a .number ∷ a .place ∷ a .detail ∷ a .steps ∷ number (a .expected) ∷ a .depth ∷ []
 
 -- a run that also shows the part of the tokens not yet matched: the words of the answer, and the part
 pub record BesideOutcome (book table tokens stack list words part stack′ list′ : List ℕ) : Type 0 where

@@ -1,9 +1,10 @@
-// The answer to a run that has ended: the paper's number, place, detail, steps and expected set.
+// The answer to a run that has ended: the paper's number, place, detail, steps and expected set, and the depth.
 ghost use mathlib.Core.Path.{_≡_};
 ghost use Prim.Native.Nat.{_+_, _^_, _<_};
 ghost use Rattle.offer.specs.Stops.{numberOf, detailOf};
-ghost use Rattle.run.specs.Answering.{WithColumn, RowColumns, Expects, progressIn, Answers};
+ghost use Rattle.run.specs.Answering.{WithColumn, RowColumns, Expects, progressIn, Values, Answers};
 use answers::Answer;
+use answers::at_depth;
 use answers::done;
 use answers::refusals::LIST_ROOM;
 use answers::refusals::ROOM;
@@ -98,6 +99,7 @@ pub(crate) fn progress_of(reply: Reply) -> Progress
             height: 0,
             listed: 0,
             matched: 0,
+            deepest: 0,
         },
     }
 }
@@ -110,10 +112,10 @@ fn steps_of(at: Progress) -> u64
     at.listed as u64 + at.matched as u64
 }
 
-// The answer to a run that ends with this reply.
-pub(crate) fn answer_of(table: &[u8], outline: Outline, reply: Reply) -> Answer
+// The paper's values of a reply.
+fn values_of(table: &[u8], outline: Outline, reply: Reply) -> Answer
     requires { ⌜ progressIn reply .listed + progressIn reply .matched < 2 ^ 64 ⌝ }
-    ensures { λ r. ⌜ Answers outline (now (table .entry)) reply r ⌝ }
+    ensures { λ r. ⌜ Values outline (now (table .entry)) reply r ⌝ }
 {
     let at = progress_of(reply);
     let steps = steps_of(at);
@@ -131,4 +133,14 @@ pub(crate) fn answer_of(table: &[u8], outline: Outline, reply: Reply) -> Answer
         }
         Reply::Refused(answer) => answer,
     }
+}
+
+// The answer to a run that ends with this reply: its values, and the most stack cells held.
+pub(crate) fn answer_of(table: &[u8], outline: Outline, reply: Reply) -> Answer
+    requires { ⌜ progressIn reply .listed + progressIn reply .matched < 2 ^ 64 ⌝ }
+    ensures { λ r. ⌜ Answers outline (now (table .entry)) reply r ⌝ }
+{
+    let at = progress_of(reply);
+    let values = values_of(table, outline, reply);
+    at_depth(values, at.deepest as u64)
 }

@@ -5,12 +5,19 @@ ghost use Rattle.run.specs.Running.{wordsOf};
 use crate::running::account;
 use answers::Answer;
 
-// Number, place, detail, steps and expected set.
-fn write_words(words: &mut [u64; 5], a: Answer)
+// Number, place, detail, steps, expected set and depth.
+fn write_words(words: &mut [u64; 6], a: Answer)
     ensures { λ r. ⌜ now (words .exit) ≡ wordsOf a ⌝ }
 {
     let expected = a.expected;
-    *words = [a.number as u64, a.place, a.detail, a.steps, expected.word];
+    *words = [
+        a.number as u64,
+        a.place,
+        a.detail,
+        a.steps,
+        expected.word,
+        a.depth,
+    ];
 }
 
 // A run that also shows the part of the tokens not yet matched, as the caller's own memory.
@@ -20,7 +27,7 @@ pub fn run_beside<'t, 'b>(
     table: &'b [u8],
     stack: &mut [u8],
     list: &mut [u8],
-    answer: &mut [u64; 5],
+    answer: &mut [u64; 6],
 ) -> &'t [u8]
     ensures { λ r. ⌜ Shown
         (now (book .entry))

@@ -8,6 +8,7 @@ use crate::answering::answer_of;
 use crate::answering::progress_of;
 use crate::checking::check;
 use answers::Answer;
+use answers::at_depth;
 use answers::refusals::DONE;
 use book::Reading;
 use book::columns::Outline;
@@ -41,7 +42,7 @@ fn run_on(
 }
 
 // A run on a book that is judged already, whatever the reading: table and tokens are not checked. Where the book was
-// refused, that is the answer, and nothing changes.
+// refused, that is the answer, with depth 0 since no step is made, and nothing changes.
 pub fn run_judged(
     book: &[u8],
     reading: Reading,
@@ -63,7 +64,7 @@ pub fn run_judged(
 {
     let told = reading.answer;
     if told.number != DONE {
-        return told;
+        return at_depth(told, 0);
     }
     run_on(book, reading, table, tokens, stack, list)
 }

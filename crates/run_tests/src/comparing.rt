@@ -25,12 +25,13 @@ fn same_cells(x: &[u8], y: &[u8]) -> bool {
 }
 
 // The words are this answer's.
-fn tells(words: &[u64; 5], answer: Answer) -> bool {
+fn tells(words: &[u64; 6], answer: Answer) -> bool {
     words[0] == answer.number as u64
         && words[1] == answer.place
         && words[2] == answer.detail
         && words[3] == answer.steps
         && words[4] == word(answer.expected)
+        && words[5] == answer.depth
 }
 
 // The steps are the productions listed and the tokens matched.
@@ -51,7 +52,7 @@ fn stops_for(number: u64, detail: u64, reason: Reason) -> bool {
 }
 
 // The words are this reply's, as far as it has them.
-fn replies(words: &[u64; 5], reply: Reply) -> bool {
+fn replies(words: &[u64; 6], reply: Reply) -> bool {
     match reply {
         Reply::Taken(at) => words[0] == DONE as u64 && adds_up(words[3], at),
         Reply::Stopped(reason, at) => {
@@ -69,7 +70,7 @@ pub(crate) fn judged_alike(
     reading: Reading,
     table: &[u8],
     tokens: &[u8],
-    words: &[u64; 5],
+    words: &[u64; 6],
     run_stack: &[u8],
     run_list: &[u8],
 ) -> bool {
@@ -79,17 +80,18 @@ pub(crate) fn judged_alike(
     tells(words, answer) && same_cells(&stack, run_stack) && same_cells(&list, run_list)
 }
 
-// Offers in turn have the same words and list.
+// Offers in turn have the same words and list, and the depth is the greatest that any of them tells.
 pub(crate) fn offers_alike(
     book: &[u8],
     reading: Reading,
     table: &[u8],
     tokens: &[u8],
-    words: &[u64; 5],
+    words: &[u64; 6],
     run_list: &[u8],
 ) -> bool {
     let mut stack = [99u8; 64];
     let mut list = [99u8; 64];
-    let reply = offer_each(book, reading, table, tokens, &mut stack, &mut list);
-    replies(words, reply) && same_cells(&list, run_list)
+    let chain = offer_each(book, reading, table, tokens, &mut stack, &mut list);
+    let reply = chain.reply;
+    replies(words, reply) && words[5] == chain.deepest as u64 && same_cells(&list, run_list)
 }

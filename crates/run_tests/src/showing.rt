@@ -28,7 +28,7 @@ fn show_cells(name: &[u8], cells: &[u8]) {
     }
 }
 
-// A list expanded: the number, the steps and the tokens.
+// A list expanded: the number, the steps, the depth and the tokens.
 fn show_expansion(book: &[u8], list: &[u8]) {
     let mut stack = [99u8; 64];
     let mut output = [99u8; 32];
@@ -36,6 +36,7 @@ fn show_expansion(book: &[u8], list: &[u8]) {
     show_word(b" expands");
     show_number(answer.number as u64);
     show_number(answer.steps);
+    show_number(answer.depth);
     show_cells(b" tokens", &output);
 }
 
@@ -48,8 +49,8 @@ fn show_list(book: &[u8], list: &[u8], count: usize) {
     }
 }
 
-// Number, place, detail, steps and expected set.
-fn show_answer(words: &[u64; 5]) {
+// Number, place, detail, steps, expected set and depth.
+fn show_answer(words: &[u64; 6]) {
     show_word(b"run");
     show_number(words[0]);
     show_number(words[1]);
@@ -57,6 +58,7 @@ fn show_answer(words: &[u64; 5]) {
     show_number(words[3]);
     show_word(b" ");
     io::print_hex(STDOUT_FILENO, words[4], 16);
+    show_number(words[5]);
 }
 
 // How many productions are listed: the steps that matched no token.
@@ -80,7 +82,7 @@ fn show_whether_alike(
     book: &[u8],
     table: &[u8],
     tokens: &[u8],
-    words: &[u64; 5],
+    words: &[u64; 6],
     stack: &[u8],
     list: &[u8],
 ) {
@@ -97,7 +99,7 @@ fn show_whether_alike(
 fn show_run(book: &[u8], table: &[u8], tokens: &[u8]) {
     let mut stack = [99u8; 64];
     let mut list = [99u8; 64];
-    let mut words = [0u64; 5];
+    let mut words = [0u64; 6];
     let rest = run_beside(book, tokens, table, &mut stack, &mut list, &mut words);
     let count = listed(words[3], tokens.len(), rest.len());
     show_answer(&words);

@@ -1,6 +1,6 @@
 // What a run and an expansion share: the stack as bytes, how many cells of a lent buffer count, and what comes next.
 ghost use mathlib.Core.Path.{_≡_};
-ghost use Prim.Native.Nat.{_+_, _%_, _≤_, min};
+ghost use Prim.Native.Nat.{_+_, _%_, _≤_, min, max};
 ghost use lib.ListN.{length, drop, set};
 ghost use lib.Seq.{sets};
 ghost use Rattle.grammar.specs.declared.Symbol.the-variants.{Nonterminal};
@@ -35,6 +35,13 @@ pub fn lower(x: usize, y: usize) -> usize
     ensures { λ r. ⌜ r ≡ min x y ⌝ }
 {
     if x < y { x } else { y }
+}
+
+// The greater of two numbers.
+pub fn greater(x: usize, y: usize) -> usize
+    ensures { λ r. ⌜ r ≡ max x y ⌝ }
+{
+    if x < y { y } else { x }
 }
 
 // How many cells count of a lent buffer that has so many.

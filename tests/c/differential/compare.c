@@ -1,6 +1,7 @@
 #include "cases.h"
 
 #include "counts.h"
+#include "depths.h"
 #include "inputs.h"
 #include "laws.h"
 #include "lent.h"
@@ -88,6 +89,8 @@ static void compare_runs(void)
     uint32_t number = desk_run(book(), in.book_length, table(), in.table_length, string(), in.string_length,
                                lent_bytes(&lent[1]), stack_size, lent_bytes(&lent[2]), list_size,
                                lent_bytes(&lent[0]), size);
+    if (!run_depth_is_needed(number, lent_bytes(&lent[0]), lent_bytes(&lent[2]), list_size))
+        show_difference(RUN, number, wanted, "depth");
     compare(RUN, number, wanted, lent, 3);
     if (!formula_is_enough())
         show_difference(RUN, number, wanted, "room by formula");
@@ -106,6 +109,8 @@ static void compare_expansions(void)
     uint32_t number = desk_expand(book(), in.book_length, string(), in.string_length,
                                   lent_bytes(&lent[1]), stack_size, lent_bytes(&lent[2]), tokens_size,
                                   lent_bytes(&lent[0]), size);
+    if (!expand_depth_is_needed(number, lent_bytes(&lent[0]), lent_bytes(&lent[2]), tokens_size))
+        show_difference(EXPAND, number, wanted, "depth");
     compare(EXPAND, number, wanted, lent, 3);
 }
 
@@ -210,5 +215,5 @@ void compare_case(unsigned long number)
 
 unsigned print_counts(void)
 {
-    return print_numbers() + print_laws();
+    return print_numbers() + print_laws() + print_depths();
 }

@@ -27,6 +27,8 @@ size_t answer_size(void)
 {
     if (chance(90))
         return DESK_ANSWER_SIZE;
+    if (chance(20))
+        return pick(DESK_ANSWER_SIZE - 8, DESK_ANSWER_SIZE - 1);
     return chance(50) ? pick(0, DESK_ANSWER_SIZE - 1) : pick(DESK_ANSWER_SIZE + 1, DESK_ANSWER_SIZE + 16);
 }
 

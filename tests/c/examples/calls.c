@@ -3,7 +3,7 @@
 /* Makes a call with every kind of answer buffer and of empty slice. */
 static void try_answers(void call(const void *c, size_t answer_size), const void *c)
 {
-    static const size_t sizes[] = { 0, DESK_ANSWER_SIZE - 1, DESK_ANSWER_SIZE, DESK_ANSWER_SIZE + 8 };
+    static const size_t sizes[] = ANSWER_SIZES;
     for (size_t i = 0; i < 2 * COUNT(sizes); i++) {
         empty_is_null = i % 2 != 0;
         call(c, sizes[i / 2]);
@@ -30,9 +30,11 @@ static void run_once(const void *run_case, size_t answer_size)
     struct slice book = c->grammar->book, table = c->grammar->table;
     struct lent stack = lend_bytes(c->stack), list = lend_bytes(c->list), answer = lend_bytes(answer_size);
     bool served = want_served(&answer, &c->wanted);
-    if (served)
+    if (served) {
+        want_depth(&answer, c->depth);
         want_prefix(&list, c->listed);
-    if (served && c->stepped)
+    }
+    if (served && c->depth > 0)
         want_zeros(&stack);
     uint32_t number = desk_run(lay_slice(BOOK_SLOT, book), book.length, lay_slice(TABLE_SLOT, table), table.length,
                                lay_slice(STRING_SLOT, c->tokens), c->tokens.length,
@@ -58,9 +60,11 @@ static void expand_once(const void *expand_case, size_t answer_size)
     struct slice book = c->grammar->book;
     struct lent stack = lend_bytes(c->stack), tokens = lend_bytes(c->tokens), answer = lend_bytes(answer_size);
     bool served = want_served(&answer, &c->wanted);
-    if (served)
+    if (served) {
+        want_depth(&answer, c->depth);
         want_prefix(&tokens, c->written);
-    if (served && c->stepped)
+    }
+    if (served && c->depth > 0)
         want_zeros(&stack);
     uint32_t number = desk_expand(lay_slice(BOOK_SLOT, book), book.length,
                                   lay_slice(STRING_SLOT, c->list), c->list.length,

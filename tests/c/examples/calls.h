@@ -7,7 +7,8 @@
    the inputs, which stay as they were. Every call is made with answer buffers that are short, exact and longer, and
    with empty slices as pointers and as null. */
 
-/* A run with the rooms it is lent, the whole answer and what the list begins with afterwards. */
+/* A run with the rooms it is lent, the answer, what the list begins with afterwards, and the depth: 0 where steps did
+   not begin, and then the stack stays as it was. */
 struct run_case {
     const char *name;
     const struct grammar *grammar;
@@ -16,10 +17,10 @@ struct run_case {
     size_t list;
     struct wanted wanted;
     struct slice listed;
-    bool stepped;
+    uint64_t depth;
 };
 
-/* An expansion with the rooms it is lent, the whole answer and what the output begins with afterwards. */
+/* An expansion with the rooms it is lent, the answer, what the output begins with afterwards, and the depth. */
 struct expand_case {
     const char *name;
     const struct grammar *grammar;
@@ -28,7 +29,7 @@ struct expand_case {
     size_t tokens;
     struct wanted wanted;
     struct slice written;
-    bool stepped;
+    uint64_t depth;
 };
 
 /* A call of sets or of build with the rooms it is lent; done, it gives the sets and the table of the grammar. */

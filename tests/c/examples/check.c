@@ -38,6 +38,12 @@ void want_answer(const struct lent *answer, const struct wanted *wanted)
     want_word(bytes + 8, wanted->detail);
     want_word(bytes + 16, wanted->steps);
     want_word(bytes + 24, wanted->expected);
+    want_word(bytes + 32, 0);
+}
+
+void want_depth(const struct lent *answer, uint64_t depth)
+{
+    want_word(wanted_bytes(answer) + 32, depth);
 }
 
 void want_prefix(const struct lent *lent, struct slice prefix)

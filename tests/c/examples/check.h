@@ -13,6 +13,9 @@ enum { MANY_CELLS = 70000, NO = DESK_NO_PRODUCTION };
 #define EMPTY DESK_EMPTY_STRING
 #define COUNT(array) (sizeof(array) / sizeof(array)[0])
 
+/* The answer buffers that every call is tried with: too short, of 32 bytes too, just long enough, and longer. */
+#define ANSWER_SIZES { 0, 32, DESK_ANSWER_SIZE - 1, DESK_ANSWER_SIZE, DESK_ANSWER_SIZE + 8 }
+
 struct slice {
     const uint8_t *bytes;
     size_t length;
@@ -23,7 +26,7 @@ struct slice {
 #define BYTES(...) { (const uint8_t[]){ __VA_ARGS__ }, sizeof(const uint8_t[]){ __VA_ARGS__ } }
 #define NONE { NULL, 0 }
 
-/* A whole answer. */
+/* A whole answer, but for the depth, which is 0 of all calls that neither run nor expand. */
 struct wanted {
     uint32_t number;
     uint64_t place;
@@ -43,8 +46,9 @@ void check(const char *name, const char *what, bool right);
 /* Prints the count, and gives the program's exit status. */
 int report(void);
 
-/* Say what a lent buffer must hold: an answer, cells it begins with, and zeros alone. */
+/* Say what a lent buffer must hold: an answer at depth 0, its depth, cells it begins with, and zeros alone. */
 void want_answer(const struct lent *answer, const struct wanted *wanted);
+void want_depth(const struct lent *answer, uint64_t depth);
 void want_prefix(const struct lent *lent, struct slice prefix);
 void want_words(const struct lent *lent, const uint64_t *words, size_t count);
 void want_zeros(const struct lent *lent);

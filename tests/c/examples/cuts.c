@@ -105,7 +105,7 @@ static void cut_once(const struct cut_case *c, size_t cells, size_t answer_size)
 
 static void check_cut(const struct cut_case *c)
 {
-    static const size_t sizes[] = { 0, DESK_ANSWER_SIZE - 1, DESK_ANSWER_SIZE, DESK_ANSWER_SIZE + 8 };
+    static const size_t sizes[] = ANSWER_SIZES;
     lend_patterns(c->texts);
     size_t cells = machine_cells();
     for (size_t i = 0; i < 2 * COUNT(sizes); i++) {
@@ -240,7 +240,7 @@ static void with_once(const struct with_case *c, size_t answer_size)
 
 static void check_cut_with(const struct with_case *c)
 {
-    static const size_t sizes[] = { 0, DESK_ANSWER_SIZE - 1, DESK_ANSWER_SIZE, DESK_ANSWER_SIZE + 8 };
+    static const size_t sizes[] = ANSWER_SIZES;
     for (size_t i = 0; i < 2 * COUNT(sizes); i++) {
         empty_is_null = i % 2 != 0;
         with_once(c, sizes[i / 2]);

@@ -38,7 +38,7 @@ static void make_chain(uint8_t nonterminals)
 static void check_chain_run(size_t tokens, size_t stack, size_t list, struct wanted wanted, size_t listed)
 {
     check_run(&(struct run_case){ "chain", &chain.grammar, { zeros, tokens }, stack, list, wanted,
-                                  { chain.list, listed }, true });
+                                  { chain.list, listed }, DESK_STACK_ROOM(listed, 1) });
 }
 
 /* Checks that a chain's table is the one built, that one token needs just what the formula says, that one cell less of

@@ -9,7 +9,7 @@ _Static_assert(DESK_PATTERN == 14 && DESK_NO_TOKEN == 15 && DESK_STATES == 16, "
 _Static_assert(DESK_CUT_ROOM_MACHINE == 1 && DESK_CUT_ROOM_TOKENS == 2, "details");
 _Static_assert(DESK_ROOM_STACK == 1 && DESK_ROOM_LIST == 2 && DESK_ROOM_TOKENS == 3, "details");
 _Static_assert(DESK_ROOM_FIRST == 4 && DESK_ROOM_FOLLOW == 5 && DESK_ROOM_TABLE == 6, "details");
-_Static_assert(DESK_ANSWER_SIZE == 32 && DESK_MOST_CELLS == 65535 && DESK_MOST_TOKENS == 4096, "sizes");
+_Static_assert(DESK_ANSWER_SIZE == 40 && DESK_MOST_CELLS == 65535 && DESK_MOST_TOKENS == 4096, "sizes");
 
 int main(void)
 {

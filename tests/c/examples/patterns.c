@@ -22,7 +22,7 @@ static uint64_t lengths[64];
 /* Checks a call with every kind of answer buffer and of empty slice; nothing but the answer changes. */
 static void check_patterns(const char *name, size_t size, size_t count, struct wanted wanted)
 {
-    static const size_t sizes[] = { 0, DESK_ANSWER_SIZE - 1, DESK_ANSWER_SIZE, DESK_ANSWER_SIZE + 8 };
+    static const size_t sizes[] = ANSWER_SIZES;
     const uint8_t *given = (const uint8_t *)lengths;
     for (size_t i = 0; i < 2 * COUNT(sizes); i++) {
         struct lent answer = lend_bytes(sizes[i / 2]);

@@ -7,38 +7,38 @@
 #define STRING_A BYTES(0, 1, 2, 1, 3, 1)
 
 static const struct run_case runs[] = {
-    { "A", &house, STRING_A, 3, 7, { 0, 0, 0, 13, 0 }, BYTES(0, 1, 2, 4, 1, 3, 5), true },
-    { "B", &house, STRING_A, 2, 7, { 7, 1, 1, 2, 0 }, BYTES(0), true },
-    { "C", &house, STRING_A, 3, 6, { 7, 6, 2, 12, 0 }, BYTES(0, 1, 2, 4, 1, 3), true },
-    { "D", &house, BYTES(0, 1), 3, 4, { 0, 0, 0, 6, 0 }, BYTES(0, 1, 3, 5), true },
-    { "D with more room", &house, BYTES(0, 1), 9, 9, { 0, 0, 0, 6, 0 }, BYTES(0, 1, 3, 5), true },
-    { "E", &house, NONE, 3, 7, { 11, 0, 0, 0, 0x1 }, NONE, true },
-    { "E with one cell", &house, NONE, 1, 0, { 11, 0, 0, 0, 0x1 }, NONE, true },
-    { "E without a stack", &house, NONE, 0, 7, { 7, 0, 1, 0, 0 }, NONE, false },
-    { "F", &house, BYTES(0, 1, 1), 3, 7, { 11, 2, 0, 4, END | 0xc }, BYTES(0, 1), true },
-    { "G", &house, BYTES(0, 1, 4), 3, 7, { 10, 2, 0, 0, 0 }, NONE, false },
-    { "G without room", &house, BYTES(0, 1, 4), 0, 0, { 10, 2, 0, 0, 0 }, NONE, false },
-    { "bad token behind a syntax stop", &house, BYTES(3, 3, 255, 4), 3, 7, { 10, 2, 0, 0, 0 }, NONE, false },
-    { "wrong token", &house, BYTES(1), 3, 7, { 11, 0, 0, 0, 0x1 }, NONE, true },
-    { "token missing", &house, BYTES(0, 1, 2), 3, 7, { 11, 3, 0, 6, 0x2 }, BYTES(0, 1, 2), true },
-    { "token other", &house, BYTES(0, 1, 2, 3), 3, 7, { 11, 3, 0, 6, 0x2 }, BYTES(0, 1, 2), true },
-    { "token left in row 3", &house, BYTES(0, 1, 2, 1, 1), 3, 7, { 11, 4, 0, 7, END | 0x8 }, BYTES(0, 1, 2), true },
-    { "M v+vxv", &sums, BYTES(4, 0, 4, 1, 4), 4, 11, { 0, 0, 0, 16, 0 }, BYTES(0, 3, 7, 5, 1, 3, 7, 4, 7, 5, 2), true },
+    { "A", &house, STRING_A, 3, 7, { 0, 0, 0, 13, 0 }, BYTES(0, 1, 2, 4, 1, 3, 5), 3 },
+    { "B", &house, STRING_A, 2, 7, { 7, 1, 1, 2, 0 }, BYTES(0), 2 },
+    { "C", &house, STRING_A, 3, 6, { 7, 6, 2, 12, 0 }, BYTES(0, 1, 2, 4, 1, 3), 3 },
+    { "D", &house, BYTES(0, 1), 3, 4, { 0, 0, 0, 6, 0 }, BYTES(0, 1, 3, 5), 3 },
+    { "D with more room", &house, BYTES(0, 1), 9, 9, { 0, 0, 0, 6, 0 }, BYTES(0, 1, 3, 5), 3 },
+    { "E", &house, NONE, 3, 7, { 11, 0, 0, 0, 0x1 }, NONE, 1 },
+    { "E with one cell", &house, NONE, 1, 0, { 11, 0, 0, 0, 0x1 }, NONE, 1 },
+    { "E without a stack", &house, NONE, 0, 7, { 7, 0, 1, 0, 0 }, NONE, 0 },
+    { "F", &house, BYTES(0, 1, 1), 3, 7, { 11, 2, 0, 4, END | 0xc }, BYTES(0, 1), 3 },
+    { "G", &house, BYTES(0, 1, 4), 3, 7, { 10, 2, 0, 0, 0 }, NONE, 0 },
+    { "G without room", &house, BYTES(0, 1, 4), 0, 0, { 10, 2, 0, 0, 0 }, NONE, 0 },
+    { "bad token behind a syntax stop", &house, BYTES(3, 3, 255, 4), 3, 7, { 10, 2, 0, 0, 0 }, NONE, 0 },
+    { "wrong token", &house, BYTES(1), 3, 7, { 11, 0, 0, 0, 0x1 }, NONE, 1 },
+    { "token missing", &house, BYTES(0, 1, 2), 3, 7, { 11, 3, 0, 6, 0x2 }, BYTES(0, 1, 2), 3 },
+    { "token other", &house, BYTES(0, 1, 2, 3), 3, 7, { 11, 3, 0, 6, 0x2 }, BYTES(0, 1, 2), 3 },
+    { "token left in row 3", &house, BYTES(0, 1, 2, 1, 1), 3, 7, { 11, 4, 0, 7, END | 0x8 }, BYTES(0, 1, 2), 3 },
+    { "M v+vxv", &sums, BYTES(4, 0, 4, 1, 4), 4, 11, { 0, 0, 0, 16, 0 }, BYTES(0, 3, 7, 5, 1, 3, 7, 4, 7, 5, 2), 4 },
     { "M (v+v)xv", &sums, BYTES(2, 4, 0, 4, 3, 1, 4), 6, 16, { 0, 0, 0, 23, 0 },
-      BYTES(0, 3, 6, 0, 3, 7, 5, 1, 3, 7, 5, 2, 4, 7, 5, 2), true },
-    { "M v+", &sums, BYTES(4, 0), 3, 5, { 11, 2, 0, 7, 0x14 }, BYTES(0, 3, 7, 5, 1), true },
-    { "M slides adbc", &slides, BYTES(0, 3, 1, 2), 3, 7, { 11, 4, 0, 11, 0x5 }, BYTES(0, 2, 5, 1, 4, 3, 6), true },
-    { "M slides bc", &slides, BYTES(1, 2), 3, 4, { 11, 2, 0, 6, 0x5 }, BYTES(1, 4, 3, 6), true },
-    { "M slides abcdd", &slides, BYTES(0, 1, 2, 3, 3), 3, 7, { 11, 4, 0, 11, 0x5 }, BYTES(0, 2, 4, 3, 6, 1, 5), true },
-    { "letters baab", &letters, BYTES(1, 0, 0, 1), 3, 4, { 0, 0, 0, 8, 0 }, BYTES(0, 2, 2, 3), true },
-    { "letters aceb", &letters, BYTES(0, 2, 4, 1), 3, 3, { 0, 0, 0, 7, 0 }, BYTES(1, 4, 6), true },
-    { "letters bc", &letters, BYTES(1, 2), 3, 1, { 11, 1, 0, 2, 0x3 }, BYTES(0), true },
-    { "letters left over", &letters, BYTES(1, 1, 0), 3, 2, { 11, 2, 0, 4, END }, BYTES(0, 3), true },
+      BYTES(0, 3, 6, 0, 3, 7, 5, 1, 3, 7, 5, 2, 4, 7, 5, 2), 6 },
+    { "M v+", &sums, BYTES(4, 0), 3, 5, { 11, 2, 0, 7, 0x14 }, BYTES(0, 3, 7, 5, 1), 3 },
+    { "M slides adbc", &slides, BYTES(0, 3, 1, 2), 3, 7, { 11, 4, 0, 11, 0x5 }, BYTES(0, 2, 5, 1, 4, 3, 6), 3 },
+    { "M slides bc", &slides, BYTES(1, 2), 3, 4, { 11, 2, 0, 6, 0x5 }, BYTES(1, 4, 3, 6), 3 },
+    { "M slides abcdd", &slides, BYTES(0, 1, 2, 3, 3), 3, 7, { 11, 4, 0, 11, 0x5 }, BYTES(0, 2, 4, 3, 6, 1, 5), 3 },
+    { "letters baab", &letters, BYTES(1, 0, 0, 1), 3, 4, { 0, 0, 0, 8, 0 }, BYTES(0, 2, 2, 3), 3 },
+    { "letters aceb", &letters, BYTES(0, 2, 4, 1), 3, 3, { 0, 0, 0, 7, 0 }, BYTES(1, 4, 6), 3 },
+    { "letters bc", &letters, BYTES(1, 2), 3, 1, { 11, 1, 0, 2, 0x3 }, BYTES(0), 3 },
+    { "letters left over", &letters, BYTES(1, 1, 0), 3, 2, { 11, 2, 0, 4, END }, BYTES(0, 3), 3 },
     { "prefix", &prefix, BYTES(1, 3, 5, 1, 4, 5, 5, 2, 2, 0), 6, 14, { 0, 0, 0, 24, 0 },
-      BYTES(0, 2, 3, 5, 1, 5, 2, 4, 5, 1, 5, 1, 6, 6), true },
-    { "words", &words, BYTES(1, 0, 1, 2, 0, 0, 1, 0), 2, 8, { 0, 0, 0, 16, 0 }, BYTES(1, 3, 1, 5, 6, 6, 7, 0), true },
-    { "limit before room", &house, { zeros, 4097 }, 0, 0, { 4, 4096, 0, 0, 0 }, NONE, false },
-    { "very many tokens", &house, { zeros, MANY_CELLS }, 3, 7, { 4, 4096, 0, 0, 0 }, NONE, false },
+      BYTES(0, 2, 3, 5, 1, 5, 2, 4, 5, 1, 5, 1, 6, 6), 6 },
+    { "words", &words, BYTES(1, 0, 1, 2, 0, 0, 1, 0), 2, 8, { 0, 0, 0, 16, 0 }, BYTES(1, 3, 1, 5, 6, 6, 7, 0), 2 },
+    { "limit before room", &house, { zeros, 4097 }, 0, 0, { 4, 4096, 0, 0, 0 }, NONE, 0 },
+    { "very many tokens", &house, { zeros, MANY_CELLS }, 3, 7, { 4, 4096, 0, 0, 0 }, NONE, 0 },
 };
 
 /* A table of the house book that is refused whatever the tokens and the room, for its length or for a cell. */
@@ -64,7 +64,7 @@ static void check_wrong_tables(void)
         struct grammar changed = house;
         changed.table = rows[i].table;
         check_run(&(struct run_case){ rows[i].name, &changed, rows[i].tokens, rows[i].stack, rows[i].list,
-                                      { DESK_TABLE, rows[i].place, 0, 0, 0 }, NONE, false });
+                                      { DESK_TABLE, rows[i].place, 0, 0, 0 }, NONE, 0 });
     }
 }
 
@@ -83,13 +83,13 @@ static void check_table_damages(void)
     for (size_t i = 0; i < COUNT(table_damages); i++) {
         uint8_t cells[DESK_MOST_TABLE_CELLS];
         struct grammar changed = house;
-        struct run_case c = { "table damaged", &changed, NONE, 3, 7, { DESK_SYNTAX, 0, 0, 0, 0x1 }, NONE, true };
+        struct run_case c = { "table damaged", &changed, NONE, 3, 7, { DESK_SYNTAX, 0, 0, 0, 0x1 }, NONE, 1 };
         memcpy(cells, house.table.bytes, house.table.length);
         cells[table_damages[i].cell] = table_damages[i].value;
         changed.table.bytes = cells;
         if (table_damages[i].refused) {
             c.wanted = (struct wanted){ DESK_TABLE, table_damages[i].cell, 0, 0, 0 };
-            c.stepped = false;
+            c.depth = 0;
         }
         check_run(&c);
     }
@@ -103,18 +103,16 @@ static void check_foreign_table(void)
     memcpy(cells, house.table.bytes, house.table.length);
     cells[4] = 0;
     changed.table.bytes = cells;
-    check_run(&(struct run_case){ "foreign table", &changed, NONE, 2, 1, { DESK_SYNTAX, 0, 0, 1, 0x1 }, BYTES(0),
-                                  true });
+    check_run(&(struct run_case){ "foreign table", &changed, NONE, 2, 1, { DESK_SYNTAX, 0, 0, 1, 0x1 }, BYTES(0), 2 });
     check_run(&(struct run_case){ "foreign table", &changed, NONE, 2, 0, { DESK_ROOM, 0, DESK_ROOM_LIST, 0, 0 }, NONE,
-                                  true });
+                                  1 });
 }
 
 void check_runs(void)
 {
     for (size_t i = 0; i < COUNT(runs); i++)
         check_run(&runs[i]);
-    check_run(&(struct run_case){ "bad token first", &house, house.book, 3, 7, { DESK_TOKEN, 0, 0, 0, 0 }, NONE,
-                                  false });
+    check_run(&(struct run_case){ "bad token first", &house, house.book, 3, 7, { DESK_TOKEN, 0, 0, 0, 0 }, NONE, 0 });
     check_wrong_tables();
     check_table_damages();
     check_foreign_table();

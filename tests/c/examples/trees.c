@@ -49,18 +49,19 @@ static void make_tree(uint8_t levels)
 static void check_tree_run(size_t stack, size_t list)
 {
     struct run_case c = { "L", &tree.grammar, NONE, stack, list, { DESK_DONE, 0, 0, tree.listed, 0 },
-                          { tree.list, tree.listed }, true };
+                          { tree.list, tree.listed }, tree.levels };
     if (counted(list) < tree.listed) {
         c.wanted = (struct wanted){ DESK_ROOM, 0, DESK_ROOM_LIST, counted(list), 0 };
         c.listed.length = counted(list);
+        c.depth = counted(list) + 1 < tree.levels ? counted(list) + 1 : tree.levels;
     }
     check_run(&c);
 }
 
 /* Checks an expansion of the tree's list, of which `list` productions are passed. */
-static void check_tree_back(const char *name, size_t list, size_t stack, struct wanted wanted, bool stepped)
+static void check_tree_back(const char *name, size_t list, size_t stack, struct wanted wanted, uint64_t depth)
 {
-    check_expand(&(struct expand_case){ name, &tree.grammar, { tree.list, list }, stack, 0, wanted, NONE, stepped });
+    check_expand(&(struct expand_case){ name, &tree.grammar, { tree.list, list }, stack, 0, wanted, NONE, depth });
 }
 
 /* Checks example L: 2,047 productions and 11 stack cells for no token at all. */
@@ -72,10 +73,10 @@ static void check_example_l(void)
     for (size_t i = 0; i < COUNT(rooms); i++)
         check_tree_run(11, rooms[i]);
     check_run(&(struct run_case){ "L", &tree.grammar, NONE, 10, 2047, { DESK_ROOM, 0, DESK_ROOM_STACK, 9, 0 },
-                                  { tree.list, 9 }, true });
-    check_tree_back("L back", 2047, 11, (struct wanted){ DESK_DONE, 0, 0, 2047, 0 }, true);
-    check_tree_back("L back", 2046, 11, (struct wanted){ DESK_PRODUCTION, 2046, 0, 2046, 0 }, true);
-    check_tree_back("L back", 2046, 10, (struct wanted){ DESK_ROOM, 9, DESK_ROOM_STACK, 9, 0 }, true);
+                                  { tree.list, 9 }, 10 });
+    check_tree_back("L back", 2047, 11, (struct wanted){ DESK_DONE, 0, 0, 2047, 0 }, 11);
+    check_tree_back("L back", 2046, 11, (struct wanted){ DESK_PRODUCTION, 2046, 0, 2046, 0 }, 11);
+    check_tree_back("L back", 2046, 10, (struct wanted){ DESK_ROOM, 9, DESK_ROOM_STACK, 9, 0 }, 10);
 }
 
 /* Checks the sets and the table of example L, where everything vanishes through nonterminals. */
@@ -104,9 +105,9 @@ static void check_large_trees(void)
         for (size_t i = 0; i < COUNT(large_rooms); i++)
             check_tree_run(levels, large_rooms[i]);
     }
-    check_tree_back("large tree back", 65535, 16, (struct wanted){ DESK_DONE, 0, 0, 65535, 0 }, true);
-    check_tree_back("large tree back", 65536, 16, (struct wanted){ DESK_LIMIT, 65535, 0, 0, 0 }, false);
-    check_tree_back("large tree back", 65536, 0, (struct wanted){ DESK_LIMIT, 65535, 0, 0, 0 }, false);
+    check_tree_back("large tree back", 65535, 16, (struct wanted){ DESK_DONE, 0, 0, 65535, 0 }, 16);
+    check_tree_back("large tree back", 65536, 16, (struct wanted){ DESK_LIMIT, 65535, 0, 0, 0 }, 0);
+    check_tree_back("large tree back", 65536, 0, (struct wanted){ DESK_LIMIT, 65535, 0, 0, 0 }, 0);
 }
 
 void check_trees(void)

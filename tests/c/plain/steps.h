@@ -59,7 +59,7 @@ static void run_steps(const struct grammar *grammar, const uint8_t *restrict tab
                       size_t list_room, struct answer *answer)
 {
     size_t columns = grammar->terminals + 1;
-    size_t matched = 0, listed = 0, depth = 1;
+    size_t matched = 0, listed = 0, depth = 1, deepest = 1;
     stack[0] = (uint8_t)(NONTERMINAL + grammar->start);
     while (depth > 0) {
         uint8_t top = stack[depth - 1];
@@ -88,17 +88,20 @@ static void run_steps(const struct grammar *grammar, const uint8_t *restrict tab
         }
         list[listed++] = p;
         depth = replace_top(grammar, stack, depth, p);
+        if (deepest < depth)
+            deepest = depth;
     }
     if (depth == 0 && matched < count)
         stop(answer, matched, END_MARK);
     answer->steps = listed + matched;
+    answer->depth = deepest;
 }
 
 static void expand_steps(const struct grammar *grammar, const uint8_t *restrict list, size_t count,
                          uint8_t *restrict stack, size_t stack_room, uint8_t *restrict tokens, size_t tokens_room,
                          struct answer *answer)
 {
-    size_t used = 0, written = 0, depth = 1;
+    size_t used = 0, written = 0, depth = 1, deepest = 1;
     stack[0] = (uint8_t)(NONTERMINAL + grammar->start);
     while (depth > 0) {
         uint8_t top = stack[depth - 1];
@@ -120,10 +123,13 @@ static void expand_steps(const struct grammar *grammar, const uint8_t *restrict 
             break;
         }
         depth = replace_top(grammar, stack, depth, list[used++]);
+        if (deepest < depth)
+            deepest = depth;
     }
     if (depth == 0 && used < count)
         refuse(answer, PRODUCTION, used, NO_DETAIL);
     answer->steps = used + written;
+    answer->depth = deepest;
 }
 
 #endif

@@ -9,11 +9,11 @@ use Rattle.expand.proofs.unfold_all.Statement.{statement}
 use Rattle.expand.proofs.unfold_all.Tie as tie
 
 abbrev Inv-loop : tie.InvT-loop
-Inv-loop book places lefts lengths outline list stack₀ output₀ cells height₀ used₀ written₀ stack output height used written =
-    Unrolled book places outline lefts lengths list stack₀ output₀ cells stack output height used written
+Inv-loop book places lefts lengths outline list stack₀ output₀ cells height₀ used₀ written₀ deepest₀ stack output height used written deepest =
+    Unrolled book places outline lefts lengths list stack₀ output₀ cells stack output height used written deepest
 
 abbrev μ-loop : tie.MeasureT-loop
-μ-loop book places lefts lengths outline list stack₀ output₀ cells height₀ used₀ written₀ stack output height used written =
+μ-loop book places lefts lengths outline list stack₀ output₀ cells height₀ used₀ written₀ deepest₀ stack output height used written deepest =
     counted output₀ - written + (length list - used)
 
 put-start-requires : tie.Need-put-start-requires Inv-loop μ-loop
@@ -97,20 +97,23 @@ add-height c =
     let inv = c .before .before .before .before .before .before .before .before .before .before .before .loop .inv in
     omega (arith, apply-fits _ _ _ _ _ _ _ _ _ inv (c .before .before .before .before .before .before .before .before .before .turn-at .ensures) (c .before .before .before .before .before .before .before .turn2 .given .1) (c .before .before .before .before .before .gathered .ensures) .stack-left)
 
+greater-requires : tie.Need-greater-requires Inv-loop μ-loop
+greater-requires c κs = search needs
+
 add-used : tie.Need-add-used Inv-loop μ-loop
 add-used c =
-    let inv = c .before .before .before .before .before .before .before .before .before .before .before .loop .inv in
-    omega (arith, c .before .before .before .before .before .before .before .before .before .before .before .before .before .before .before .before .before .before .before .before .before .before .before .before .good, apply-fits _ _ _ _ _ _ _ _ _ inv (c .before .before .before .before .before .before .before .before .before .turn-at .ensures) (c .before .before .before .before .before .before .before .turn2 .given .1) (c .before .before .before .before .before .gathered .ensures) .list-left)
+    let inv = c .before .before .before .before .before .before .before .before .before .before .before .before .loop .inv in
+    omega (arith, c .before .before .before .before .before .before .before .before .before .before .before .before .before .before .before .before .before .before .before .before .before .before .before .before .before .good, apply-fits _ _ _ _ _ _ _ _ _ inv (c .before .before .before .before .before .before .before .before .before .before .turn-at .ensures) (c .before .before .before .before .before .before .before .before .turn2 .given .1) (c .before .before .before .before .before .before .gathered .ensures) .list-left)
 
 loop-less-2 : tie.Need-loop-less-2 Inv-loop μ-loop
 loop-less-2 c =
-    let inv = c .before .before .before .before .before .before .before .before .before .before .before .loop .inv in
-    omega (arith, apply-fits _ _ _ _ _ _ _ _ _ inv (c .before .before .before .before .before .before .before .before .before .turn-at .ensures) (c .before .before .before .before .before .before .before .turn2 .given .1) (c .before .before .before .before .before .gathered .ensures) .list-left)
+    let inv = c .before .before .before .before .before .before .before .before .before .before .before .before .loop .inv in
+    omega (arith, apply-fits _ _ _ _ _ _ _ _ _ inv (c .before .before .before .before .before .before .before .before .before .before .turn-at .ensures) (c .before .before .before .before .before .before .before .before .turn2 .given .1) (c .before .before .before .before .before .before .gathered .ensures) .list-left)
 
 loop-again-2 : tie.Need-loop-again-2 Inv-loop μ-loop
 loop-again-2 c =
-    let inv = c .before .before .before .before .before .before .before .before .before .before .before .loop .inv in
-    unrolled-apply _ _ _ _ _ _ _ _ _ inv (c .before .before .before .before .before .before .before .before .before .turn-at .ensures) (c .before .before .before .before .before .before .before .turn2 .given .1) (c .before .before .before .before .before .gathered .ensures) (c .before .before .before .before .place-at .ensures) (c .before .before .replace .ensures)
+    let inv = c .before .before .before .before .before .before .before .before .before .before .before .before .loop .inv in
+    unrolled-apply _ _ _ _ _ _ _ _ _ inv (c .before .before .before .before .before .before .before .before .before .before .turn-at .ensures) (c .before .before .before .before .before .before .before .before .turn2 .given .1) (c .before .before .before .before .before .before .gathered .ensures) (c .before .before .before .before .before .place-at .ensures) (c .before .before .before .replace .ensures) (c .greater .ensures)
 
 enum-known-turn-3 : tie.Need-enum-known-turn-3 Inv-loop μ-loop
 enum-known-turn-3 c = search needs
@@ -158,6 +161,7 @@ unfold-all-spec =
     replace-requires
     cast-height
     add-height
+    greater-requires
     add-used
     loop-less-2
     loop-again-2

@@ -28,7 +28,8 @@ returns c =
     let counts = c .before .before .before .before .counts in
     let lower = c .before .before .before .lower in
     let counts2 = c .before .before .counts2 in
-    λ i. record { height = (lower .ensures ∙ ap (min (args .at .height)) (counts .ensures)) i; listed = (c .before .lower2 .ensures ∙ ap (min (args .at .listed)) (counts2 .ensures)) i; matched = c .lower3 .ensures i }
+    let height = lower .ensures ∙ ap (min (args .at .height)) (counts .ensures) in
+    λ i. record { height = height i; listed = (c .before .lower2 .ensures ∙ ap (min (args .at .listed)) (counts2 .ensures)) i; matched = c .lower3 .ensures i; deepest = height i }
 
 pub clamp-spec : {M : Type 1} → statement M
 clamp-spec =

@@ -10,11 +10,11 @@ use Rattle.offer.proofs.offering.offer_at.Statement.{statement}
 use Rattle.offer.proofs.offering.offer_at.Tie as tie
 
 abbrev Inv-loop : tie.InvT-loop
-Inv-loop book places lengths outline table ahead stack₀ list₀ at cells height₀ listed₀ stack list height listed =
-    Turning book places outline lengths table ahead at stack₀ list₀ cells stack list height listed
+Inv-loop book places lengths outline table ahead stack₀ list₀ at cells height₀ listed₀ deepest₀ stack list height listed deepest =
+    Turning book places outline lengths table ahead at stack₀ list₀ cells stack list height listed deepest
 
 abbrev μ-loop : tie.MeasureT-loop
-μ-loop book places lengths outline table ahead stack₀ list₀ at cells height₀ listed₀ stack list height listed =
+μ-loop book places lengths outline table ahead stack₀ list₀ at cells height₀ listed₀ deepest₀ stack list height listed deepest =
     counted list₀ - listed
 
 counts-requires : tie.Need-counts-requires Inv-loop μ-loop
@@ -65,15 +65,18 @@ add-height c =
     let inv = c .before .before .before .before .before .before .before .before .before .before .before .loop .inv in
     omega (arith, use-fits _ _ _ _ _ _ _ _ _ _ inv (c .before .before .before .before .before .before .before .before .before .choose .ensures) (c .before .before .before .before .before .before .before .choice .given .1) (c .before .before .before .before .before .gathered .ensures) .stack-left)
 
+greater-requires : tie.Need-greater-requires Inv-loop μ-loop
+greater-requires c κs = search needs
+
 loop-less : tie.Need-loop-less Inv-loop μ-loop
 loop-less c =
-    let inv = c .before .before .before .before .before .before .before .before .before .before .before .loop .inv in
-    omega (arith, use-fits _ _ _ _ _ _ _ _ _ _ inv (c .before .before .before .before .before .before .before .before .before .choose .ensures) (c .before .before .before .before .before .before .before .choice .given .1) (c .before .before .before .before .before .gathered .ensures) .list-left)
+    let inv = c .before .before .before .before .before .before .before .before .before .before .before .before .loop .inv in
+    omega (arith, use-fits _ _ _ _ _ _ _ _ _ _ inv (c .before .before .before .before .before .before .before .before .before .before .choose .ensures) (c .before .before .before .before .before .before .before .before .choice .given .1) (c .before .before .before .before .before .before .gathered .ensures) .list-left)
 
 loop-again : tie.Need-loop-again Inv-loop μ-loop
 loop-again c =
-    let inv = c .before .before .before .before .before .before .before .before .before .before .before .loop .inv in
-    turning-use _ _ _ _ _ _ _ _ _ _ inv (c .before .before .before .before .before .before .before .before .before .choose .ensures) (c .before .before .before .before .before .before .before .choice .given .1) (c .before .before .before .before .before .gathered .ensures) (c .before .before .before .before .place-at .ensures) (c .before .before .replace .ensures)
+    let inv = c .before .before .before .before .before .before .before .before .before .before .before .before .loop .inv in
+    turning-use _ _ _ _ _ _ _ _ _ _ inv (c .before .before .before .before .before .before .before .before .before .before .choose .ensures) (c .before .before .before .before .before .before .before .before .choice .given .1) (c .before .before .before .before .before .before .gathered .ensures) (c .before .before .before .before .before .place-at .ensures) (c .before .before .before .replace .ensures) (c .greater .ensures)
 
 enum-known-choice-2 : tie.Need-enum-known-choice-2 Inv-loop μ-loop
 enum-known-choice-2 c = search needs
@@ -114,6 +117,7 @@ offer-at-spec =
     replace-requires
     cast-height
     add-height
+    greater-requires
     loop-less
     loop-again
     enum-known-choice-2

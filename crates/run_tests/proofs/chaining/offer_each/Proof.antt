@@ -7,11 +7,11 @@ use Rattle.run_tests.proofs.chaining.offer_each.Statement.{statement}
 use Rattle.run_tests.proofs.chaining.offer_each.Tie as tie
 
 abbrev Inv-loop : tie.InvT-loop
-Inv-loop book reading table tokens stack₀ list₀ reply₀ i₀ stack list reply i =
+Inv-loop book reading table tokens stack₀ list₀ chain₀ i₀ stack list chain i =
     (length stack ≡ length stack₀) × (length list ≡ length list₀)
 
 abbrev μ-loop : tie.MeasureT-loop
-μ-loop book reading table tokens stack₀ list₀ reply₀ i₀ stack list reply i = length tokens - i
+μ-loop book reading table tokens stack₀ list₀ chain₀ i₀ stack list chain i = length tokens - i
 
 put-start-requires : tie.Need-put-start-requires Inv-loop μ-loop
 put-start-requires c κs = search needs
@@ -22,8 +22,8 @@ loop-holds c = search needs
 byte-at-requires : tie.Need-byte-at-requires Inv-loop μ-loop
 byte-at-requires c κs = search needs
 
-offer-next-requires : tie.Need-offer-next-requires Inv-loop μ-loop
-offer-next-requires c κs = search needs
+chain-next-requires : tie.Need-chain-next-requires Inv-loop μ-loop
+chain-next-requires c κs = search needs
 
 add-i : tie.Need-add-i Inv-loop μ-loop
 add-i c = search needs
@@ -34,8 +34,8 @@ loop-less c = search needs
 loop-again : tie.Need-loop-again Inv-loop μ-loop
 loop-again c = search needs
 
-offer-next-requires-2 : tie.Need-offer-next-requires-2 Inv-loop μ-loop
-offer-next-requires-2 c κs = search needs
+chain-next-requires-2 : tie.Need-chain-next-requires-2 Inv-loop μ-loop
+chain-next-requires-2 c κs = search needs
 
 same-length : tie.Need-same-length Inv-loop μ-loop
 same-length c = search needs
@@ -55,11 +55,11 @@ offer-each-spec =
     put-start-requires
     loop-holds
     byte-at-requires
-    offer-next-requires
+    chain-next-requires
     add-i
     loop-less
     loop-again
-    offer-next-requires-2
+    chain-next-requires-2
     same-length
     same-length-2
     returns)
