@@ -250,3 +250,10 @@ unfolds-from {g} {list} stack b {stack₀} {output} e h =
       stack-length = h .stack-length ∙ long;
       output-length = h .output-length;
     }
+
+-- said of an equal end
+pub unfolds-as : {g : Grammar} {list stack output : List ℕ} {q r : Unfolding} {stack′ output′ : List ℕ}
+    → q ≡ r
+    → Unfolds g list stack output r stack′ output′
+    → Unfolds g list stack output q stack′ output′
+unfolds-as e h = rw e h

@@ -52,6 +52,18 @@ pub(crate) struct Unfolding {
     pub deepest: usize,
 }
 
+// An expansion that ends so.
+fn closed(upshot: Upshot, used: usize, written: usize, deepest: usize) -> Unfolding
+    ensures { λ r. ⌜ r ≡ record { upshot = upshot; used = used; written = written; deepest = deepest } ⌝ }
+{
+    Unfolding {
+        upshot,
+        used,
+        written,
+        deepest,
+    }
+}
+
 // From the start symbol on, tokens on top are written and the list's productions used.
 fn unfold_all(
     book: &[u8],
@@ -109,12 +121,7 @@ fn unfold_all(
                 used += 1;
             }
             Turn::Close(upshot) => {
-                return Unfolding {
-                    upshot,
-                    used,
-                    written,
-                    deepest,
-                };
+                return closed(upshot, used, written, deepest);
             }
         }
     }

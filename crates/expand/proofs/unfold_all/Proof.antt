@@ -4,7 +4,7 @@ use native.Mathlib.Omega.{arith}
 use lib.ListN.{length}
 use borrow.Author.Needs.{needs}
 use Rattle.answers.specs.Buffers.{counted}
-use Rattle.expand.proofs.Unrolling.{Unrolled, unrolled-start, unrolled-stack, unrolled-output, unrolled-height, write-fits, unrolled-write, apply-fits, unrolled-apply, unrolled-close, unfolds-from}
+use Rattle.expand.proofs.Unrolling.{Unrolled, unrolled-start, unrolled-stack, unrolled-output, unrolled-height, write-fits, unrolled-write, apply-fits, unrolled-apply, unrolled-close, unfolds-from, unfolds-as}
 use Rattle.expand.proofs.unfold_all.Statement.{statement}
 use Rattle.expand.proofs.unfold_all.Tie as tie
 
@@ -118,23 +118,26 @@ loop-again-2 c =
 enum-known-turn-3 : tie.Need-enum-known-turn-3 Inv-loop μ-loop
 enum-known-turn-3 c = search needs
 
+closed-requires : tie.Need-closed-requires Inv-loop μ-loop
+closed-requires c κs = search needs
+
 same-length : tie.Need-same-length Inv-loop μ-loop
 same-length c =
-    let args = c .before .before .before .before .before .before .before .before .before .before .before .before .before .before .before .before .before .before .args in
-    let inv = c .before .before .before .before .before .loop .inv in
-    unfolds-from (args .stack .now) _ (c .before .before .before .before .before .before .before .before .before .put-start .ensures) (unrolled-close _ _ _ _ _ _ _ _ _ inv (c .before .before .before .turn-at .ensures) (c .before .turn3 .given .1)) .stack-length
+    let args = c .before .before .before .before .before .before .before .before .before .before .before .before .before .before .before .before .before .before .before .args in
+    let inv = c .before .before .before .before .before .before .loop .inv in
+    unfolds-as (c .closed .ensures) (unfolds-from (args .stack .now) _ (c .before .before .before .before .before .before .before .before .before .before .put-start .ensures) (unrolled-close _ _ _ _ _ _ _ _ _ inv (c .before .before .before .before .turn-at .ensures) (c .before .before .turn3 .given .1))) .stack-length
 
 same-length-2 : tie.Need-same-length-2 Inv-loop μ-loop
 same-length-2 c =
-    let args = c .before .before .before .before .before .before .before .before .before .before .before .before .before .before .before .before .before .before .args in
-    let inv = c .before .before .before .before .before .loop .inv in
-    unfolds-from (args .stack .now) _ (c .before .before .before .before .before .before .before .before .before .put-start .ensures) (unrolled-close _ _ _ _ _ _ _ _ _ inv (c .before .before .before .turn-at .ensures) (c .before .turn3 .given .1)) .output-length
+    let args = c .before .before .before .before .before .before .before .before .before .before .before .before .before .before .before .before .before .before .before .args in
+    let inv = c .before .before .before .before .before .before .loop .inv in
+    unfolds-as (c .closed .ensures) (unfolds-from (args .stack .now) _ (c .before .before .before .before .before .before .before .before .before .before .put-start .ensures) (unrolled-close _ _ _ _ _ _ _ _ _ inv (c .before .before .before .before .turn-at .ensures) (c .before .before .turn3 .given .1))) .output-length
 
 returns : tie.Need-returns Inv-loop μ-loop
 returns c =
-    let args = c .before .before .before .before .before .before .before .before .before .before .before .before .before .before .before .before .before .before .args in
-    let inv = c .before .before .before .before .before .loop .inv in
-    unfolds-from (args .stack .now) _ (c .before .before .before .before .before .before .before .before .before .put-start .ensures) (unrolled-close _ _ _ _ _ _ _ _ _ inv (c .before .before .before .turn-at .ensures) (c .before .turn3 .given .1))
+    let args = c .before .before .before .before .before .before .before .before .before .before .before .before .before .before .before .before .before .before .before .args in
+    let inv = c .before .before .before .before .before .before .loop .inv in
+    unfolds-as (c .closed .ensures) (unfolds-from (args .stack .now) _ (c .before .before .before .before .before .before .before .before .before .before .put-start .ensures) (unrolled-close _ _ _ _ _ _ _ _ _ inv (c .before .before .before .before .turn-at .ensures) (c .before .before .turn3 .given .1)))
 
 pub unfold-all-spec : {M : Type 1} → statement M
 unfold-all-spec =
@@ -166,6 +169,7 @@ unfold-all-spec =
     loop-less-2
     loop-again-2
     enum-known-turn-3
+    closed-requires
     same-length
     same-length-2
     returns)
