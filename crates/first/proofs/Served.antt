@@ -117,5 +117,5 @@ module _ {book : List ℕ} {reading : Reading} {symbols : List ℕ} {a : Answer}
       let limits = given-limits (x .given) in
       let first = family-at (first-given worked (x .given)) in
       calls.served {α = ready-spells .form} (x .given .serves) (x .good .short) (ready-spells .spelled)
-      (record { answer = x .is; holds = rw (t .set, ready-spells .is) (first-is limits first (ready-spells .known)) })
+      (record { answer = x .is; holds = rw (t .holds, ready-spells .is) (first-is limits first (ready-spells .known)) })
       (rw (t .leading, ready-spells .is) (vanishing-is limits first (ready-spells .known)))

@@ -76,7 +76,7 @@ trail-fits fs {k} small (each {x = s} {xs = α} here rest) = joined-fits width e
 -- a trail as it is worked out is determined, the set and the number
 pub trailed-unique : (fs : List ℕ) (k : ℕ) (α : Form) → Unique (Trailed fs k α)
 trailed-unique fs k α r s a b =
-    let sets : r .set ≡ s .set = number-unique (a .set ∙ sym (b .set)) in
+    let sets : r .set ≡ s .set = number-unique (a .holds ∙ sym (b .holds)) in
     let numbers : r .vanishing ≡ s .vanishing = a .leading ∙ sym (b .leading) in
     λ i. record { set = sets i; vanishing = numbers i }
 
@@ -115,7 +115,7 @@ module _ {fs form : List ℕ} {k : ℕ} where
     begun-over over set-is number-is =
         let none : drop j form ≡ [] = drop-of-length-le form over in
         record {
-          set = set-is ∙ rw none at (b .whole);
+          holds = set-is ∙ rw none at (b .whole);
           leading = omega (arith, number-is, b .within, rw none at (b .leading));
         }
 
@@ -152,7 +152,7 @@ module _ {fs form : List ℕ} {k : ℕ} where
           → Trailed fs k (formOf form) r
       begun-stops halts set-is number-is =
           record {
-            set = set-is ∙ sym (join-stops more (trail fs k (formOf (drop (suc j) form))) halts) ∙ more-whole;
+            holds = set-is ∙ sym (join-stops more (trail fs k (formOf (drop (suc j) form))) halts) ∙ more-whole;
             leading =
                 let ends = vanishing-ends fs here (formOf (drop (suc j) form)) (sym more-vanishes ∙ halts) in
                 omega (arith, number-is, ends, more-leading);

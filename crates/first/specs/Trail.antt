@@ -37,7 +37,7 @@ vanishing fs (s ∷ α) = elim (member emptyString (symbolSet fs s)) [ true ↦ 
 
 -- both of a form, as they are worked out
 pub record Trailed (fs : List ℕ) (k : ℕ) (α : Form) (r : Trail) : Type 0 where
-  pub set : number (r .set) ≡ trail fs k α
+  pub holds : number (r .set) ≡ trail fs k α
   pub leading : r .vanishing ≡ vanishing fs α
 
 -- the form that bytes stand for

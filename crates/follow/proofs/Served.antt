@@ -208,5 +208,5 @@ lookahead-served {production = production} found x t =
     let trailed = rw (left-is index rule, right-is index rule) at t in
     let limits = given-limits given in
     calls.served (given .serves) rule
-    (record { answer = x .is; holds = rw (trailed .set) (lookahead-is limits (family-at first) (family-at follow) rule) })
+    (record { answer = x .is; holds = rw (trailed .holds) (lookahead-is limits (family-at first) (family-at follow) rule) })
     (rw (trailed .leading) (vanishing-is limits (family-at first) (limits .well-formed .right-known rule)))

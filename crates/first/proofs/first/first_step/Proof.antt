@@ -61,7 +61,7 @@ returns c =
     let trail-of = c .before .before .before .before .before .trail-of in
     let unite = c .before .before .unite in
     record {
-      made = rw (unite .ensures .made, trail-of .ensures .set, single-empty (single .ensures), right-part _ _ pre);
+      made = rw (unite .ensures .made, trail-of .ensures .holds, single-empty (single .ensures), right-part _ _ pre);
       same = unite .ensures .same;
     }
 

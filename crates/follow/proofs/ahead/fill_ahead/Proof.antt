@@ -46,7 +46,7 @@ loop-again c =
     let pre = c .before .before .before .before .before .before .before .before .before .pre in
     let loop = c .before .before .before .before .loop in
     let lookahead-at = c .before .lookahead-at in
-    (search needs, ahead-next (omega (arith, pre .1)) (loop .inv .1) (c .word .ensures) (lookahead-at .ensures .set))
+    (search needs, ahead-next (omega (arith, pre .1)) (loop .inv .1) (c .word .ensures) (lookahead-at .ensures .holds))
 
 returns : tie.Need-returns Inv-loop μ-loop
 returns c = rw (le-antisymm (c .before .loop .inv .0) (c .loop-test .left)) at (c .before .loop .inv .1)
