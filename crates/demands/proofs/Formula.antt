@@ -20,7 +20,7 @@ use Rattle.machine.specs.Room.{listCells, stackCells}
 use Rattle.machine.specs.Stopping.{Short, short-list, short-stack, Decided, refused}
 use Rattle.machine.proofs.Promise.{run-lists-few, run-stays-low, run-always-enough}
 use Rattle.offer.specs.Strings.{ran}
-use Rattle.offer.proofs.Promise.{told-room, told-numbers}
+use Rattle.offer.proofs.Promise.{told-room, told-numbers, told-depth}
 use Rattle.demands.specs.Demands.{Ran, MayRun, Premises}
 use Rattle.demands.specs.Formula.{RunWithinFormula}
 use Rattle.demands.proofs.AnyTable.{ends-told, ends-steps}
@@ -56,6 +56,12 @@ module _ {book table tokens : List ℕ} (h : Premises book table tokens) (full :
   steps-within (stackless e a b c) = omega (arith, ap (λ (x : Answer). x .steps) a)
   steps-within (begins k e) = omega (arith, ends-steps e, lists-within)
 
+  depth-within : {r : Ran} → RunBegins (h .built .grammar) table tokens stack list r
+      → r .answer .depth ≤ stackCells (h .built .grammar) (length tokens)
+  unfolding refusal
+  depth-within (stackless e a b c) = omega (arith, ap (λ (x : Answer). x .depth) a)
+  depth-within (begins k e) = omega (arith, told-depth (ends-told e), holds-within)
+
   keeps-behind : {r : Ran} → RunBegins (h .built .grammar) table tokens stack list r
       → drop (listCells (h .built .grammar) (length tokens)) (r .list) ≡ drop (listCells (h .built .grammar) (length tokens)) list
   keeps-behind (stackless e a b c) = ap (λ (l : List ℕ). drop (listCells (h .built .grammar) (length tokens)) l) c
@@ -84,6 +90,6 @@ run-formula book table tokens stack list r o =
     record {
       listed = λ h full. (lists-within h full stack list, steps-within h full stack list (run-begins book table tokens stack list r o h));
       kept = λ h full. keeps-behind h full stack list (run-begins book table tokens stack list r o h);
-      held = λ h full. holds-within h full stack list;
+      held = λ h full. (holds-within h full stack list, depth-within h full stack list (run-begins book table tokens stack list r o h));
       never-room = λ h full l k. never-short h full stack list l k (run-begins book table tokens stack list r o h);
     }

@@ -31,10 +31,12 @@ pub record RunWithinFormula (book table tokens stack list : List ℕ) (r : Ran) 
       → NoEmptyRight (h .built .grammar)
       → drop (listCells (h .built .grammar) (length tokens)) (r .list)
       ≡ drop (listCells (h .built .grammar) (length tokens)) list
-  -- it holds at most 1 + 15 × N × n stack cells at any moment
+  -- it holds at most 1 + 15 × N × n stack cells at any moment, and so much tells the answer's depth
   pub held : (h : Premises book table tokens)
       → NoEmptyRight (h .built .grammar)
-      → final (ran (h .built .grammar) table tokens stack list) .height ≤ stackCells (h .built .grammar) (length tokens)
+      → (final (ran (h .built .grammar) table tokens stack list) .height
+      ≤ stackCells (h .built .grammar) (length tokens))
+      × (r .answer .depth ≤ stackCells (h .built .grammar) (length tokens))
   -- so where that much is lent, and neither number is above the 65,535 cells that count, the answer is 0 or 11, and
   -- never 7
   pub never-room : (h : Premises book table tokens)

@@ -276,7 +276,10 @@ module _ {answer : List ℕ} (lent : Lent answer) where
               let (few, matched) = ran-bounded (h .built .grammar) table tokens stack list in
               let small = mul-le-mul (serves-limits (h .built .serves) .nonterminals-fit) (h .short) in
               (lists, rw (read .steps (omega (arith, steps, matched, small, h .short))) steps);
-          held = within .held;
+          held = λ h full.
+              let (low, deep) = within .held h full in
+              let small = mul-le-mul (serves-limits (h .built .serves) .nonterminals-fit) (h .short) in
+              (low, rw (read .depth (omega (arith, deep, small))) deep);
           kept = within .kept;
           never-room = λ h full k m. rw (read .number) (within .never-room h full k m);
         }

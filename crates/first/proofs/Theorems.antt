@@ -22,6 +22,7 @@ use Rattle.first.specs.declared.forms.Trail.{Trail}
 use Rattle.first.specs.Trail.{trail, vanishing, Trailed, FirstSound, FirstAt, FirstClosed}
 use Rattle.first.specs.Calls.{FirstWorkedOut, FirstResult, FirstOutcome}
 use Rattle.first.specs.Joined.{FirstJoined}
+use Rattle.first.specs.Examples.{HouseJoined}
 use Rattle.first.proofs.Trail as trails
 use Rattle.first.proofs.Additions as additions
 use Rattle.first.proofs.Closed as closed
@@ -32,6 +33,7 @@ use Rattle.first.proofs.Joined as joins
 use Rattle.first.proofs.JoinedCalls as calls
 use Rattle.first.proofs.WholeCalls as whole
 use Rattle.first.proofs.Vanishing as leading
+use Rattle.first.proofs.Examples as examples
 
 module _ {g : Grammar} (limits : Limits g) where
   -- each single addition to FIRST is sound
@@ -120,6 +122,10 @@ pub first-of-whole : {book symbols : List ℕ} {r : SetAnswer}
     → r .answer .number ≡ 0
     → (member emptyString (number (r .set)) ≡ true) ↔ (r .vanishing ≡ length symbols)
 first-of-whole = whole.first-of-whole
+
+-- the premises above are met: the calls for n2, n3 and n2 n3 of the house book are done, and their sets join
+pub house-joined : HouseJoined
+house-joined = examples.house-joined
 
 module _ {g : Grammar} {P : ℕ → Member → Type 0} {xs ys : List ℕ} where
   -- the sets of a grammar are determined, in a list of their own
