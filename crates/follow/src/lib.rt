@@ -39,7 +39,8 @@ fn find_sets(book: &[u8], first: &mut [u64; 64], follow: &mut [u64; 64]) -> Read
     reading
 }
 
-// FIRST and FOLLOW of each nonterminal into the lent buffers; how many symbols can vanish is used, and not passed on.
+// FIRST and FOLLOW of each nonterminal into the lent buffers; how many symbols can vanish is worked out on the way and
+// not passed on.
 pub fn sets(book: &[u8], first: &mut [u64], follow: &mut [u64]) -> Answer
     ensures { λ r. ⌜ SetsOutcome (now (book .entry)) (now (first .entry)) (now (follow .entry)) r
         (now (first .exit)) (now (follow .exit)) ⌝ }
@@ -58,7 +59,7 @@ pub fn sets(book: &[u8], first: &mut [u64], follow: &mut [u64]) -> Answer
 }
 
 // The sets of each nonterminal and the lookahead of each production, all that a table is built from; how many symbols
-// can vanish is used, and not passed on.
+// can vanish is worked out on the way and not passed on.
 pub fn work_out(
     book: &[u8],
     first: &mut [u64; 64],

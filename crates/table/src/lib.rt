@@ -42,7 +42,7 @@ fn fill(
     entered
 }
 
-// The sets and the table into the lent buffers; how many symbols can vanish is used, and not passed on.
+// The sets and the table into the lent buffers; how many symbols can vanish is worked out on the way and not passed on.
 pub fn build(book: &[u8], first: &mut [u64], follow: &mut [u64], table: &mut [u8]) -> Answer
     ensures { λ r. ⌜ BuildOutcome (now (book .entry)) (now (first .entry)) (now (follow .entry)) (now (table .entry)) r
         (now (first .exit)) (now (follow .exit)) (now (table .exit)) ⌝ }
