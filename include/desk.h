@@ -300,7 +300,7 @@ uint32_t desk_patterns(const uint8_t *patterns, size_t patterns_len, const uint6
    Room: 65,792 machine cells are always enough, and a call that lends none, with at least one pattern, is told how
    many; line_len token cells are always enough (a run takes 4,096 tokens). An empty line makes the machine alone. With
    no pattern there is no machine, and every byte but a space gives DESK_NO_TOKEN. Machine
-   stack: some 34 KB, and up to 46 KB with eight nested groups.
+   stack: some 30 KB, and up to 36 KB with eight nested groups.
 
    The longest match can take time that is quadratic in the line's length (with `a` and `a*b` on many `a`): who takes
    lines from strangers bounds their length. */

@@ -132,8 +132,8 @@ static const struct function first_of = { "desk_first_of", call_first_of, 4100 }
 static const struct function run = { "desk_run", call_run, 4400 };
 static const struct function expand = { "desk_expand", call_expand, 4600 };
 static const struct function patterns = { "desk_patterns", call_patterns, 18300 };
-static const struct function cut = { "desk_cut", call_cut, 40960 };
-static const struct function cut_nested = { "desk_cut", call_cut_nested, 50300 };
+static const struct function cut = { "desk_cut", call_cut, 32800 };
+static const struct function cut_nested = { "desk_cut", call_cut_nested, 38700 };
 static const struct function cut_with = { "desk_cut_with", call_cut_with, 1024 };
 
 #ifdef __x86_64__

@@ -21,7 +21,7 @@ use Rattle.pieces.specs.declared.Ending.{Ending}
 use Rattle.pieces.specs.Cut.{Piece, numbersOf, Cut, answerOf}
 use Rattle.pieces.specs.Rows.{Says, Closed}
 use Rattle.pieces.proofs.Promise as pieces
-use Rattle.cut.specs.Patterns.{states}
+use Rattle.cut.specs.Patterns.{pointStates}
 use Rattle.cut.specs.Calls.{CutOutcome}
 use Rattle.cut.specs.Promised.{ReachedLine, CutsAs}
 use Rattle.cut.proofs.Walking.{rows-closed}
@@ -48,7 +48,7 @@ module _ {patterns lengths : List ℕ} (some-pattern : 0 < length lengths)
     {rs : List Expression}
     (accept : Accepted patterns lengths rs)
     {sets : List ℕ} {cells : List (Option ℕ)}
-    (f : FoundAll (states rs) sets cells)
+    (f : FoundAll (pointStates rs) sets cells)
     (few : length sets ≤ mostStates) where
   patterns-few : length rs ≤ mostPatterns
   patterns-few = omega (arith, accept .few, accepted-length accept)

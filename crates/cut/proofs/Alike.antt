@@ -9,18 +9,17 @@ use Rattle.sets.specs.Sets.{member, Exactly}
 use Rattle.sets.specs.Words.{places}
 use Rattle.sets.proofs.Promise.{exactly-unique, exactly-alike, fits-members, places-are}
 use Rattle.answers.specs.Limits.{mostPositions, positionWords, pointWords, byteValues}
-use Rattle.numbering.specs.Numbering.{Lawful}
-use Rattle.numbering.proofs.Promise.{Alike}
+use Rattle.numbering.specs.Numbering.{Lawful, Alike}
 use Rattle.pattern.specs.Pattern.{Expression}
 use Rattle.pattern.specs.Positions.{Start, Moved, moved, ReadsIn, Onward}
 use Rattle.patterns.specs.Calls.{pointAt, TablesOf}
-use Rattle.moves.specs.Tables.{readersOf, followOf, firstOf, Next}
+use Rattle.moves.specs.Tables.{readersOf, followOf, firstOf, NextPoint}
 use Rattle.states.specs.Machine.{tables}
-use Rattle.cut.specs.Patterns.{InSet, states}
+use Rattle.cut.specs.Patterns.{InSet, pointStates}
 use Rattle.cut.proofs.Pointing.{point-position, place-of-position}
 
 -- equal sets are the same state, one set at most is the start, and a byte leads from a set to one set at most
-pub states-lawful : (rs : List Expression) → Lawful (states rs)
+pub states-lawful : (rs : List Expression) → Lawful (pointStates rs)
 states-lawful rs =
     record {
       reflexive = λ x. refl;
@@ -50,10 +49,10 @@ module _ {rs : List Expression} {readers follow : List ℕ} (t : TablesOf rs rea
       omega (arith, places-are positionWords, fits-members (places positionWords) p (readersOf readers b) (reads-exact b byte .fits) m)
 
   -- what comes after by the tables comes after by the patterns
-  next-moved : (x b : ℕ) → b < byteValues → (q : ℕ) → Next readers follow x b q ↔ Moved rs (InSet x) b (pointAt q)
+  next-moved : (x b : ℕ) → b < byteValues → (q : ℕ) → NextPoint readers follow x b q ↔ Moved rs (InSet x) b (pointAt q)
   next-moved x b byte q = (to, from)
     where
-      to : Next readers follow x b q → Moved rs (InSet x) b (pointAt q)
+      to : NextPoint readers follow x b q → Moved rs (InSet x) b (pointAt q)
       to n =
           let p = n .position in
           let below : p < mostPositions = reader-below b p byte (n .reads) in
@@ -62,7 +61,7 @@ module _ {rs : List Expression} {readers follow : List ℕ} (t : TablesOf rs rea
           (reads-exact b byte .sound p (n .reads))
           (onward-exact p below .sound q (n .leads))
 
-      from : Moved rs (InSet x) b (pointAt q) → Next readers follow x b q
+      from : Moved rs (InSet x) b (pointAt q) → NextPoint readers follow x b q
       from (moved {p = p} i r o) =
           let reads : member p (readersOf readers b) ≡ true = reads-exact b byte .complete p r in
           record {
@@ -72,7 +71,7 @@ module _ {rs : List Expression} {readers follow : List ℕ} (t : TablesOf rs rea
             leads = onward-exact p (reader-below b p byte reads) .complete q o;
           }
 
-  pub tables-alike : Alike (tables readers follow) (states rs)
+  pub tables-alike : Alike (tables readers follow) (pointStates rs)
   tables-alike =
       record {
         columns = refl;

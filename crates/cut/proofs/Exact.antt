@@ -23,11 +23,13 @@ use Rattle.pieces.specs.Cut.{Piece, Cut}
 use Rattle.pieces.specs.Meanings.{Picks, Only, OfParts}
 use Rattle.pieces.specs.Rows.{Walk, here, on, Says}
 use Rattle.pieces.proofs.Promise.{walk-start, cut-parts, cut-lowest}
-use Rattle.cut.specs.Patterns.{states}
-use Rattle.cut.specs.Promised.{Lowest}
+use Rattle.cut.specs.Patterns.{pointStates}
+use Rattle.cut.specs.Promised.{LowestMatch}
 use Rattle.cut.proofs.Pointing.{Holds, in-set-end, exactly-holds}
 use Rattle.cut.proofs.Tokens.{LowestEnd, token-lowest, token-low}
-use Rattle.cut.proofs.Walking.{points-some, after-some, start-place, rows-in, walk-holds, walk-exists}
+use Rattle.cut.proofs.Deciding.{start-decided}
+use Rattle.cut.proofs.PointSets.{points-some, start-place}
+use Rattle.cut.proofs.Walking.{after-some, rows-in, walk-holds, walk-exists}
 
 -- only strings of bytes can be walked
 walk-bytes : {cells : List ℕ} {r s : ℕ} {u : List ℕ} → Walk cells r u s → Bytes u
@@ -36,16 +38,16 @@ walk-bytes (on row byte walk) = and-byte byte (walk-bytes walk)
 
 module _ {rs : List Expression} (few : length rs ≤ mostPatterns) (fit : positions rs ≤ mostPositions)
     {sets : List ℕ} {cells : List (Option ℕ)}
-    (f : FoundAll (states rs) sets cells)
+    (f : FoundAll (pointStates rs) sets cells)
     (short : length sets ≤ mostStates) where
   abbrev rows : List ℕ
   rows = rowsOf sets cells
 
   -- where there is a row, row 0 is the start's
-  start-row : 0 < length sets → (x : ℕ) × (getElem? sets 0 ≡ some x) × Holds x (Start rs)
+  pub start-row : 0 < length sets → (x : ℕ) × (getElem? sets 0 ≡ some x) × Holds x (Start rs)
   start-row some-row =
       let (x, starts) = f .found .started some-row in
-      let is : IsState (states rs) sets 0 x = f .found .first x starts in
+      let is : IsState (pointStates rs) sets 0 x = f .found .first x starts in
       (x, rw (is .same) (is .at), exactly-holds (start-place few fit) (starts .exact))
 
   -- where some point can come first there is a row
@@ -55,23 +57,24 @@ module _ {rs : List Expression} (few : length rs ≤ mostPatterns) (fit : positi
       go : Dec (0 < length sets) → 0 < length sets
       go (yes there) = there
       go (no lack) =
-          absurd (points-some (start-place few fit) t s (λ (x, starts). lack (inside sets 0 (f .found .first x starts .at))))
+          let (x, starts) = points-some (start-decided rs) (start-place few fit) t s in
+          absurd (lack (inside sets 0 (f .found .first x starts .at)))
 
   -- the row where the walk of u ends
-  record Ends (u : List ℕ) : Type 0 where
+  record EndsAt (u : List ℕ) : Type 0 where
     row : ℕ
     state : ℕ
     walk : Walk rows 0 u row
     at : getElem? sets row ≡ some state
     holds : Holds state (After rs u)
 
-  walk-ends : {u : List ℕ} {s : ℕ} → Walk rows 0 u s → Ends u
+  walk-ends : {u : List ℕ} {s : ℕ} → Walk rows 0 u s → EndsAt u
   walk-ends {u} {s} walk =
       let (x, at, holds) = start-row (omega (arith, walk-start walk, rows-in few fit f short)) in
       let (y, there, after) = walk-holds few fit f short walk at holds in
       record { row = s; state = y; walk = walk; at = there; holds = after }
 
-  matched-ends : {j : ℕ} {u : List ℕ} → Bytes u → Pattern rs j u → Ends u
+  matched-ends : {j : ℕ} {u : List ℕ} → Bytes u → Pattern rs j u → EndsAt u
   matched-ends {j} {u} bytes m =
       let a : After rs u (end-of j) = state-exact rs u j .1 m in
       let (t, first) = after-some rs u (end-of j) a in
@@ -80,7 +83,7 @@ module _ {rs : List Expression} (few : length rs ≤ mostPatterns) (fit : positi
       walk-ends walk
 
   -- a state has the place of a pattern's end exactly if the pattern matches what leads there
-  end-matches : {u : List ℕ} (e : Ends u) (k : ℕ) → (member (mostPositions + k) (e .state) ≡ true) ↔ Pattern rs k u
+  end-matches : {u : List ℕ} (e : EndsAt u) (k : ℕ) → (member (mostPositions + k) (e .state) ≡ true) ↔ Pattern rs k u
   end-matches {u} e k = (
     λ m. state-exact rs u k .0 (e .holds .sound (end-of k) (in-set-end (e .state) k .1 m)),
     λ p. in-set-end (e .state) k .0 (e .holds .complete (end-of k) (state-exact rs u k .1 p)),
@@ -89,7 +92,7 @@ module _ {rs : List Expression} (few : length rs ≤ mostPatterns) (fit : positi
   matched-below : {j : ℕ} {u : List ℕ} → Pattern rs j u → j < mostPatterns
   matched-below {j} {u} m = omega (arith, after-end-below rs u j (state-exact rs u j .1 m))
 
-  says-sound : {k : ℕ} {u : List ℕ} → Says rows k u → Lowest rs k u
+  says-sound : {k : ℕ} {u : List ℕ} → Says rows k u → LowestMatch rs k u
   unfolding walk-ends
   says-sound {k} {u} says =
       let e = walk-ends (says .walk) in
@@ -100,7 +103,7 @@ module _ {rs : List Expression} (few : length rs ≤ mostPatterns) (fit : positi
         lowest = λ j less m. low .lowest j less (end-matches e j .1 m);
       }
 
-  says-complete : {k : ℕ} {u : List ℕ} → Bytes u → Lowest rs k u → Says rows k u
+  says-complete : {k : ℕ} {u : List ℕ} → Bytes u → LowestMatch rs k u → Says rows k u
   says-complete {k} {u} bytes l =
       let e = matched-ends bytes (l .matches) in
       let below : k < mostPatterns = matched-below (l .matches) in
@@ -114,7 +117,7 @@ module _ {rs : List Expression} (few : length rs ≤ mostPatterns) (fit : positi
       }
 
   -- walking the rows says of every string of bytes the lowest pattern that matches it
-  pub rows-exact : (u : List ℕ) → Bytes u → (k : ℕ) → Says rows k u ↔ Lowest rs k u
+  pub rows-exact : (u : List ℕ) → Bytes u → (k : ℕ) → Says rows k u ↔ LowestMatch rs k u
   rows-exact u bytes k = (says-sound, says-complete bytes)
 
   -- and where some pattern matches it they say one

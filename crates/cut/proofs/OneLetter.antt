@@ -27,8 +27,9 @@ use Rattle.pattern.proofs.Promise.{null-of-one, first-of-one, follow-of-one, re
 use Rattle.patterns.specs.Calls.{pointAt, no-texts, text-means, Accepted}
 use Rattle.states.specs.Machine.{noCell, cellOf, lowestEnd, tokenOf, rowsOf}
 use Rattle.pieces.specs.Cut.{space, numbersOf, TokenAt, end-of-line, space-dropped, token-cut, answerOf}
-use Rattle.cut.specs.Patterns.{InSet, SomePoints, states}
+use Rattle.cut.specs.Patterns.{InSet, SomePoints, pointStates}
 use Rattle.cut.specs.Calls.{CutOutcome, cut}
+use Rattle.cut.specs.Examples.{letterRows}
 use Rattle.cut.proofs.Pointing.{point-position, point-end, place-of-position, place-of-end}
 use Rattle.cut.proofs.Alike.{states-lawful}
 
@@ -130,15 +131,15 @@ none-more : (n : ℕ) → replicate {A = Option ℕ} n none ++ (none ∷ []) ≡
 none-more n = replicate-append-replicate n 1 none ∙ ap (λ (i : ℕ). replicate {A = Option ℕ} i none) (add-one n)
 
 -- the cells of the first state before the a
-before : (n : ℕ) → n ≤ 97 → Found (states letters) (only 0 ∷ []) (replicate n none)
+before : (n : ℕ) → n ≤ 97 → Found (pointStates letters) (only 0 ∷ []) (replicate n none)
 before zero below = found-begun (states-lawful letters) (only 0) begin
 before (suc n) below =
     let cells = replicate {A = Option ℕ} n none in
     let long : length cells ≡ n = length-replicate {A = Option ℕ} n none in
-    subst (Found (states letters) (only 0 ∷ [])) (none-more n)
+    subst (Found (pointStates letters) (only 0 ∷ [])) (none-more n)
     (turn-nothing (before n (omega arith)) (omega (arith, long)) (λ y follows.
     nowhere (other-byte {x = only 0} {b = n} (λ e. omega arith)) y
-    (follows-at {m = states letters} (only 0 ∷ []) (length cells) 0 n (only 0) y (omega (arith, long)) (omega arith) refl .0 follows)))
+    (follows-at {m = pointStates letters} (only 0 ∷ []) (length cells) 0 n (only 0) y (omega (arith, long)) (omega arith) refl .0 follows)))
 
 abbrev front : List (Option ℕ)
 front = replicate 97 none ++ (some 1 ∷ [])
@@ -147,15 +148,15 @@ front-length : length front ≡ 98
 front-length = omega (arith, length-append (replicate {A = Option ℕ} 97 none) (some 1 ∷ []), length-replicate {A = Option ℕ} 97 none)
 
 -- the a leads to a new state
-at-letter : Found (states letters) (only 0 ∷ only 256 ∷ []) front
+at-letter : Found (pointStates letters) (only 0 ∷ only 256 ∷ []) front
 at-letter =
     let long : length (replicate {A = Option ℕ} 97 none) ≡ 97 = length-replicate {A = Option ℕ} 97 none in
     turn-new (before 97 (omega arith)) (omega (arith, long)) (states-lawful letters) (only 256)
-    (follows-at {m = states letters} (only 0 ∷ []) (length (replicate {A = Option ℕ} 97 none)) 0 97 (only 0) (only 256)
+    (follows-at {m = pointStates letters} (only 0 ∷ []) (length (replicate {A = Option ℕ} 97 none)) 0 97 (only 0) (only 256)
     (omega (arith, long)) (omega arith) refl .1 ends)
     new
   where
-    new : (j : ℕ) → ¬ IsState (states letters) (only 0 ∷ []) j (only 256)
+    new : (j : ℕ) → ¬ IsState (pointStates letters) (only 0 ∷ []) j (only 256)
     new zero is =
         let same : only 0 ≡ only 256 = Option·some-injective (only 0) (is .state) (is .at) ∙ sym (is .same) in
         let place : member 0 (only 256) ≡ true = rw same at (member-only 0 0 ∙ eq-eqb 0 0 refl) in
@@ -164,25 +165,25 @@ at-letter =
 
 -- nothing else leads anywhere
 rest-nothing : (n t : ℕ) → n < 414 → t ≡ 98 + n → (y : ℕ)
-    → ¬ Follows (states letters) (only 0 ∷ only 256 ∷ []) t y
+    → ¬ Follows (pointStates letters) (only 0 ∷ only 256 ∷ []) t y
 rest-nothing n t below e y follows = go (decLt t 256)
   where
     go : Dec (t < 256) → ⊥
     go (yes first) =
         nowhere (other-byte {x = only 0} {b = t} (λ d. omega arith)) y
-        (follows-at {m = states letters} (only 0 ∷ only 256 ∷ []) t 0 t (only 0) y (omega arith) first refl .0 follows)
+        (follows-at {m = pointStates letters} (only 0 ∷ only 256 ∷ []) t 0 t (only 0) y (omega arith) first refl .0 follows)
     go (no second) =
         nowhere (after-end {b = n - 158}) y
-        (follows-at {m = states letters} (only 0 ∷ only 256 ∷ []) t 1 (n - 158) (only 256) y (omega arith) (omega arith) refl .0
+        (follows-at {m = pointStates letters} (only 0 ∷ only 256 ∷ []) t 1 (n - 158) (only 256) y (omega arith) (omega arith) refl .0
         follows)
 
-after : (n : ℕ) → n ≤ 414 → Found (states letters) (only 0 ∷ only 256 ∷ []) (front ++ replicate n none)
+after : (n : ℕ) → n ≤ 414 → Found (pointStates letters) (only 0 ∷ only 256 ∷ []) (front ++ replicate n none)
 after zero below = rw append-nil at-letter
 after (suc n) below =
     let cells = front ++ replicate {A = Option ℕ} n none in
     let long : length cells ≡ 98 + n =
     omega (arith, length-append front (replicate {A = Option ℕ} n none), front-length, length-replicate {A = Option ℕ} n none) in
-    subst (Found (states letters) (only 0 ∷ only 256 ∷ []))
+    subst (Found (pointStates letters) (only 0 ∷ only 256 ∷ []))
     (append-assoc front (replicate n none) (none ∷ []) ∙ ap (λ (cs : List (Option ℕ)). front ++ cs) (none-more n))
     (turn-nothing (after n (omega arith)) (omega (arith, long)) (λ y follows.
     rest-nothing n (length cells) (omega arith) long y follows))
@@ -194,7 +195,7 @@ letterSets = only 0 ∷ only 256 ∷ []
 abbrev letterCells : List (Option ℕ)
 letterCells = (replicate 97 none ++ (some 1 ∷ [])) ++ replicate 414 none
 
-letter-found : FoundAll (states letters) letterSets letterCells
+letter-found : FoundAll (pointStates letters) letterSets letterCells
 letter-found =
     record {
       found = after 414 (omega arith);
@@ -244,10 +245,6 @@ letter-token w =
 
 letter-is-no-space : _≢_ {A = ℕ} 97 space
 letter-is-no-space e = omega arith
-
--- the rows: from the first an `a` leads to the second, whose token is 0; nothing else leads anywhere
-abbrev pub letterRows : List ℕ
-letterRows = (replicate 97 noCell ++ (1 ∷ replicate 158 noCell)) ++ (noCell ∷ (replicate 256 noCell ++ (0 ∷ [])))
 
 letter-rows : rowsOf letterSets letterCells ≡ letterRows
 unfolding rowsOf cellOf tokenOf lowestEnd member only

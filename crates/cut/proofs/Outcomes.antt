@@ -11,6 +11,7 @@ use Rattle.answers.specs.Answers.{done, refusal, stop}
 use Rattle.answers.specs.Buffers.{over}
 use Rattle.answers.specs.Limits.{mostStates, rowCells}
 use Rattle.answers.specs.Refusals.{served, room}
+use Rattle.answers.specs.Refusals as refusals
 use Rattle.numbering.proofs.Promise.{element, at-append}
 use Rattle.pattern.specs.Pattern.{Expression, Pattern}
 use Rattle.pattern.proofs.Promise.{below-length}
@@ -25,7 +26,7 @@ use Rattle.cut.specs.Calls.{CutOutcome, refused, too-many, no-cells, cut
 use Rattle.cut.specs.Promised.{RefusedEarly, by-limit, by-pattern, by-states, by-room, ReachedLine, whole, without-token, without-room, WasCut}
 
 -- the answers along a line
-line-answer : (ending : Ending) (n : ℕ) → ReachedLine (answerOf ending n)
+pub line-answer : (ending : Ending) (n : ℕ) → ReachedLine (answerOf ending n)
 unfolding answerOf done stop
 line-answer Whole n = whole refl
 line-answer (NoToken place) n = without-token refl
@@ -51,6 +52,14 @@ unfolding refusal
 refuses-early (many-patterns past) = by-limit refl
 refuses-early (bad-pattern few bad) = by-pattern refl
 refuses-early (many-positions few means good past) = by-limit refl
+
+pub refuses-not-states : {patterns lengths : List ℕ} {a : Answer}
+    → RefusesPatterns patterns lengths a
+    → a .number ≢ refusals.states
+unfolding refusal
+refuses-not-states (many-patterns past) e = omega arith
+refuses-not-states (bad-pattern few bad) e = omega arith
+refuses-not-states (many-positions few means good past) e = omega arith
 
 steps-are : (ending : Ending) (n : ℕ) → answerOf ending n .steps ≡ n
 unfolding answerOf done stop

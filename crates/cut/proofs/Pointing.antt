@@ -2,7 +2,7 @@
 use mathlib.Core.Path.{_≡_, refl, sym, subst, _∙_}
 use mathlib.Core.Bool.{true}
 use mathlib.Core.Logic.{_↔_}
-use Prim.Native.Nat.{ℕ, _+_, _-_, _<_}
+use Prim.Native.Nat.{ℕ, _+_, _-_, _^_, _<_}
 use native.Mathlib.Decide.{decLt}
 use native.Mathlib.Omega.{arith}
 use borrow.Author.Tests.{lt-ltb, le-ltb}
@@ -67,13 +67,13 @@ pub data HasPlace : Point → Type 0 where
   low-position : {p : ℕ} → p < mostPositions → HasPlace (position p)
   low-end : {k : ℕ} → k < mostPatterns → HasPlace (end-of k)
 
-pub record Placed (t : Point) : Type 0 where
+pub record PlaceOf (t : Point) : Type 0 where
   pub place : ℕ
   pub point : pointAt place ≡ t
 
-pub placed : {t : Point} → HasPlace t → Placed t
-placed (low-position {p = p} below) = record { place = p; point = point-position p below }
-placed (low-end {k = k} below) = record { place = mostPositions + k; point = point-end k }
+pub place-of : {t : Point} → HasPlace t → PlaceOf t
+place-of (low-position {p = p} below) = record { place = p; point = point-position p below }
+place-of (low-end {k = k} below) = record { place = mostPositions + k; point = point-end k }
 
 -- their places are those of sets of points
 pub place-below : (q : ℕ) → HasPlace (pointAt q) → q < places pointWords
@@ -90,6 +90,28 @@ exactly-holds {S = S} have exact =
     record {
       sound = λ t i. subst S (i .point) (exact .sound (i .place) (i .there));
       complete = λ t s.
-          let at = placed (have t s) in
+          let at = place-of (have t s) in
           record { place = at .place; point = at .point; there = exact .complete (at .place) (subst S (sym (at .point)) s) };
+    }
+
+-- no two places have the same point
+place-unique : (p q : ℕ) → pointAt p ≡ pointAt q → p ≡ q
+place-unique p q e = go (decLt q mostPositions)
+  where
+    go : Dec (q < mostPositions) → p ≡ q
+    go (yes h) = place-of-position p (e ∙ point-position q h)
+    go (no h) =
+        let k = q - mostPositions in
+        let there : mostPositions + k ≡ q = omega arith in
+        let point : pointAt q ≡ end-of k = subst (λ (i : ℕ). pointAt i ≡ end-of k) there (point-end k) in
+        place-of-end p (e ∙ point) ∙ there
+
+pub holds-exactly : {x w : ℕ} {S : Point → Type 0} → x < 2 ^ w → Holds x S → Exactly w x (λ q. S (pointAt q))
+holds-exactly {x} fits h =
+    record {
+      fits = fits;
+      sound = λ q m. h .sound (pointAt q) (record { place = q; point = refl; there = m });
+      complete = λ q s.
+          let i = h .complete (pointAt q) s in
+          rw (place-unique (i .place) q (i .point)) at (i .there);
     }

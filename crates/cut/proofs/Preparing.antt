@@ -1,7 +1,7 @@
 -- From the patterns' tables to their machine, and from the machine to the line.
 use mathlib.Core.Path.{_≡_, refl, subst}
 use mathlib.Core.Logic.{_≢_}
-use mathlib.Core.List.{List}
+use mathlib.Core.List.{List, [], _∷_}
 use mathlib.Core.Option.{Option}
 use Prim.Native.Nat.{ℕ, _*_, _≤_}
 use native.Mathlib.Omega.{arith}
@@ -23,7 +23,7 @@ use Rattle.states.proofs.Promise.{rows-length, made-alike}
 use Rattle.states.specs.Making.{madeOf, notMade, MadeOutcome, too-many, no-room, made}
 use Rattle.pieces.specs.Calls.{CutWithOutcome}
 use Rattle.pieces.proofs.Promise.{over-length}
-use Rattle.cut.specs.Patterns.{states}
+use Rattle.cut.specs.Patterns.{pointStates}
 use Rattle.cut.specs.Calls as calls
 use Rattle.cut.specs.Calls.{CutOutcome}
 use Rattle.cut.specs.Preparing as preparing
@@ -32,6 +32,7 @@ use Rattle.cut.specs.Promised.{whole}
 use Rattle.cut.proofs.Alike.{tables-alike}
 use Rattle.cut.proofs.Exact.{cut-exact, bytes-parts}
 use Rattle.cut.proofs.Outcomes.{refuses-early, early-or-line}
+use Rattle.cut.proofs.Nothing.{nothing-accepted, nothing-tables}
 
 module _ {patterns lengths readers follow xs ys : List ℕ} {a : Answer}
     (fit : TablesFit readers follow)
@@ -47,6 +48,14 @@ module _ {patterns lengths readers follow xs ys : List ℕ} {a : Answer}
   prepared-made e m =
       let read = read-done outcome e in
       preparing.made (read .accepted) (made-alike (tables-alike (read .tables)) m)
+
+-- with no pattern it is the machine of empty tables
+pub prepared-nothing : {patterns machine machine′ : List ℕ} {r : MachineMade} (lengths : List ℕ)
+    → length lengths ≡ 0
+    → MadeOutcome [] [] machine r machine′
+    → Prepared patterns lengths machine r machine′
+prepared-nothing {patterns} [] e m = preparing.made (nothing-accepted patterns) (made-alike (tables-alike nothing-tables) m)
+prepared-nothing (n ∷ lengths) e m = absurd (omega arith)
 
 module _ {patterns lengths machine : List ℕ} where
   -- without a machine both buffers are as they were
@@ -80,11 +89,11 @@ module _ {patterns lengths machine : List ℕ} where
   prepared-few (preparing.made accept (made f few fits)) = few
 
   -- and cut the line as the patterns do
-  rows-cut : {line tokens ends : List ℕ} {rs : List Expression} {sets : List ℕ} {cells : List (Option ℕ)} {a : Answer}
+  pub rows-cut : {line tokens ends : List ℕ} {rs : List Expression} {sets : List ℕ} {cells : List (Option ℕ)} {a : Answer}
       {tokens′ ends′ : List ℕ}
       → Bytes line
       → Accepted patterns lengths rs
-      → FoundAll (states rs) sets cells
+      → FoundAll (pointStates rs) sets cells
       → length sets ≤ mostStates
       → length sets * rowCells ≤ length machine
       → CutWithOutcome (rowsOf sets cells) line tokens ends a tokens′ ends′

@@ -5,3 +5,6 @@ pub use Rattle.cut.proofs.Unique.{machine-unique, cut-outcome-unique}
 pub use Rattle.cut.proofs.Outcomes.{refused-or-cut, early-or-line, was-cut}
 pub use Rattle.cut.proofs.Outcomes.{refused-unchanged, cut-below, outcome-keeps-all, outcome-ends}
 pub use Rattle.cut.proofs.Again.{cut-with-beginning, cut-with-cut}
+pub use Rattle.cut.proofs.Reaching.{states-after, row-after}
+pub use Rattle.cut.proofs.Many.{too-many-iff}
+pub use Rattle.cut.proofs.Existing.{cut-outcome-exists}

@@ -15,7 +15,7 @@ use Rattle.patterns.proofs.Promise.{accepted-unique, refuses-unique, refused-no
 use Rattle.pieces.specs.declared.Ending.{Ending}
 use Rattle.pieces.specs.Cut.{Piece, Cut}
 use Rattle.pieces.proofs.Promise.{cut-unique}
-use Rattle.cut.specs.Patterns.{states}
+use Rattle.cut.specs.Patterns.{pointStates}
 use Rattle.cut.specs.Calls.{CutOutcome, refused, too-many, no-cells, cut, CutResult}
 use Rattle.cut.proofs.Alike.{states-lawful}
 
@@ -23,22 +23,22 @@ module _ {patterns lengths : List ℕ} {rs qs : List Expression}
     (accept : Accepted patterns lengths rs)
     (other : Accepted patterns lengths qs) where
   -- patterns have one machine
-  pub machine-unique : {sets sets′ : List ℕ} {cells cells′ : List (Option ℕ)} → FoundAll (states rs) sets cells
-      → FoundAll (states qs) sets′ cells′
+  pub machine-unique : {sets sets′ : List ℕ} {cells cells′ : List (Option ℕ)} → FoundAll (pointStates rs) sets cells
+      → FoundAll (pointStates qs) sets′ cells′
       → (sets ≡ sets′) × (cells ≡ cells′)
   machine-unique {sets′ = sets′} {cells′ = cells′} f g =
-      let same : FoundAll (states rs) sets′ cells′ =
-      subst (λ (ps : List Expression). FoundAll (states ps) sets′ cells′) (accepted-unique accept other) g in
+      let same : FoundAll (pointStates rs) sets′ cells′ =
+      subst (λ (ps : List Expression). FoundAll (pointStates ps) sets′ cells′) (accepted-unique accept other) g in
       (states-unique (states-lawful rs) (λ x y e. e) f same, found-unique (states-lawful rs) f same .0)
 
   -- too many states, or all within the limit, but not both
-  many-not-whole : {sets : List ℕ} {cells : List (Option ℕ)} → TooMany (states rs) mostStates
-      → FoundAll (states qs) sets cells
+  many-not-whole : {sets : List ℕ} {cells : List (Option ℕ)} → TooMany (pointStates rs) mostStates
+      → FoundAll (pointStates qs) sets cells
       → length sets ≤ mostStates
       → ⊥
   many-not-whole {sets} {cells} many g few =
       too-many-excludes-whole (states-lawful rs)
-      (subst (λ (ps : List Expression). FoundAll (states ps) sets cells) (accepted-unique accept other) g) mostStates many few
+      (subst (λ (ps : List Expression). FoundAll (pointStates ps) sets cells) (accepted-unique accept other) g) mostStates many few
 
   -- a line has one cut by the patterns
   pub pieces-unique : {room place : ℕ} {w : List ℕ} {pieces pieces′ : List Piece} {ending ending′ : Ending}

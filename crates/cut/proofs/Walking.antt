@@ -24,21 +24,10 @@ use Rattle.states.specs.Machine.{noCell, cellOf, rowsOf}
 use Rattle.states.proofs.Promise.{rows-length, rows-next}
 use Rattle.pieces.specs.Rows.{rowsIn, cellAt, Walk, here, on, Closed}
 use Rattle.pieces.proofs.Promise.{walk-start}
-use Rattle.cut.specs.Patterns.{InSet, SomePoints, states}
-use Rattle.cut.proofs.Pointing.{Holds, HasPlace, low-position, low-end, Placed, placed, place-below, exactly-holds}
-use Rattle.cut.proofs.Some.{set-some}
+use Rattle.cut.specs.Patterns.{InSet, SomePoints, pointStates}
+use Rattle.cut.proofs.Pointing.{Holds, exactly-holds}
+use Rattle.cut.proofs.PointSets.{points-some, moved-place, moved-decided}
 use Rattle.cut.proofs.Alike.{states-lawful}
-
--- points that have places make a set, if there are any: its absence can be refuted
-pub points-some : {S : Point → Type 0} → ((t : Point) → S t → HasPlace t) → (t : Point) → S t → ¬ ¬ ((x : ℕ) × SomePoints S x)
-points-some {S} have t s lacking =
-    set-some (places pointWords) (λ q. S (pointAt q)) (λ q p. place-below q (have (pointAt q) p)) (λ (x, exact).
-    lacking (x, record { exact = exact; nonempty = λ empty. some-member x exact empty (placed (have t s)) }))
-  where
-    some-member : (x : ℕ) → Exactly (places pointWords) x (λ q. S (pointAt q)) → x ≡ 0 → Placed t → ⊥
-    some-member x exact empty at =
-        let there : member (at .place) x ≡ true = exact .complete (at .place) (subst S (sym (at .point)) s) in
-        false≢true (sym (member-none (at .place)) ∙ rw empty at there)
 
 holds-moved : {rs : List Expression} {x y b : ℕ} {S : Point → Type 0} → Holds x S
     → Holds y (Moved rs (InSet x) b)
@@ -60,15 +49,7 @@ after-some rs {S} (b ∷ u) t a = go (after-some rs u t a)
 
 -- at most as many patterns and positions as there are places for
 module _ {rs : List Expression} (few : length rs ≤ mostPatterns) (fit : positions rs ≤ mostPositions) where
-  pub start-place : (t : Point) → Start rs t → HasPlace t
-  start-place (position p) s = low-position {p = p} (omega (arith, start-position-below s))
-  start-place (end-of k) s = low-end {k = k} (omega (arith, start-end-below s))
-
-  pub moved-place : {S : Point → Type 0} {b : ℕ} (t : Point) → Moved rs S b t → HasPlace t
-  moved-place (position q) (moved s r o) = low-position {p = q} (omega (arith, onward-position-below o))
-  moved-place (end-of k) (moved s r o) = low-end {k = k} (omega (arith, onward-end-below o))
-
-  module _ {sets : List ℕ} {cells : List (Option ℕ)} (f : FoundAll (states rs) sets cells) (short : length sets ≤ mostStates) where
+  module _ {sets : List ℕ} {cells : List (Option ℕ)} (f : FoundAll (pointStates rs) sets cells) (short : length sets ≤ mostStates) where
     abbrev rows : List ℕ
     rows = rowsOf sets cells
 
@@ -84,20 +65,21 @@ module _ {rs : List Expression} (few : length rs ≤ mostPatterns) (fit : positi
     unfolding cellOf
     onto r b {x} byte at =
         let row : r < length sets = inside sets r at in
-        let is : IsState (states rs) sets r x = is-itself (states-lawful rs) at in
+        let is : IsState (pointStates rs) sets r x = is-itself (states-lawful rs) at in
         let (v, e) = element cells (r * byteValues + b) (omega (arith, f .all)) in
         go row is v e
       where
-        go : r < length sets → IsState (states rs) sets r x → (v : Option ℕ) → getElem? cells (r * byteValues + b) ≡ some v → Onto r x b
+        go : r < length sets → IsState (pointStates rs) sets r x → (v : Option ℕ) → getElem? cells (r * byteValues + b) ≡ some v → Onto r x b
         go row is none e =
             let cell : cellAt rows r b ≡ noCell = rows-next sets cells r b none (f .all) row byte e in
             stuck (omega (arith, cell)) (λ t m.
-            points-some moved-place t m (λ (y, moves). cell-none (states-lawful rs) f r b x byte is .0 e y moves))
+            let (y, moves) = points-some (moved-decided few fit x b) (moved-place few fit) t m in
+            cell-none (states-lawful rs) f r b x byte is .0 e y moves)
         go row is (some j) e =
             let cell : cellAt rows r b ≡ j = rows-next sets cells r b (some j) (f .all) row byte e in
             let (y, moves, named) = cell-named (states-lawful rs) f r b j x byte is .0 e in
             let there : getElem? sets (cellAt rows r b) ≡ some y = rw (cell, named .same) (named .at) in
-            leads there (exactly-holds moved-place (moves .exact))
+            leads there (exactly-holds (moved-place few fit) (moves .exact))
 
     -- no cell names a row that is not there, but by naming none
     pub rows-closed : 0 < length sets → Closed rows (length sets)

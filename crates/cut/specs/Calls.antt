@@ -16,7 +16,7 @@ use Rattle.patterns.specs.Calls.{Accepted, RefusesPatterns}
 use Rattle.states.specs.Machine.{rowsOf}
 use Rattle.pieces.specs.declared.Ending.{Ending}
 use Rattle.pieces.specs.Cut.{Piece, numbersOf, Cut, answerOf}
-use Rattle.cut.specs.Patterns.{states}
+use Rattle.cut.specs.Patterns.{pointStates}
 
 pub data CutOutcome (patterns lengths line machine tokens : List ℕ) : Answer → List ℕ → List ℕ → Type 0 where
   -- too many patterns, a bad one, too many positions
@@ -25,11 +25,11 @@ pub data CutOutcome (patterns lengths line machine tokens : List ℕ) : Answer �
       → CutOutcome patterns lengths line machine tokens a machine tokens
   too-many : {rs : List Expression}
       → Accepted patterns lengths rs
-      → TooMany (states rs) mostStates
+      → TooMany (pointStates rs) mostStates
       → CutOutcome patterns lengths line machine tokens (refusal refusals.states mostStates 0) machine tokens
   no-cells : {rs : List Expression} {sets : List ℕ} {cells : List (Option ℕ)}
       → Accepted patterns lengths rs
-      → FoundAll (states rs) sets cells
+      → FoundAll (pointStates rs) sets cells
       → length sets ≤ mostStates
       → length machine < length sets * rowCells
       → CutOutcome patterns lengths line machine tokens
@@ -37,7 +37,7 @@ pub data CutOutcome (patterns lengths line machine tokens : List ℕ) : Answer �
   -- the machine, and the line cut by the patterns' own meaning
   cut : {rs : List Expression} {sets : List ℕ} {cells : List (Option ℕ)} {pieces : List Piece} {ending : Ending}
       → Accepted patterns lengths rs
-      → FoundAll (states rs) sets cells
+      → FoundAll (pointStates rs) sets cells
       → length sets ≤ mostStates
       → length sets * rowCells ≤ length machine
       → Cut (Pattern rs) (length tokens) 0 line pieces ending

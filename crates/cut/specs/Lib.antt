@@ -1,4 +1,5 @@
 pub mod Patterns
 pub mod Calls
+pub mod Examples
 pub mod Promised
 pub mod Preparing

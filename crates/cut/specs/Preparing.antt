@@ -6,7 +6,7 @@ use Rattle.pattern.specs.Pattern.{Expression}
 use Rattle.patterns.specs.Calls.{Accepted, RefusesPatterns}
 use Rattle.states.specs.declared.MachineMade.{MachineMade}
 use Rattle.states.specs.Making.{Made}
-use Rattle.cut.specs.Patterns.{states}
+use Rattle.cut.specs.Patterns.{pointStates}
 
 -- no machine, and this is why
 unfoldable pub noMachine : Answer → MachineMade
@@ -19,5 +19,5 @@ pub data Prepared (patterns lengths machine : List ℕ) : MachineMade → List �
       → Prepared patterns lengths machine (noMachine a) machine
   made : {rs : List Expression} {r : MachineMade} {machine′ : List ℕ}
       → Accepted patterns lengths rs
-      → Made (states rs) machine r machine′
+      → Made (pointStates rs) machine r machine′
       → Prepared patterns lengths machine r machine′

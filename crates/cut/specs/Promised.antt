@@ -17,11 +17,11 @@ use Rattle.states.specs.Machine.{rowsOf}
 use Rattle.pieces.specs.Calls.{CutWithOutcome}
 use Rattle.pieces.specs.declared.Ending.{Ending}
 use Rattle.pieces.specs.Cut.{Piece, numbersOf, Cut, answerOf}
-use Rattle.cut.specs.Patterns.{states}
+use Rattle.cut.specs.Patterns.{pointStates}
 use Rattle.cut.specs.Calls.{CutOutcome}
 
 -- pattern k matches u, and no lower one does
-pub record Lowest (rs : List Expression) (k : ℕ) (u : List ℕ) : Type 0 where
+pub record LowestMatch (rs : List Expression) (k : ℕ) (u : List ℕ) : Type 0 where
   pub matches : Pattern rs k u
   pub lowest : (j : ℕ) → j < k → Pattern rs j u → ⊥
 
@@ -45,7 +45,7 @@ pub record WasCut (patterns lengths line machine tokens : List ℕ) (a : Answer)
   pub accepted : Accepted patterns lengths meanings
   pub sets : List ℕ
   pub cells : List (Option ℕ)
-  pub found : FoundAll (states meanings) sets cells
+  pub found : FoundAll (pointStates meanings) sets cells
   pub few : length sets ≤ mostStates
   pub fits : length sets * rowCells ≤ length machine
   pub pieces : List Piece

@@ -11,11 +11,15 @@ use pieces::cutting::cut_with;
 use states::MachineMade;
 use states::make;
 
-// The machine of the patterns: their tables are read and used here only.
+// The machine of the patterns: their tables are read and used here only. With no pattern there is no table to read.
 fn prepare(patterns: &[u8], lengths: &[u64], machine: &mut [u16]) -> MachineMade
     ensures { λ r. ⌜ Prepared (now (patterns .entry)) (now (lengths .entry)) (now (machine .entry))
         r (now (machine .exit)) ⌝ }
 {
+    if lengths.len() == 0 {
+        let none = [0u64; 0];
+        return make(&none, &none, machine);
+    }
     let mut readers = [0u64; READERS_LENGTH];
     let mut follow = [0u64; FOLLOW_LENGTH];
     let answer = read(patterns, lengths, &mut readers, &mut follow);

@@ -16,8 +16,8 @@ use Rattle.sets.proofs.Promise.{member-none, places-are, fits-members, no-words
 use Rattle.points.specs.Points.{pointsAt}
 use Rattle.points.proofs.Promise.{points-fit, points-none, member-points}
 use Rattle.answers.specs.Limits.{mostPositions, positionWords, pointWords}
-use Rattle.moves.specs.Tables.{readersOf, followOf, setOf, Next, After}
-use Rattle.moves.specs.Growing.{Five, Grown, Leads}
+use Rattle.moves.specs.Tables.{readersOf, followOf, setOf, NextPoint, NextWords}
+use Rattle.moves.specs.Growing.{Five, Grown, WordLeads}
 
 -- both are so exactly if each is
 both : (a b : Bool) → a && b ≡ true ↔ (a ≡ true) × (b ≡ true)
@@ -26,7 +26,7 @@ both false b = (λ h. absurd (false≢true h), λ h. absurd (false≢true (h .0)
 
 -- a position of the first i words
 pub record Below (readers follow : List ℕ) (x b i q : ℕ) : Type 0 where
-  pub next : Next readers follow x b q
+  pub next : NextPoint readers follow x b q
   pub low : next .position < i * wordWidth
 
 -- what comes after the positions of the first i words
@@ -83,7 +83,7 @@ module _ (sets : List ℕ) (s : ℕ) (readers : List ℕ) (b : ℕ) (follow : Li
         and-lt wordWidth (getD sets (s * pointWords + i) 0) (getD readers (b * positionWords + i) 0)
         (hs .fits (s * pointWords + i)) (hr .fits (b * positionWords + i))
 
-    to-more : (q : ℕ) → Below readers follow (setOf sets s) b i q ⊎ Leads (i * wordWidth) (meet sets s readers b i) follow q
+    to-more : (q : ℕ) → Below readers follow (setOf sets s) b i q ⊎ WordLeads (i * wordWidth) (meet sets s readers b i) follow q
         → Below readers follow (setOf sets s) b (i + 1) q
     to-more q (inl old) = record { next = old .next; low = omega (arith, old .low) }
     to-more q (inr l) =
@@ -96,11 +96,11 @@ module _ (sets : List ℕ) (s : ℕ) (readers : List ℕ) (b : ℕ) (follow : Li
         }
 
     from-more : (q : ℕ) → Below readers follow (setOf sets s) b (i + 1) q
-        → Below readers follow (setOf sets s) b i q ⊎ Leads (i * wordWidth) (meet sets s readers b i) follow q
+        → Below readers follow (setOf sets s) b i q ⊎ WordLeads (i * wordWidth) (meet sets s readers b i) follow q
     from-more q below = go (decLt (below .next .position) (i * wordWidth))
       where
         go : Dec (below .next .position < i * wordWidth)
-            → Below readers follow (setOf sets s) b i q ⊎ Leads (i * wordWidth) (meet sets s readers b i) follow q
+            → Below readers follow (setOf sets s) b i q ⊎ WordLeads (i * wordWidth) (meet sets s readers b i) follow q
         go (yes before) = inl (record { next = below .next; low = before })
         go (no after) =
             let next = below .next in
@@ -113,7 +113,7 @@ module _ (sets : List ℕ) (s : ℕ) (readers : List ℕ) (b : ℕ) (follow : Li
             })
 
     pub gathered-more : {now after : List ℕ} → Gathered readers follow (setOf sets s) b i now
-        → Grown now after (Leads (i * wordWidth) (meet sets s readers b i) follow)
+        → Grown now after (WordLeads (i * wordWidth) (meet sets s readers b i) follow)
         → Gathered readers follow (setOf sets s) b (i + 1) after
     gathered-more g grown =
         record {
@@ -125,7 +125,7 @@ module _ (sets : List ℕ) (s : ℕ) (readers : List ℕ) (b : ℕ) (follow : Li
 
   pub gathered-all : (i : ℕ) {next : List ℕ} → positionWords ≤ i
       → Gathered readers follow (setOf sets s) b i next
-      → After sets s readers b follow next
+      → NextWords sets s readers b follow next
   unfolding setOf readersOf
   gathered-all i {next} all g =
       record {
@@ -139,7 +139,7 @@ module _ (sets : List ℕ) (s : ℕ) (readers : List ℕ) (b : ℕ) (follow : Li
             };
       }
     where
-      low : (q : ℕ) (n : Next readers follow (pointsAt sets (s * pointWords) pointWords) b q) → n .position < i * wordWidth
+      low : (q : ℕ) (n : NextPoint readers follow (pointsAt sets (s * pointWords) pointWords) b q) → n .position < i * wordWidth
       low q n =
           omega (
             arith,

@@ -13,7 +13,7 @@ use Rattle.points.specs.Points.{Unite}
 use Rattle.points.proofs.Promise.{unite-length, unite-words, unite-unites, without, without-there, without-other}
 use Rattle.answers.specs.Limits.{pointWords}
 use Rattle.moves.specs.Tables.{followOf, setOf}
-use Rattle.moves.specs.Growing.{Five, Grown, Leads}
+use Rattle.moves.specs.Growing.{Five, Grown, WordLeads}
 
 -- the row of one position is added
 grown-unite : {before now after : List ℕ} {P : ℕ → Type 0} (follow : List ℕ) (p : ℕ)
@@ -107,7 +107,7 @@ module _ (base word : ℕ) (follow : List ℕ) where
           because = λ q m. ⊎-elim inl (λ p. inr (to-more q p)) (more .because q m);
         }
 
-  pub led-all : {before after : List ℕ} → Grown before after (Gone base word 0 follow) → Grown before after (Leads base word follow)
+  pub led-all : {before after : List ℕ} → Grown before after (Gone base word 0 follow) → Grown before after (WordLeads base word follow)
   led-all g =
       record {
         five = g .five;

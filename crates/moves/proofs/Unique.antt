@@ -9,11 +9,11 @@ use lib.Seq.{ext-getD}
 use Rattle.sets.proofs.Promise.{exactly-unique}
 use Rattle.points.proofs.Promise.{points-same}
 use Rattle.answers.specs.Limits.{pointWords}
-use Rattle.moves.specs.Tables.{setOf, After}
+use Rattle.moves.specs.Tables.{setOf, NextWords}
 
 pub after-unique : {sets : List ℕ} {i : ℕ} {readers : List ℕ} {b : ℕ} {follow after after′ : List ℕ}
-    → After sets i readers b follow after
-    → After sets i readers b follow after′
+    → NextWords sets i readers b follow after
+    → NextWords sets i readers b follow after′
     → after ≡ after′
 unfolding setOf
 after-unique {after = after} {after′ = after′} h h′ =

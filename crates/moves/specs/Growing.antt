@@ -23,7 +23,7 @@ pub record Grown (before after : List ℕ) (P : ℕ → Type 0) : Type 0 where
   pub because : (q : ℕ) → member q (setOf after 0) ≡ true → (member q (setOf before 0) ≡ true) ⊎ P q
 
 -- q can come after one of the positions that a word has, numbered from `base` on
-pub record Leads (base word : ℕ) (follow : List ℕ) (q : ℕ) : Type 0 where
+pub record WordLeads (base word : ℕ) (follow : List ℕ) (q : ℕ) : Type 0 where
   pub position : ℕ
   pub low : base ≤ position
   pub there : member (position - base) word ≡ true

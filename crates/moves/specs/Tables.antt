@@ -27,14 +27,14 @@ unfoldable pub setOf : List ℕ → ℕ → ℕ
 setOf sets i = pointsAt sets (i * pointWords) pointWords
 
 -- by byte b point q comes after x: it can come after a position of x that reads b
-pub record Next (readers follow : List ℕ) (x b q : ℕ) : Type 0 where
+pub record NextPoint (readers follow : List ℕ) (x b q : ℕ) : Type 0 where
   pub position : ℕ
   pub there : member position x ≡ true
   pub reads : member position (readersOf readers b) ≡ true
   pub leads : member q (followOf follow position) ≡ true
 
 -- five words hold the points that come after set number i by byte b
-pub record After (sets : List ℕ) (i : ℕ) (readers : List ℕ) (b : ℕ) (follow after : List ℕ) : Type 0 where
+pub record NextWords (sets : List ℕ) (i : ℕ) (readers : List ℕ) (b : ℕ) (follow after : List ℕ) : Type 0 where
   pub long : length after ≡ pointWords
   pub words : AreWords after
-  pub exact : Exactly (places pointWords) (setOf after 0) (Next readers follow (setOf sets i) b)
+  pub exact : Exactly (places pointWords) (setOf after 0) (NextPoint readers follow (setOf sets i) b)

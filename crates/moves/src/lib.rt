@@ -1,7 +1,7 @@
 // Where a set of points leads by a byte: the points that can come after its positions that read the byte.
 ghost use Prim.Native.Nat.{_^_, _<_};
-ghost use Rattle.moves.specs.Growing.{Five, Grown, Leads};
-ghost use Rattle.moves.specs.Tables.{After};
+ghost use Rattle.moves.specs.Growing.{Five, Grown, WordLeads};
+ghost use Rattle.moves.specs.Tables.{NextWords};
 use answers::limits::POINT_WORDS;
 use answers::limits::POSITION_WORDS;
 use points::WORD_WIDTH;
@@ -12,7 +12,7 @@ use points::word_at;
 // The points that can come after the positions of one word, which are numbered from `base` on, are added.
 fn lead_word(next: &mut [u64; POINT_WORDS], base: usize, word: u64, follow: &[u64])
     requires { ⌜ (base < 2 ^ 32) × Five (now next) ⌝ }
-    ensures { λ r. ⌜ Grown (now (next .entry)) (now (next .exit)) (Leads base word (now (follow .entry))) ⌝ }
+    ensures { λ r. ⌜ Grown (now (next .entry)) (now (next .exit)) (WordLeads base word (now (follow .entry))) ⌝ }
 {
     let mut rest = word;
     while rest != 0 {
@@ -31,7 +31,7 @@ pub fn after(
     byte: u8,
     follow: &[u64],
 )
-    ensures { λ r. ⌜ After (now (sets .entry)) state (now (readers .entry)) byte
+    ensures { λ r. ⌜ NextWords (now (sets .entry)) state (now (readers .entry)) byte
         (now (follow .entry)) (now (next .exit)) ⌝ }
 {
     *next = [0u64; POINT_WORDS];

@@ -14,26 +14,26 @@ use Rattle.numbering.proofs.Beginning.{shorter-begins, begins-length, n
 use Rattle.numbering.proofs.Reaching.{state-reached, reached-state}
 
 -- without hole n, who sat there takes hole h
-Moved : (ℕ → ℕ → Type 0) → ℕ → ℕ → ℕ → ℕ → Type 0
-Moved R n h i j = ((j ≢ h) × R i j) ⊎ ((j ≡ h) × R i n)
+Reseated : (ℕ → ℕ → Type 0) → ℕ → ℕ → ℕ → ℕ → Type 0
+Reseated R n h i j = ((j ≢ h) × R i j) ⊎ ((j ≡ h) × R i n)
 
 module _ {R : ℕ → ℕ → Type 0} (one : (i k j : ℕ) → R i j → R k j → i ≡ k) where
-  moved-one : (n h i k j : ℕ) → Moved R n h i j → Moved R n h k j → i ≡ k
-  unfolding Moved
+  moved-one : (n h i k j : ℕ) → Reseated R n h i j → Reseated R n h k j → i ≡ k
+  unfolding Reseated
   moved-one n h i k j (inl a) (inl b) = one i k j (a .1) (b .1)
   moved-one n h i k j (inl a) (inr b) = absurd (a .0 (b .0))
   moved-one n h i k j (inr a) (inl b) = absurd (b .0 (a .0))
   moved-one n h i k j (inr a) (inr b) = one i k n (a .1) (b .1)
 
   -- when the last takes hole h away with it, the others still have a hole below n
-  moved-hole : (n h last : ℕ) → h ≤ n → R last h → (i j : ℕ) → i < last → j ≤ n → R i j → (k : ℕ) × (k < n) × Moved R n h i k
-  unfolding Moved
+  moved-hole : (n h last : ℕ) → h ≤ n → R last h → (i j : ℕ) → i < last → j ≤ n → R i j → (k : ℕ) × (k < n) × Reseated R n h i k
+  unfolding Reseated
   moved-hole n h last below sits i j lower le r = go (ℕ-discrete j n) (ℕ-discrete h n) (ℕ-discrete j h)
     where
       clash : j ≡ h → ⊥
       clash e = omega (arith, one i last h (rw e at r) sits)
 
-      go : Dec (j ≡ n) → Dec (h ≡ n) → Dec (j ≡ h) → (k : ℕ) × (k < n) × Moved R n h i k
+      go : Dec (j ≡ n) → Dec (h ≡ n) → Dec (j ≡ h) → (k : ℕ) × (k < n) × Reseated R n h i k
       go a b (yes c) = absurd (clash c)
       go (yes a) (yes b) (no c) = absurd (c (omega arith))
       go (yes a) (no b) (no c) = (h, omega arith, inr (refl, rw a at r))
@@ -47,9 +47,9 @@ pigeonhole zero n R one sits = omega arith
 pigeonhole (suc m) zero R one sits = let (j, below, r) = sits m (omega arith) in absurd (omega arith)
 pigeonhole (suc m) (suc n) R one sits =
     let (h, below, last) = sits m (omega arith) in
-    let others : (i : ℕ) → i < m → (j : ℕ) × (j < n) × Moved R n h i j =
+    let others : (i : ℕ) → i < m → (j : ℕ) × (j < n) × Reseated R n h i j =
     λ i lower. let (j, low, r) = sits i (omega arith) in moved-hole one n h m (omega arith) last i j lower (omega arith) r in
-    omega (arith, pigeonhole m n (Moved R n h) (moved-one one n h) others)
+    omega (arith, pigeonhole m n (Reseated R n h) (moved-one one n h) others)
 
 -- what there is for each number below n, gathered in a list
 gathered : {A : Type 0} (Q : ℕ → A → Type 0) (n : ℕ) → ((i : ℕ) → i < n → (x : A) × Q i x)

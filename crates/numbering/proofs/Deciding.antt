@@ -7,15 +7,9 @@ use native.Mathlib.Decide.{decLe, decLt}
 use native.Mathlib.Nat.{mul-le-mul-left}
 use native.Mathlib.Omega.{arith}
 use lib.ListN.{length, getElem?, length-append}
-use Rattle.numbering.specs.Numbering.{Automaton, Lawful, IsState, Follows, Found, Ending, whole, too-many}
+use Rattle.numbering.specs.Numbering.{Automaton, Lawful, Decided, IsState, Follows, Found, Ending, whole, too-many}
 use Rattle.numbering.proofs.Places.{element, row-inside}
 use Rattle.numbering.proofs.Turns.{found-nothing, found-begun, turn-nothing, turn-met, turn-new}
-
--- it can be decided whether there is a start, what follows, and whether two states are the same
-pub record Decided {A : Type 0} (m : Automaton A) : Type 0 where
-  pub starts : Dec ((x : A) × m .Start x)
-  pub moves : (x : A) (c : ℕ) → Dec ((y : A) × m .Moves x c y)
-  pub same : (x y : A) → Dec (m .Same x y)
 
 module _ {A : Type 0} {m : Automaton A} (decided : Decided m) where
   -- whether y is one of the states

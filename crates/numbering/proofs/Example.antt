@@ -5,31 +5,10 @@ use mathlib.Core.Option.{Option, some, none, Option·none-ne-some}
 use Prim.Native.Nat.{ℕ, zero, suc, _/_, _%_}
 use native.Mathlib.Omega.{arith}
 use lib.ListN.{getElem?}
-use Rattle.numbering.specs.Numbering.{Automaton, Lawful, IsState, Follows, Found, FoundAll, TooMany}
+use Rattle.numbering.specs.Numbering.{Automaton, Lawful, Decided, IsState, Follows, Found, FoundAll, TooMany}
+use Rattle.numbering.specs.Example.{Corner, top, left, right, Corner-discrete, nextCorner, corners}
 use Rattle.numbering.proofs.Agreement.{is-itself}
 use Rattle.numbering.proofs.Turns.{found-begun, turn-nothing, turn-met, turn-new}
-use Rattle.numbering.proofs.Deciding.{Decided}
-
-pub data Corner : Type 0 where
-  top left right : Corner
-  deriving Discrete as Corner-discrete
-
-pub next : Corner → ℕ → Option Corner
-next top zero = some right
-next top (suc c) = some left
-next left zero = some top
-next left (suc c) = some right
-next right zero = some right
-next right (suc c) = none
-
-abbrev pub corners : Automaton Corner
-corners =
-    record {
-      Same = λ x y. x ≡ y;
-      Start = λ x. x ≡ top;
-      Moves = λ x c y. next x c ≡ some y;
-      columns = 2;
-    }
 
 pub corners-lawful : Lawful corners
 corners-lawful =
@@ -46,11 +25,11 @@ pub corners-decided : Decided corners
 corners-decided =
     record {
       starts = yes (top, refl);
-      moves = λ x c. go x c (next x c) refl;
+      moves = λ x c. go x c (nextCorner x c) refl;
       same = Corner-discrete;
     }
   where
-    go : (x : Corner) (c : ℕ) (o : Option Corner) → next x c ≡ o → Dec ((y : Corner) × (next x c ≡ some y))
+    go : (x : Corner) (c : ℕ) (o : Option Corner) → nextCorner x c ≡ o → Dec ((y : Corner) × (nextCorner x c ≡ some y))
     go x c none e = no (λ (y, d). Option·none-ne-some y (sym e ∙ d))
     go x c (some y) e = yes (y, e)
 
@@ -64,26 +43,26 @@ left-new (suc zero) is = let bad : _≡_ {A = ℕ} 0 1 = cc in omega arith
 left-new (suc (suc j)) is = let bad : _≡_ {A = ℕ} 0 1 = cc in omega arith
 
 right-ends : (y : Corner) → ¬ Follows corners (top ∷ right ∷ left ∷ []) 3 y
-unfolding next
+unfolding nextCorner
 right-ends y follows = let bad : _≡_ {A = ℕ} 0 1 = cc in omega arith
 
 from : {states : List Corner} {t : ℕ} {y : Corner} (x : Corner) → getElem? states (t / 2) ≡ some x
-    → next x (t % 2) ≡ some y
+    → nextCorner x (t % 2) ≡ some y
     → Follows corners states t y
 from x row moves = record { state = x; row = row; moves = moves }
 
 -- the row of `top`: two new states
 cell-0 : Found corners (top ∷ right ∷ []) (some 1 ∷ [])
-unfolding next
+unfolding nextCorner
 cell-0 = turn-new (found-begun corners-lawful top refl) (omega arith) corners-lawful right (from top refl refl) right-new
 
 cell-1 : Found corners (top ∷ right ∷ left ∷ []) (some 1 ∷ some 2 ∷ [])
-unfolding next
+unfolding nextCorner
 cell-1 = turn-new cell-0 (omega arith) corners-lawful left (from top refl refl) left-new
 
 -- the row of `right`: a state met before, then nothing
 cell-2 : Found corners (top ∷ right ∷ left ∷ []) (some 1 ∷ some 2 ∷ some 1 ∷ [])
-unfolding next
+unfolding nextCorner
 cell-2 = turn-met cell-1 (omega arith) 1 right (from right refl refl) (is-itself corners-lawful refl)
 
 cell-3 : Found corners (top ∷ right ∷ left ∷ []) (some 1 ∷ some 2 ∷ some 1 ∷ none ∷ [])
@@ -91,12 +70,12 @@ cell-3 = turn-nothing cell-2 (omega arith) right-ends
 
 -- the row of `left`: two states met before
 cell-4 : Found corners (top ∷ right ∷ left ∷ []) (some 1 ∷ some 2 ∷ some 1 ∷ none ∷ some 0 ∷ [])
-unfolding next
+unfolding nextCorner
 cell-4 = turn-met cell-3 (omega arith) 0 top (from left refl refl) (is-itself corners-lawful refl)
 
 -- that is all
 pub corners-found : FoundAll corners (top ∷ right ∷ left ∷ []) (some 1 ∷ some 2 ∷ some 1 ∷ none ∷ some 0 ∷ some 1 ∷ [])
-unfolding next
+unfolding nextCorner
 corners-found =
     record {
       found = turn-met cell-4 (omega arith) 1 right (from left refl refl) (is-itself corners-lawful refl);

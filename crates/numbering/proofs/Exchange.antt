@@ -1,21 +1,13 @@
 -- What is found in one automaton is found in every other that is like it.
 use mathlib.Core.Path.{_≡_, sym}
-use mathlib.Core.Logic.{_↔_}
 use mathlib.Core.List.{List}
 use mathlib.Core.Option.{Option, some}
 use Prim.Native.Nat.{ℕ, _%_, _<_}
 use native.Mathlib.Nat.{mod-lt}
 use native.Mathlib.Omega.{arith}
 use lib.ListN.{length, getElem?}
-use Rattle.numbering.specs.Numbering.{Automaton, IsState, Follows, Found, FoundAll, TooMany}
+use Rattle.numbering.specs.Numbering.{Automaton, IsState, Follows, Found, FoundAll, TooMany, Alike}
 use Rattle.numbering.proofs.Places.{inside, some-column}
-
--- two that have the same columns, starts and moves
-pub record Alike {A : Type 0} (m m′ : Automaton A) : Type 0 where
-  pub columns : m .columns ≡ m′ .columns
-  pub same : (x y : A) → m .Same x y ↔ m′ .Same x y
-  pub starts : (x : A) → m .Start x ↔ m′ .Start x
-  pub moves : (x : A) (c : ℕ) (y : A) → c < m .columns → m .Moves x c y ↔ m′ .Moves x c y
 
 module _ {A : Type 0} {m m′ : Automaton A} where
   pub alike-back : Alike m m′ → Alike m′ m

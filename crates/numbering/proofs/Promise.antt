@@ -7,9 +7,9 @@ pub use Rattle.numbering.proofs.Agreement.{is-itself, is-same}
 pub use Rattle.numbering.proofs.Rows.{moves-cell, cell-named}
 -- what is found is what is reached, and there is one way of numbering it
 pub use Rattle.numbering.proofs.Theorems.{found-reaches, found-unique, states-unique, too-many-excludes-whole}
-pub use Rattle.numbering.proofs.Theorems.{too-many-iff}
+pub use Rattle.numbering.proofs.Theorems.{too-many-iff, search-ends}
 -- the search, cell by cell, and what each cell says of its row's state
 pub use Rattle.numbering.proofs.Theorems.{found-nothing, found-begun, follows-at, turn-nothing, turn-met}
 pub use Rattle.numbering.proofs.Theorems.{turn-new, cell-none}
 -- what is found in one automaton is found in each that is like it
-pub use Rattle.numbering.proofs.Theorems.{Alike, alike-back, found-all-alike, too-many-alike}
+pub use Rattle.numbering.proofs.Theorems.{alike-back, found-all-alike, too-many-alike}

@@ -1,35 +1,119 @@
 -- What numbering promises, one page: each theorem under the sentence that it proves.
 use mathlib.Core.Path.{_≡_, sym, ap, _∙_}
 use mathlib.Core.Logic.{_↔_}
-use mathlib.Core.List.{List}
-use mathlib.Core.Option.{Option, some}
-use Prim.Native.Nat.{ℕ, _≤_, _<_}
+use mathlib.Core.List.{List, [], _∷_, _++_}
+use mathlib.Core.Option.{Option, some, none}
+use Prim.Native.Nat.{ℕ, _+_, _*_, _≤_, _<_}
 use native.Mathlib.Omega.{arith}
 use lib.ListN.{length, getElem?}
 use lib.Seq.{take-all}
-use Rattle.numbering.specs.Numbering.{Automaton, Lawful, IsState, Found, FoundAll, TooMany, Ending, Begins}
-use Rattle.numbering.specs.Numbering.{Reached, ManyReached}
+use Rattle.numbering.specs.Numbering.{Automaton, Names, Lawful, Decided, IsState, Follows, Found, FoundAll}
+use Rattle.numbering.specs.Example.{top, left, right, corners}
+use Rattle.numbering.specs.Numbering.{TooMany, Ending, Begins, Reached, ManyReached, Alike}
 use Rattle.numbering.proofs.Places.{begins-take}
 use Rattle.numbering.proofs.Agreement.{is-itself, is-same}
 use Rattle.numbering.proofs.Beginning.{shorter-begins, begins-length, no-longer}
 use Rattle.numbering.proofs.Reaching.{reached-state, state-reached}
 use Rattle.numbering.proofs.Counting.{many-whole, too-many-whole, reached-too-many}
--- with no start there is nothing to find; else the start alone is found before the first cell
-pub use Rattle.numbering.proofs.Turns.{found-nothing, found-begun}
--- what follows in a cell is where the state of its row leads by its column
-pub use Rattle.numbering.proofs.Turns.{follows-at}
--- one cell more: nothing follows, a state met before, or a new state
-pub use Rattle.numbering.proofs.Turns.{turn-nothing, turn-met, turn-new}
--- where it can be decided what follows and what is the same, the search ends for every limit
-pub use Rattle.numbering.proofs.Deciding.{Decided, search-ends}
--- where too many are found, too many can be reached: for this nothing has to be decided
-pub use Rattle.numbering.proofs.Counting.{too-many-reached}
--- with all cells, each names the state to which its row's state leads, and is none exactly if that leads nowhere
-pub use Rattle.numbering.proofs.Rows.{cell-named, cell-none}
--- what is found in one automaton is found in each that is like it
-pub use Rattle.numbering.proofs.Exchange.{Alike, alike-back, found-alike, found-all-alike, too-many-alike}
--- an automaton of three states and two columns, all of them found
-pub use Rattle.numbering.proofs.Example.{corners-lawful, corners-decided, corners-found, corners-too-many}
+use Rattle.numbering.proofs.Turns as turns
+use Rattle.numbering.proofs.Deciding as deciding
+use Rattle.numbering.proofs.Counting as counting
+use Rattle.numbering.proofs.Rows as rows
+use Rattle.numbering.proofs.Exchange as exchange
+use Rattle.numbering.proofs.Example as example
+
+module _ {A : Type 0} {m : Automaton A} where
+  -- with no start there is nothing to find
+  pub found-nothing : ((x : A) → ¬ m .Start x) → FoundAll m [] []
+  found-nothing = turns.found-nothing
+
+  -- else the start alone is found before the first cell
+  pub found-begun : Lawful m → (x : A) → m .Start x → Found m (x ∷ []) []
+  found-begun = turns.found-begun
+
+  -- what follows in the cell of row r and column c is where the state of that row leads by that column
+  pub follows-at : (states : List A) (t r c : ℕ) (x y : A)
+      → t ≡ r * m .columns + c
+      → c < m .columns
+      → getElem? states r ≡ some x
+      → Follows m states t y ↔ m .Moves x c y
+  follows-at = turns.follows-at
+
+  -- where it can be decided what follows and what is the same, the search ends for every limit
+  pub search-ends : Lawful m → Decided m → (limit : ℕ) → Ending m limit
+  search-ends = deciding.search-ends
+
+module _ {A : Type 0} {m : Automaton A} {states : List A} {cells : List (Option ℕ)}
+    (f : Found m states cells)
+    (room : length cells < m .columns * length states) where
+  -- one cell more, where nothing follows
+  pub turn-nothing : ((y : A) → ¬ Follows m states (length cells) y) → Found m states (cells ++ (none ∷ []))
+  turn-nothing = turns.turn-nothing f room
+
+  -- where a state follows that was met before
+  pub turn-met : (j : ℕ) (y : A)
+      → Follows m states (length cells) y
+      → IsState m states j y
+      → Found m states (cells ++ (some j ∷ []))
+  turn-met = turns.turn-met f room
+
+  -- where a new state follows
+  pub turn-new : Lawful m
+      → (y : A)
+      → Follows m states (length cells) y
+      → ((j : ℕ) → ¬ IsState m states j y)
+      → Found m (states ++ (y ∷ [])) (cells ++ (some (length states) ∷ []))
+  turn-new = turns.turn-new f room
+
+module _ {A : Type 0} {m : Automaton A} (law : Lawful m) {states : List A} {cells : List (Option ℕ)} where
+  -- with all cells, each names the state to which its row's state leads
+  pub cell-named : FoundAll m states cells
+      → (r c j : ℕ) (x : A)
+      → c < m .columns
+      → IsState m states r x
+      → Names cells (r * m .columns + c) j ↔ ((y : A) × m .Moves x c y × IsState m states j y)
+  cell-named = rows.cell-named law
+
+  -- and is none exactly if that leads nowhere
+  pub cell-none : FoundAll m states cells
+      → (r c : ℕ) (x : A)
+      → c < m .columns
+      → IsState m states r x
+      → (getElem? cells (r * m .columns + c) ≡ some none) ↔ ((y : A) → ¬ m .Moves x c y)
+  cell-none = rows.cell-none law
+
+module _ {A : Type 0} {m m′ : Automaton A} where
+  -- what is found in one automaton is found in each that is like it
+  pub alike-back : Alike m m′ → Alike m′ m
+  alike-back = exchange.alike-back
+
+  pub found-alike : Alike m m′
+      → {states : List A} {cells : List (Option ℕ)}
+      → Found m states cells
+      → Found m′ states cells
+  found-alike a = exchange.found-alike a
+
+  pub found-all-alike : Alike m m′
+      → {states : List A} {cells : List (Option ℕ)}
+      → FoundAll m states cells
+      → FoundAll m′ states cells
+  found-all-alike a = exchange.found-all-alike a
+
+  pub too-many-alike : Alike m m′ → {limit : ℕ} → TooMany m limit → TooMany m′ limit
+  too-many-alike a = exchange.too-many-alike a
+
+-- an automaton of three states and two columns: all of them are found, and they are more than two
+pub corners-lawful : Lawful corners
+corners-lawful = example.corners-lawful
+
+pub corners-decided : Decided corners
+corners-decided = example.corners-decided
+
+pub corners-found : FoundAll corners (top ∷ right ∷ left ∷ []) (some 1 ∷ some 2 ∷ some 1 ∷ none ∷ some 0 ∷ some 1 ∷ [])
+corners-found = example.corners-found
+
+pub corners-too-many : TooMany corners 2
+corners-too-many = example.corners-too-many
 
 module _ {A : Type 0} {m : Automaton A} (law : Lawful m)
     {states states′ : List A} {cells cells′ : List (Option ℕ)} where
@@ -95,13 +179,17 @@ module _ {A : Type 0} {m : Automaton A} (law : Lawful m)
   -- and too many can be reached exactly if it has
   pub many-reached-found : (limit : ℕ) → ManyReached m limit ↔ (limit < length states)
   many-reached-found limit =
-      (λ many. many-whole law many f, λ more. too-many-reached law (too-many-found limit .1 more))
+      (λ many. many-whole law many f, λ more. counting.too-many-reached law (too-many-found limit .1 more))
 
   -- so too many and a whole within the limit exclude each other
   pub too-many-excludes-whole : (limit : ℕ) → TooMany m limit → length states ≤ limit → ⊥
   too-many-excludes-whole limit many few = omega (arith, too-many-whole law many f)
 
 module _ {A : Type 0} {m : Automaton A} (law : Lawful m) {limit : ℕ} where
+  -- where too many are found, too many can be reached: for this nothing has to be decided
+  pub too-many-reached : TooMany m limit → ManyReached m limit
+  too-many-reached = counting.too-many-reached law
+
   -- where the search ends, too many are found exactly if too many can be reached
   pub too-many-iff : Ending m limit → TooMany m limit ↔ ManyReached m limit
-  too-many-iff ends = (too-many-reached law, reached-too-many law ends)
+  too-many-iff ends = (counting.too-many-reached law, reached-too-many law ends)

@@ -1,5 +1,6 @@
 -- States numbered as they are found: document 02, W3 ("numbered as found") and W12. Definitions only.
 use mathlib.Core.Path.{_≡_}
+use mathlib.Core.Logic.{_↔_}
 use mathlib.Core.List.{List, [], _∷_}
 use mathlib.Core.Option.{Option, some, none}
 use Prim.Native.Nat.{ℕ, _*_, _/_, _%_, _≤_, _<_}
@@ -25,6 +26,12 @@ module _ {A : Type 0} (m : Automaton A) where
     pub one-start : (x y : A) → m .Start x → m .Start y → m .Same x y
     pub one-move : (c : ℕ) (x x′ y y′ : A) → m .Same x x′ → m .Moves x c y → m .Moves x′ c y′ → m .Same y y′
     pub both-move : (c : ℕ) (x x′ y : A) → m .Same x x′ → m .Moves x c y → (y′ : A) × m .Moves x′ c y′
+
+  -- it can be decided whether there is a start, what follows, and whether two states are the same
+  pub record Decided : Type 0 where
+    pub starts : Dec ((x : A) × m .Start x)
+    pub moves : (x : A) (c : ℕ) → Dec ((y : A) × m .Moves x c y)
+    pub same : (x y : A) → Dec (m .Same x y)
 
   -- y is state j, up to being the same
   pub record IsState (states : List A) (j : ℕ) (y : A) : Type 0 where
@@ -96,3 +103,10 @@ module _ {A : Type 0} (m : Automaton A) where
     pub more : limit < length states
     pub reached : (i : ℕ) (x : A) → getElem? states i ≡ some x → Reached x
     pub distinct : Distinct states
+
+-- two that have the same columns, starts and moves
+pub record Alike {A : Type 0} (m m′ : Automaton A) : Type 0 where
+  pub columns : m .columns ≡ m′ .columns
+  pub same : (x y : A) → m .Same x y ↔ m′ .Same x y
+  pub starts : (x : A) → m .Start x ↔ m′ .Start x
+  pub moves : (x : A) (c : ℕ) (y : A) → c < m .columns → m .Moves x c y ↔ m′ .Moves x c y

@@ -21,6 +21,7 @@ use Rattle.patterns.specs.Calls.{ReadOutcome, no-room, refused as tables
 use Rattle.patterns.specs.Promised.{TextOf, OverLimit, over-patterns, over-positions, ReadServed, ReadRefused}
 use Rattle.patterns.proofs.Texts.{meanings-length, text-length, text-below}
 pub use Rattle.patterns.proofs.Unique.{meanings-unique, refuses-unique, refused-not-accepted}
+pub use Rattle.patterns.proofs.Judging.{judgedOf, judged-of}
 pub use Rattle.patterns.proofs.Worked.{examples-judged, house-accepted}
 pub use Rattle.patterns.proofs.Unique.{judge-patterns-unique, tables-unique, read-outcome-unique}
 
@@ -79,7 +80,7 @@ module _ {patterns lengths : List ℕ} where
   unfolding refusal
   refuses-limit (many-patterns past) e = over-patterns past
   refuses-limit (bad-pattern few bad) e = absurd (omega arith)
-  refuses-limit (many-positions few means good past) e = over-positions means good past
+  refuses-limit (many-positions few means good past) e = over-positions few means good past
 
   -- a refusal's place lies within the bytes lent or is a limit, and its detail is the number of a pattern or 0
   pub refuses-bounded : {a : Answer}

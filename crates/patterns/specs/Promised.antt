@@ -3,7 +3,7 @@
 use mathlib.Core.Path.{_≡_}
 use mathlib.Core.List.{List}
 use mathlib.Core.Option.{some}
-use Prim.Native.Nat.{ℕ, _<_}
+use Prim.Native.Nat.{ℕ, _≤_, _<_}
 use lib.ListN.{length, getElem?}
 use Rattle.answers.specs.declared.Answer.{Answer}
 use Rattle.answers.specs.Buffers.{cleared}
@@ -24,6 +24,7 @@ module _ (patterns lengths : List ℕ) where
   pub data OverLimit : ℕ → Type 0 where
     over-patterns : mostPatterns < length lengths → OverLimit mostPatterns
     over-positions : {rs : List Expression}
+        → length lengths ≤ mostPatterns
         → Meanings (patternsOf patterns lengths) rs
         → AllGood (patternsOf patterns lengths)
         → mostPositions < positions rs

@@ -15,7 +15,7 @@ use Rattle.pieces.specs.declared.Ending.the-variants.{Whole, NoToken, No
 use Rattle.pieces.specs.Cut.{space, Piece, piece, numbersOf, endsOf, answerOf}
 use Rattle.pieces.specs.Cut.{TokenAt, NoTokenAt, Cut, end-of-line, space-dropped, token-cut, no-token, no-room}
 use Rattle.pieces.specs.Calls.{CutWithOutcome}
-use Rattle.pieces.specs.Meanings.{Decided}
+use Rattle.pieces.specs.Meanings.{TokenKnown}
 use Rattle.pieces.specs.Rows.{rowsIn, cellAt, Walk, here, on, Says}
 use Rattle.pieces.proofs.Best.{NoneBeyond, none-at-end, token-kept, none-kept, token-whole}
 use Rattle.pieces.proofs.Walks.{walk-start, says-token}
@@ -34,14 +34,14 @@ module _ (M : ℕ → List ℕ → Type 0) where
         let rest = shorter room (place + n) (drop n (b ∷ w)) fits in
         (piece k place (take n (b ∷ w)) ∷ rest .0, rest .1, token-cut no-space t (rest .2))
 
-    cut-byte : (room place : ℕ) → Decided M (b ∷ w) → Dec (b ≡ space) → IsCut room place (b ∷ w)
+    cut-byte : (room place : ℕ) → TokenKnown M (b ∷ w) → Dec (b ≡ space) → IsCut room place (b ∷ w)
     cut-byte room place decided (yes is-space) =
         let rest = shorter room (suc place) w (omega arith) in
         (rest .0, rest .1, subst (λ (c : ℕ). Cut M room place (c ∷ w) (rest .0) (rest .1)) (sym is-space) (space-dropped (rest .2)))
     cut-byte room place (inl t) (no no-space) = cut-token room place no-space (t .2)
     cut-byte room place (inr none) (no no-space) = ([], NoToken place, no-token no-space none)
 
-  module _ (decided : (w : List ℕ) → Decided M w) where
+  module _ (decided : (w : List ℕ) → TokenKnown M w) where
     -- where shorter lines are cut, so is this one
     cut-line : (w : List ℕ)
         → ((room place : ℕ) (v : List ℕ) → length v < length w → IsCut room place v)
@@ -62,12 +62,12 @@ module _ (M : ℕ → List ℕ → Type 0) where
 
 module _ {M : ℕ → List ℕ → Type 0} (decide : (k : ℕ) (u : List ℕ) → Dec (M k u)) where
   -- the lowest pattern that matches u, or none below the bound
-  Lowest : ℕ → List ℕ → Type 0
-  Lowest bound u =
+  LowestBelow : ℕ → List ℕ → Type 0
+  LowestBelow bound u =
       ((k : ℕ) × M k u × ((j : ℕ) → j < k → M j u → ⊥)) ⊎ ((j : ℕ) → j < bound → M j u → ⊥)
 
-  lowest-next : (bound : ℕ) (u : List ℕ) → Lowest bound u → Dec (M bound u) → Lowest (suc bound) u
-  unfolding Lowest
+  lowest-next : (bound : ℕ) (u : List ℕ) → LowestBelow bound u → Dec (M bound u) → LowestBelow (suc bound) u
+  unfolding LowestBelow
   lowest-next bound u (inl found) this = inl found
   lowest-next bound u (inr none) (yes matches) = inl (bound, matches, none)
   lowest-next bound u (inr none) (no other) = inr (λ j below matches. go j below matches (decLt j bound))
@@ -76,15 +76,15 @@ module _ {M : ℕ → List ℕ → Type 0} (decide : (k : ℕ) (u : List ℕ) �
       go j below matches (yes less) = none j less matches
       go j below matches (no last) = let e : j ≡ bound = omega arith in other (subst (λ (i : ℕ). M i u) e matches)
 
-  lowest : (bound : ℕ) (u : List ℕ) → Lowest bound u
-  unfolding Lowest
+  lowest : (bound : ℕ) (u : List ℕ) → LowestBelow bound u
+  unfolding LowestBelow
   lowest zero u = inr (λ j below matches. omega arith)
   lowest (suc bound) u = lowest-next bound u (lowest bound u) (decide bound u)
 
   module _ (bound : ℕ) (bounded : (k : ℕ) (u : List ℕ) → M k u → k < bound) where
     -- one byte more
-    decided-next : (u : List ℕ) (b : ℕ) → Decided M u → Lowest bound (u ++ (b ∷ [])) → Decided M (u ++ (b ∷ []))
-    unfolding Lowest
+    decided-next : (u : List ℕ) (b : ℕ) → TokenKnown M u → LowestBelow bound (u ++ (b ∷ [])) → TokenKnown M (u ++ (b ∷ []))
+    unfolding LowestBelow
     decided-next u b before (inl found) =
         let w = u ++ (b ∷ []) in
         inl (found .0, length w, token-whole w (simp length-append (omega arith)) (found .1) (found .2))
@@ -97,18 +97,18 @@ module _ {M : ℕ → List ℕ → Type 0} (decide : (k : ℕ) (u : List ℕ) �
             let matched : M j w = subst (λ (v : List ℕ). M j v) whole matches in
             none j (bounded j w matched) matched
 
-        keep : Decided M u → Decided M (u ++ (b ∷ []))
+        keep : TokenKnown M u → TokenKnown M (u ++ (b ∷ []))
         keep (inl t) = inl (t .0, t .1, token-kept u (b ∷ []) (t .2) beyond)
         keep (inr t) = inr (none-kept u (b ∷ []) t beyond)
 
-    decided-prefix : (w : List ℕ) (j : ℕ) → j ≤ length w → Decided M (take j w)
+    decided-prefix : (w : List ℕ) (j : ℕ) → j ≤ length w → TokenKnown M (take j w)
     decided-prefix w zero fits = inr none-at-end
     decided-prefix w (suc j) fits =
         let b = getD w j 0 in
         rw (take-suc w j 0 fits) (decided-next (take j w) b (decided-prefix w j (omega arith)) (lowest bound (take j w ++ (b ∷ []))))
 
     -- a meaning that is decidable, of a bounded number of patterns, tells the token of every string
-    pub meaning-decided : (w : List ℕ) → Decided M w
+    pub meaning-decided : (w : List ℕ) → TokenKnown M w
     meaning-decided w = rw take-length at (decided-prefix w (length w) (omega arith))
 
 module _ (cells : List ℕ) where
@@ -149,7 +149,7 @@ module _ (cells : List ℕ) where
       go (inl walk) = said (walk .1) (ℕ-discrete k (cellAt cells (walk .0) byteValues)) (decLt k mostPatterns)
       go (inr none) = no (λ says. none (says .row) (says .walk))
 
-  pub says-decided : (w : List ℕ) → Decided (Says cells) w
+  pub says-decided : (w : List ℕ) → TokenKnown (Says cells) w
   says-decided = meaning-decided says-decidable mostPatterns (λ k u says. says .counts)
 
 -- a cut with given cells has an outcome, whatever the cells, the line and the buffers

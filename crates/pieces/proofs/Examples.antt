@@ -14,19 +14,13 @@ use Rattle.pieces.specs.declared.Ending.the-variants.{Whole, NoToken, No
 use Rattle.pieces.specs.Cut.{space, piece, numbersOf, endsOf, answerOf}
 use Rattle.pieces.specs.Cut.{TokenAt, NoTokenAt, Cut, end-of-line, space-dropped, token-cut, no-token, no-room}
 use Rattle.pieces.specs.Calls.{CutWithOutcome}
+use Rattle.pieces.specs.Examples.{line, oneRow}
 use Rattle.pieces.specs.Rows.{rowsIn, cellAt, Walk, here, on, Says}
 use Rattle.pieces.proofs.Walks.{walk-start, walk-end, walk-next}
 
--- " ab c", and what is left of it behind the space
-abbrev pub line : List ℕ
-line = 32 ∷ 97 ∷ 98 ∷ 32 ∷ 99 ∷ []
-
+-- what is left of " ab c" behind the space
 abbrev left : List ℕ
 left = 97 ∷ 98 ∷ 32 ∷ 99 ∷ []
-
--- one row: every byte leads to this next row, and the token
-abbrev pub oneRow : (next token : ℕ) → List ℕ
-oneRow next token = replicate 256 next ++ (token ∷ [])
 
 -- by a byte the row leads to itself
 round : {k b : ℕ} {u : List ℕ} → b < byteValues → Walk (oneRow 0 k) 0 u 0 → Walk (oneRow 0 k) 0 (b ∷ u) 0
@@ -62,11 +56,11 @@ one-row-cut k counts =
     }
 
 -- a token below 62 is cut
-pub token-below-62 : (k : ℕ)
+pub token-below-limit : (k : ℕ)
     → k < mostPatterns
     → CutWithOutcome (oneRow 0 k) line (9 ∷ 9 ∷ []) (7 ∷ 7 ∷ []) (done 1) (k ∷ 9 ∷ []) (5 ∷ 7 ∷ [])
 unfolding answerOf numbersOf endsOf
-token-below-62 k counts =
+token-below-limit k counts =
     record {
       pieces = piece k 1 left ∷ [];
       ending = Whole;
@@ -107,10 +101,10 @@ refused-there none =
     }
 
 -- a token from 62 on counts as none
-pub token-from-62 : (k : ℕ)
+pub token-past-limit : (k : ℕ)
     → mostPatterns ≤ k
     → CutWithOutcome (oneRow 0 k) line (9 ∷ []) (7 ∷ []) (stop noToken 1 0 0 noSet) (9 ∷ []) (7 ∷ [])
-token-from-62 k past =
+token-past-limit k past =
     refused-there (record { none = λ j n some-byte within says. omega (arith, one-row-token says, says .counts) })
 
 -- so does a next state that names no row

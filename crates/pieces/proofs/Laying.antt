@@ -9,7 +9,7 @@ use lib.Seq.{length-take-le}
 use Rattle.pieces.specs.declared.Ending.{Ending}
 use Rattle.pieces.specs.declared.Ending.the-variants.{Whole}
 use Rattle.pieces.specs.Cut.{space, Piece, piece, behind, TokenAt, Cut, end-of-line, space-dropped, token-cut, no-token, no-room}
-use Rattle.pieces.specs.Laid.{Laid, last-spaces, next-piece, Ends, nothing-left, no-token-there, no-room-left, Stopped}
+use Rattle.pieces.specs.Laid.{Laid, last-spaces, next-piece, Ends, nothing-left, no-token-there, no-room-left, CutStopped}
 
 -- one space more in front
 laid-space : {place : ℕ} {pieces : List Piece} {w : List ℕ} → Laid (suc place) pieces w → Laid place pieces (space ∷ w)
@@ -34,7 +34,7 @@ ends-at {M} {room′ = room′} {q} {w = w} {ending} ends same-room same-place =
 
 module _ {M : ℕ → List ℕ → Type 0} where
   -- a cut that ends at once
-  stopped-here : {room place : ℕ} {w : List ℕ} {ending : Ending} → Ends M room w place ending → Stopped M room place w [] ending
+  stopped-here : {room place : ℕ} {w : List ℕ} {ending : Ending} → Ends M room w place ending → CutStopped M room place w [] ending
   stopped-here {room} {place} {w} ends =
       record {
         before = [];
@@ -48,7 +48,7 @@ module _ {M : ℕ → List ℕ → Type 0} where
   -- what is cut is laid out, and where the cut ends is told
   pub cut-stops : {room place : ℕ} {w : List ℕ} {pieces : List Piece} {ending : Ending}
       → Cut M room place w pieces ending
-      → Stopped M room place w pieces ending
+      → CutStopped M room place w pieces ending
   cut-stops end-of-line = stopped-here nothing-left
   cut-stops (no-token no-space none) = stopped-here (no-token-there no-space none)
   cut-stops (no-room no-space t) = stopped-here (no-room-left no-space t)

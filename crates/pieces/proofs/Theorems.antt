@@ -15,14 +15,14 @@ use Rattle.pieces.specs.declared.Ending.{Ending}
 use Rattle.pieces.specs.declared.Ending.the-variants.{Whole, NoRoom}
 use Rattle.pieces.specs.Cut.{Piece, endsOf, TokenAt, NoTokenAt, Cut}
 use Rattle.pieces.specs.Calls.{CutWithOutcome}
-use Rattle.pieces.specs.Laid.{Laid, Stopped, StandsIn, endBefore}
-use Rattle.pieces.specs.Meanings.{Agree, Picks, Only, OfParts, Decided}
+use Rattle.pieces.specs.Examples.{line, oneRow}
+use Rattle.pieces.specs.Laid.{Laid, CutStopped, StandsIn, endBefore}
+use Rattle.pieces.specs.Meanings.{Agree, Picks, Only, OfParts, TokenKnown}
 use Rattle.pieces.specs.Rows.{Says, Closed}
 use Rattle.pieces.proofs.Beginning as beginning
 use Rattle.pieces.proofs.Deciding as deciding
 use Rattle.pieces.proofs.Exact as exact
 use Rattle.pieces.proofs.Examples as examples
-use Rattle.pieces.proofs.Examples.{line, oneRow}
 use Rattle.pieces.proofs.Laying as laying
 use Rattle.pieces.proofs.Parts as parts
 use Rattle.pieces.proofs.Matching as matching
@@ -55,7 +55,7 @@ module _ {M : ℕ → List ℕ → Type 0} where
   -- in every case the pieces and spaces stand in front of the place where the cut ends, and there it is told why
   pub cut-stops : {room place : ℕ} {w : List ℕ} {pieces : List Piece} {ending : Ending}
       → Cut M room place w pieces ending
-      → Stopped M room place w pieces ending
+      → CutStopped M room place w pieces ending
   cut-stops cut = laying.cut-stops cut
 
   -- each piece is matched by its pattern
@@ -81,7 +81,7 @@ module _ {M : ℕ → List ℕ → Type 0} where
   cut-ends cut i p at = standing.cut-ends cut i p at
 
   -- where each string is known to begin with a token or with none, every line has a cut
-  pub cut-exists : ((w : List ℕ) → Decided M w)
+  pub cut-exists : ((w : List ℕ) → TokenKnown M w)
       → (room place : ℕ) (w : List ℕ)
       → (pieces : List Piece) × (ending : Ending) × Cut M room place w pieces ending
   cut-exists decided room place w = deciding.cut-exists M decided room place w
@@ -91,7 +91,7 @@ module _ {M : ℕ → List ℕ → Type 0} where
       → (bound : ℕ)
       → ((k : ℕ) (u : List ℕ) → M k u → k < bound)
       → (w : List ℕ)
-      → Decided M w
+      → TokenKnown M w
   meaning-decided decide bound bounded w = deciding.meaning-decided decide bound bounded w
 
 module _ {M N : ℕ → List ℕ → Type 0} where
@@ -156,20 +156,20 @@ cut-with-unique one other = unique.cut-with-unique one other
 
 -- " ab c" by one row that leads to itself, with token k: below 62 it is the token of "ab c"; with no token cell the
 -- line is refused where that starts; from 62 on it counts as none
-pub token-below-62 : (k : ℕ)
+pub token-below-limit : (k : ℕ)
     → k < mostPatterns
     → CutWithOutcome (oneRow 0 k) line (9 ∷ 9 ∷ []) (7 ∷ 7 ∷ []) (done 1) (k ∷ 9 ∷ []) (5 ∷ 7 ∷ [])
-token-below-62 k counts = examples.token-below-62 k counts
+token-below-limit k counts = examples.token-below-limit k counts
 
 pub no-cell-for-it : (k : ℕ)
     → k < mostPatterns
     → CutWithOutcome (oneRow 0 k) line [] (7 ∷ []) (stop room 1 tokenRoom 0 noSet) [] (7 ∷ [])
 no-cell-for-it k counts = examples.no-cell-for-it k counts
 
-pub token-from-62 : (k : ℕ)
+pub token-past-limit : (k : ℕ)
     → mostPatterns ≤ k
     → CutWithOutcome (oneRow 0 k) line (9 ∷ []) (7 ∷ []) (stop noToken 1 0 0 noSet) (9 ∷ []) (7 ∷ [])
-token-from-62 k past = examples.token-from-62 k past
+token-past-limit k past = examples.token-past-limit k past
 
 -- by a row whose bytes lead to no row, and by no cells, it has no token
 pub no-such-row : CutWithOutcome (oneRow 1 5) line (9 ∷ []) (7 ∷ []) (stop noToken 1 0 0 noSet) (9 ∷ []) (7 ∷ [])

@@ -24,7 +24,7 @@ pub data Ends (M : ℕ → List ℕ → Type 0) : (room : ℕ) → (w : List ℕ
   no-room-left : {q b k n : ℕ} {w : List ℕ} → b ≢ space → TokenAt M (b ∷ w) k n → Ends M 0 (b ∷ w) q (NoRoom q)
 
 -- what was cut is laid out in front of the place where the cut ends
-pub record Stopped (M : ℕ → List ℕ → Type 0) (room place : ℕ) (w : List ℕ) (pieces : List Piece) (ending : Ending)
+pub record CutStopped (M : ℕ → List ℕ → Type 0) (room place : ℕ) (w : List ℕ) (pieces : List Piece) (ending : Ending)
     : Type 0 where
   pub before : List ℕ
   pub left : List ℕ

@@ -4,3 +4,4 @@ pub mod Meanings
 pub mod Rows
 pub mod Calls
 pub mod Moves
+pub mod Examples

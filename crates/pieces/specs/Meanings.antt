@@ -24,5 +24,5 @@ pub record OfParts (Q : List ℕ → Type 0) (w : List ℕ) : Type 0 where
   pub part : (i n : ℕ) → Q (take n (drop i w))
 
 -- a string begins with a token or with none
-abbrev pub Decided : (M : ℕ → List ℕ → Type 0) → List ℕ → Type 0
-Decided M w = ((k : ℕ) × (n : ℕ) × TokenAt M w k n) ⊎ NoTokenAt M w
+abbrev pub TokenKnown : (M : ℕ → List ℕ → Type 0) → List ℕ → Type 0
+TokenKnown M w = ((k : ℕ) × (n : ℕ) × TokenAt M w k n) ⊎ NoTokenAt M w

@@ -9,11 +9,17 @@ use lib.ListN.{length, getD, set, length-set}
 use lib.Seq.{getD-set-same, getD-set-other}
 use Rattle.sets.specs.Sets.{Exactly}
 use Rattle.sets.specs.Words.{places}
-use Rattle.sets.proofs.Promise.{decides-true}
-use Rattle.points.specs.Points.{Same}
+use Rattle.points.proofs.Promise.{points-alike}
 use Rattle.answers.specs.Limits.{positionWords, pointWords, byteValues}
-use Rattle.moves.specs.Tables.{readersOf, Next}
+use Rattle.moves.specs.Tables.{readersOf, NextPoint}
 use Rattle.states.specs.Searching.{RunEnd, Runs}
+
+-- bytes whose words are the same have the same readers
+pub same-readers : (readers : List ℕ) (b c : ℕ)
+    → ((j : ℕ) → j < positionWords → getD readers (c * positionWords + j) 0 ≡ getD readers (b * positionWords + j) 0)
+    → readersOf readers c ≡ readersOf readers b
+unfolding readersOf
+same-readers readers b c alike = points-alike readers readers (c * positionWords) (b * positionWords) positionWords alike
 
 -- a byte by itself
 pub run-one : (readers : List ℕ) (b : ℕ) → b < byteValues → RunEnd readers b (b + 1)
@@ -26,11 +32,10 @@ run-one readers b inside =
 
 -- a byte with the readers of the next
 pub run-on : {readers : List ℕ} {b e : ℕ} (r : Bool)
-    → Same readers ((b + 1) * positionWords) readers (b * positionWords) positionWords r
+    → (r ≡ true → readersOf readers (b + 1) ≡ readersOf readers b)
     → r ≡ true
     → RunEnd readers (b + 1) e
     → RunEnd readers b e
-unfolding readersOf
 run-on {readers} {b} {e} r answer told run =
     record {
       above = omega (arith, run .above);
@@ -39,7 +44,7 @@ run-on {readers} {b} {e} r answer told run =
     }
   where
     next : readersOf readers (b + 1) ≡ readersOf readers b
-    next = decides-true (readersOf readers (b + 1) ≡ readersOf readers b) r answer told
+    next = answer told
 
     go : (c : ℕ) → b ≤ c → c < e → Dec (b < c) → readersOf readers c ≡ readersOf readers b
     go c low high (yes later) = run .same c (omega arith) high ∙ next
@@ -64,14 +69,14 @@ runs-more {readers} {b} {ends} e inside h run =
 -- by bytes with the same readers the same comes after
 pub next-repeats : (readers follow : List ℕ) (x b b′ : ℕ) → readersOf readers b ≡ readersOf readers b′
     → (q : ℕ)
-    → Next readers follow x b q
-    → Next readers follow x b′ q
+    → NextPoint readers follow x b q
+    → NextPoint readers follow x b′ q
 next-repeats readers follow x b b′ same q n =
     record { position = n .position; there = n .there; reads = rw (← same) (n .reads); leads = n .leads }
 
 pub exactly-repeats : (readers follow : List ℕ) (x b b′ : ℕ) {y : ℕ} → readersOf readers b ≡ readersOf readers b′
-    → Exactly (places pointWords) y (Next readers follow x b)
-    → Exactly (places pointWords) y (Next readers follow x b′)
+    → Exactly (places pointWords) y (NextPoint readers follow x b)
+    → Exactly (places pointWords) y (NextPoint readers follow x b′)
 exactly-repeats readers follow x b b′ same e =
     record {
       fits = e .fits;

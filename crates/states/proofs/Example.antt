@@ -22,8 +22,8 @@ use Rattle.answers.specs.Limits.{positionWords, pointWords, byteValues, rowCell
 use Rattle.answers.specs.Refusals.{room, machineRoom}
 use Rattle.numbering.specs.Numbering.{IsState, Follows, Found, FoundAll}
 use Rattle.numbering.proofs.Promise.{found-nothing, found-begun, follows-at, turn-nothing, turn-met}
-use Rattle.moves.specs.Tables.{readersOf, followOf, firstOf, Next}
-use Rattle.states.specs.Machine.{Started, Moved, tables, noCell, cellOf, rowsOf, tokenOf, lowestEnd}
+use Rattle.moves.specs.Tables.{readersOf, followOf, firstOf, NextPoint}
+use Rattle.states.specs.Machine.{Started, TableMove, tables, noCell, cellOf, rowsOf, tokenOf, lowestEnd}
 use Rattle.states.specs.Making.{madeOf, notMade, no-room, made, MadeOutcome}
 use Rattle.states.proofs.Turning.{tables-lawful}
 
@@ -69,7 +69,7 @@ starts : Started leads only
 starts = record { first = sym first-is; nonempty = not-empty }
 
 -- byte 0 leads back
-loops : Moved reads leads only 0 only
+loops : TableMove reads leads only 0 only
 unfolding member only readersOf pointsAt wordsAt valueOf reads
 loops =
     record {
@@ -91,15 +91,15 @@ unread b above =
     let past : 1 ≤ b * positionWords + j = omega arith in
     List·getD-eq-default (1 ∷ []) 0 past)
 
-stops : (b : ℕ) → 0 < b → (y : ℕ) → ¬ Moved reads leads only b y
+stops : (b : ℕ) → 0 < b → (y : ℕ) → ¬ TableMove reads leads only b y
 stops b above y moved =
     moved .nonempty
     (exactly-unique y 0 (moved .exact)
     (exactly-none (places pointWords) (λ q n. false≢true (sym (member-none (n .position)) ∙ rw (unread b above) at (n .reads)))))
 
 -- a machine of one state, from which byte 0 leads back and no other byte leads anywhere: its cells one by one
-module _ (readers follow : List ℕ) (x : ℕ) (starts : Started follow x) (loops : Moved readers follow x 0 x)
-    (stops : (b : ℕ) → 0 < b → (y : ℕ) → ¬ Moved readers follow x b y) where
+module _ (readers follow : List ℕ) (x : ℕ) (starts : Started follow x) (loops : TableMove readers follow x 0 x)
+    (stops : (b : ℕ) → 0 < b → (y : ℕ) → ¬ TableMove readers follow x b y) where
   met : Found (tables readers follow) (x ∷ []) (some 0 ∷ [])
   met =
       turn-met (found-begun (tables-lawful readers follow) x starts) (omega arith) 0 x

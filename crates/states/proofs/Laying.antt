@@ -12,7 +12,7 @@ use Rattle.answers.specs.Limits.{byteValues, rowCells}
 use Rattle.moves.specs.Tables.{readersOf, setOf}
 use Rattle.states.specs.Machine.{tokenOf}
 use Rattle.states.specs.Searching.{Target, RunEnd}
-use Rattle.states.specs.Filling.{Cell, Spread, Filled}
+use Rattle.states.specs.Filling.{Cell, CellsSpread, Filled}
 use Rattle.states.proofs.Bytes.{exactly-repeats}
 
 module _ {readers follow sets : List ℕ} {n i b r : ℕ} where
@@ -31,7 +31,7 @@ cell-run {readers} {follow} {sets} {n} {i} {b} {c} same cell =
     }
 
 -- the cells of a run, one by one
-pub spread-none : (machine : List ℕ) (from value : ℕ) → Spread machine from from value machine
+pub spread-none : (machine : List ℕ) (from value : ℕ) → CellsSpread machine from from value machine
 spread-none machine from value =
     record {
       long = refl;
@@ -41,8 +41,8 @@ spread-none machine from value =
     }
 
 pub spread-more : {before : List ℕ} {from to value : ℕ} {after : List ℕ} → from ≤ to → to < length before
-    → Spread before from to value after
-    → Spread before from (to + 1) value (set after to value)
+    → CellsSpread before from to value after
+    → CellsSpread before from (to + 1) value (set after to value)
 spread-more {before} {from} {to} {value} {after} low inside s =
     record {
       long = length-set after to value ∙ s .long;
@@ -71,7 +71,7 @@ module _ {readers follow sets : List ℕ} {n : ℕ} {start after : List ℕ} (i 
   pub filled-run : (b e v : ℕ) {later : List ℕ} → RunEnd readers b e
       → Filled readers follow sets n start (i * rowCells + b) after
       → Cell readers follow sets n i b v
-      → Spread after (i * rowCells + b) (i * rowCells + e) v later
+      → CellsSpread after (i * rowCells + b) (i * rowCells + e) v later
       → Filled readers follow sets n start (i * rowCells + e) later
   filled-run b e v {later} run f cell s =
       record {

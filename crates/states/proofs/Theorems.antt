@@ -1,5 +1,6 @@
 -- What states promises, one page: each theorem under the sentence that it proves.
 use mathlib.Core.Path.{_≡_, refl, sym, ap, _∙_}
+use mathlib.Core.Bool.{true, false}
 use mathlib.Core.Logic.{_≢_, _↔_}
 use mathlib.Core.List.{List}
 use mathlib.Core.Option.{Option, some, none}
@@ -7,21 +8,50 @@ use Prim.Native.Nat.{ℕ, _+_, _*_, _≤_, _<_}
 use native.Mathlib.Omega.{arith}
 use lib.ListN.{length, getD, getElem?}
 use Rattle.answers.specs.Answers.{done, refusal}
-use Rattle.answers.specs.Limits.{byteValues, mostStates, rowCells}
+use Rattle.sets.specs.Sets.{member}
+use Rattle.answers.specs.Limits.{mostPositions, byteValues, mostStates, rowCells}
 use Rattle.answers.specs.Refusals.{served, states}
-use Rattle.numbering.specs.Numbering.{Automaton, Lawful, FoundAll, whole, Reached, ManyReached}
+use Rattle.numbering.specs.Numbering.{Automaton, Lawful, FoundAll, whole, Reached, ManyReached, Alike}
 use Rattle.numbering.specs.Numbering as numbering
 use Rattle.numbering.proofs.Promise as found
 use Rattle.states.specs.declared.MachineMade.{MachineMade}
-use Rattle.states.specs.Machine.{Moved, tables, noCell, cellOf, rowsOf}
+use Rattle.states.specs.Machine.{TableMove, tables, noCell, cellOf, lowestEnd, tokenOf, rowsOf}
 use Rattle.states.specs.Making.{madeOf, notMade, Made, too-many, no-room, made, MadeOutcome}
 use Rattle.states.proofs.Rows.{rows-next}
+use Rattle.states.proofs.Rows as rows
+use Rattle.states.proofs.Ends as ends
+use Rattle.states.proofs.Turning as turning
+
 -- the tables' machine has one start and by each byte one next state
-pub use Rattle.states.proofs.Turning.{tables-lawful}
--- where the cells of rows stand
-pub use Rattle.states.proofs.Rows.{rows-length, rows-token}
--- a state's token is the lowest pattern whose end it has, and none if it has none
-pub use Rattle.states.proofs.Ends.{end-lowest, end-none}
+pub tables-lawful : (readers follow : List ℕ) → Lawful (tables readers follow)
+tables-lawful readers follow = turning.tables-lawful readers follow
+
+-- the rows have 257 cells a state, and behind the bytes of a row stands its state's token
+pub rows-length : (sets : List ℕ) (cells : List (Option ℕ))
+    → length cells ≡ byteValues * length sets
+    → length (rowsOf sets cells) ≡ length sets * rowCells
+rows-length = rows.rows-length
+
+pub rows-token : (sets : List ℕ) (cells : List (Option ℕ)) (r x : ℕ)
+    → length cells ≡ byteValues * length sets
+    → getElem? sets r ≡ some x
+    → getD (rowsOf sets cells) (r * rowCells + byteValues) 0 ≡ tokenOf x
+rows-token = rows.rows-token
+
+-- of the n patterns from k on, the lowest whose end a set has is j, if it has that and no lower one
+pub end-lowest : (x k n j : ℕ)
+    → k ≤ j
+    → j < k + n
+    → member (mostPositions + j) x ≡ true
+    → ((i : ℕ) → k ≤ i → i < j → member (mostPositions + i) x ≡ false)
+    → lowestEnd x k n ≡ j
+end-lowest = ends.end-lowest
+
+-- and none if it has none of them
+pub end-none : (x k n : ℕ)
+    → ((i : ℕ) → k ≤ i → i < k + n → member (mostPositions + i) x ≡ false)
+    → lowestEnd x k n ≡ noCell
+end-none = ends.end-none
 
 module _ {m : Automaton ℕ} (law : Lawful m) (equal : (x y : ℕ) → m .Same x y → x ≡ y) where
   -- the rows are determined
@@ -48,7 +78,7 @@ module _ {m : Automaton ℕ} (law : Lawful m) (equal : (x y : ℕ) → m .Same x
       (rw (found.found-unique law f f′ .1), rw (rows-unique f f′))
 
 -- what is made by one start and moves is made by every other that is like them
-pub made-alike : {m m′ : Automaton ℕ} → found.Alike m m′ → {machine : List ℕ} {r : MachineMade} {after : List ℕ}
+pub made-alike : {m m′ : Automaton ℕ} → Alike m m′ → {machine : List ℕ} {r : MachineMade} {after : List ℕ}
     → Made m machine r after
     → Made m′ machine r after
 made-alike alike (too-many h) = too-many (found.too-many-alike alike h)
@@ -65,6 +95,13 @@ refused-unchanged (no-room f few short) refused = (refl, refl)
 refused-unchanged (made f few enough) refused = absurd (refused refl)
 
 module _ {readers follow : List ℕ} where
+  -- so making by two tables leaves one answer and one content of the cells
+  pub made-outcome-unique : {machine : List ℕ} {r r′ : MachineMade} {after after′ : List ℕ}
+      → MadeOutcome readers follow machine r after
+      → MadeOutcome readers follow machine r′ after′
+      → (r ≡ r′) × (after ≡ after′)
+  made-outcome-unique = made-unique (tables-lawful readers follow) (λ x y e. e)
+
   -- the states of the tables' machine are the sets that some string of bytes leads to from what can come first
   pub found-reaches : {sets : List ℕ} {cells : List (Option ℕ)} → FoundAll (tables readers follow) sets cells
       → (x : ℕ)
@@ -89,7 +126,7 @@ module _ {readers follow : List ℕ} where
       → (i b x y : ℕ)
       → b < byteValues
       → getElem? sets i ≡ some x
-      → Moved readers follow x b y
+      → TableMove readers follow x b y
       → getElem? sets (getD (rowsOf sets cells) (i * rowCells + b) 0) ≡ some y
   unfolding cellOf
   row-leads {sets} {cells} f i b x y short at moved =
@@ -103,7 +140,7 @@ module _ {readers follow : List ℕ} where
       → (i b x : ℕ)
       → b < byteValues
       → getElem? sets i ≡ some x
-      → ((y : ℕ) → ¬ Moved readers follow x b y)
+      → ((y : ℕ) → ¬ TableMove readers follow x b y)
       → getD (rowsOf sets cells) (i * rowCells + b) 0 ≡ noCell
   unfolding cellOf
   row-stops {sets} {cells} f i b x short at stops =

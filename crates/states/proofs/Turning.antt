@@ -15,8 +15,8 @@ use Rattle.sets.proofs.Promise.{exactly-unique}
 use Rattle.answers.specs.Limits.{pointWords, byteValues, mostStates}
 use Rattle.numbering.specs.Numbering.{Lawful, IsState, Follows, Found, FoundAll, TooMany}
 use Rattle.numbering.proofs.Promise.{element, inside, found-nothing, found-begun, follows-at, turn-nothing, turn-met, turn-new}
-use Rattle.moves.specs.Tables.{readersOf, firstOf, setOf, Next}
-use Rattle.states.specs.Machine.{Started, Moved, tables, noCell}
+use Rattle.moves.specs.Tables.{readersOf, firstOf, setOf, NextPoint}
+use Rattle.states.specs.Machine.{Started, TableMove, tables, noCell}
 use Rattle.states.specs.Searching.{statesOf, Kept, Numbered, nothing, numbered, Target, RunEnd, Searching, Begun}
 use Rattle.states.proofs.Sets.{states-length, state-at, states-alike}
 use Rattle.states.proofs.Bytes.{exactly-repeats}
@@ -39,7 +39,7 @@ module _ (readers follow : List ℕ) where
       (turns : length cells ≡ i * byteValues + b) where
     -- what follows in a cell of this row is where the row's state leads
     cell-at : (t c y : ℕ) → t ≡ i * byteValues + c → c < byteValues
-        → Follows (tables readers follow) (statesOf sets n) t y ↔ Moved readers follow (setOf sets i) c y
+        → Follows (tables readers follow) (statesOf sets n) t y ↔ TableMove readers follow (setOf sets i) c y
     cell-at t c y e inside =
         follows-at {m = tables readers follow} (statesOf sets n) t i c (setOf sets i) y e inside (state-at sets n i row)
 
@@ -47,14 +47,14 @@ module _ (readers follow : List ℕ) where
     room = omega (arith, states-length sets n)
 
     -- what follows in the next cell is what comes after by this byte
-    module _ (y : ℕ) (exact : Exactly (places pointWords) y (Next readers follow (setOf sets i) b)) where
+    module _ (y : ℕ) (exact : Exactly (places pointWords) y (NextPoint readers follow (setOf sets i) b)) where
       follows : y ≢ 0 → Follows (tables readers follow) (statesOf sets n) (length cells) y
       follows full =
           cell-at (length cells) b y turns short .1 (record { exact = exact; nonempty = full })
 
       only : (z : ℕ) → Follows (tables readers follow) (statesOf sets n) (length cells) z → (z ≡ y) × (z ≢ 0)
       only z f =
-          let moved : Moved readers follow (setOf sets i) b z =
+          let moved : TableMove readers follow (setOf sets i) b z =
           cell-at (length cells) b z turns short .0 f in
           (exactly-unique z y (moved .exact) exact, moved .nonempty)
 
@@ -83,7 +83,7 @@ module _ (readers follow : List ℕ) where
       moved-now : (y : ℕ) → Follows (tables readers follow) (statesOf sets n) (length cells - 1) y
           → Follows (tables readers follow) (statesOf sets n) (length cells) y
       moved-now y f =
-          let moved : Moved readers follow (setOf sets i) (b - 1) y =
+          let moved : TableMove readers follow (setOf sets i) (b - 1) y =
           cell-at (length cells - 1) (b - 1) y earlier (omega arith) .0 f in
           let exact = exactly-repeats readers follow (setOf sets i) (b - 1) b (sym repeats) (moved .exact) in
           cell-at (length cells) b y turns short .1 (record { exact = exact; nonempty = moved .nonempty })
@@ -91,7 +91,7 @@ module _ (readers follow : List ℕ) where
       moved-before : (y : ℕ) → Follows (tables readers follow) (statesOf sets n) (length cells) y
           → Follows (tables readers follow) (statesOf sets n) (length cells - 1) y
       moved-before y f =
-          let moved : Moved readers follow (setOf sets i) b y =
+          let moved : TableMove readers follow (setOf sets i) b y =
           cell-at (length cells) b y turns short .0 f in
           let exact = exactly-repeats readers follow (setOf sets i) b (b - 1) repeats (moved .exact) in
           cell-at (length cells - 1) (b - 1) y earlier (omega arith) .1

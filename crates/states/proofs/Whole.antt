@@ -16,8 +16,8 @@ use Rattle.answers.specs.Limits.{pointWords, byteValues, mostStates, rowCells}
 use Rattle.answers.specs.Refusals.{room, states, machineRoom}
 use Rattle.numbering.specs.Numbering.{IsState, FoundAll}
 use Rattle.numbering.proofs.Promise.{inside, moves-cell, cell-none}
-use Rattle.moves.specs.Tables.{setOf, Next}
-use Rattle.states.specs.Machine.{Moved, tables, noCell, cellOf, tokenOf, rowsOf}
+use Rattle.moves.specs.Tables.{setOf, NextPoint}
+use Rattle.states.specs.Machine.{TableMove, tables, noCell, cellOf, tokenOf, rowsOf}
 use Rattle.states.specs.Searching.{statesOf, Sought, Numbered, nothing, numbered, Searched}
 use Rattle.states.specs.Making.{madeOf, notMade, too-many, no-room, made, MadeOutcome}
 use Rattle.states.specs.Filling.{Cell, Filled}
@@ -40,11 +40,11 @@ module _ (readers follow sets : List ℕ) (n : ℕ) {cells : List (Option ℕ)}
       (lower, Option·some-injective (setOf sets j) (is .state) (sym (state-at sets n j lower) ∙ is .at) ∙ sym (is .same))
 
   module _ (i b : ℕ) (row : i < n) (short : b < byteValues) (y : ℕ)
-      (exact : Exactly (places pointWords) y (Next readers follow (setOf sets i) b)) where
+      (exact : Exactly (places pointWords) y (NextPoint readers follow (setOf sets i) b)) where
     -- what a cell holds is what was found for it
     named : (r : ℕ) → y ≢ 0 → Sought sets n y r → getElem? cells (i * byteValues + b) ≡ some (some r)
     named r full sought =
-        let moved : Moved readers follow (setOf sets i) b y = record { exact = exact; nonempty = full } in
+        let moved : TableMove readers follow (setOf sets i) b y = record { exact = exact; nonempty = full } in
         go (moves-cell (tables-lawful readers follow) all i b (setOf sets i) y short (state i row) moved)
       where
         go : (j : ℕ) × (getElem? cells (i * byteValues + b) ≡ some (some j)) × IsState (tables readers follow) (statesOf sets n) j y

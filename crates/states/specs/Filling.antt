@@ -8,7 +8,7 @@ use lib.ListN.{length, getD}
 use Rattle.sets.specs.Sets.{Exactly}
 use Rattle.sets.specs.Words.{places}
 use Rattle.answers.specs.Limits.{mostPatterns, pointWords, byteValues, rowCells}
-use Rattle.moves.specs.Tables.{setOf, Next}
+use Rattle.moves.specs.Tables.{setOf, NextPoint}
 use Rattle.states.specs.Machine.{noCell, tokenOf}
 use Rattle.states.specs.Searching.{Numbered}
 
@@ -19,11 +19,11 @@ endCell end = cond (ltb end mostPatterns) end noCell
 -- the number of what comes after set number i by byte b
 pub record Cell (readers follow sets : List ℕ) (n i b r : ℕ) : Type 0 where
   pub points : ℕ
-  pub exact : Exactly (places pointWords) points (Next readers follow (setOf sets i) b)
+  pub exact : Exactly (places pointWords) points (NextPoint readers follow (setOf sets i) b)
   pub number : Numbered sets n points r
 
 -- the cells from one place up to another hold a value, and the others stay
-pub record Spread (before : List ℕ) (from to value : ℕ) (after : List ℕ) : Type 0 where
+pub record CellsSpread (before : List ℕ) (from to value : ℕ) (after : List ℕ) : Type 0 where
   pub long : length after ≡ length before
   pub there : (k : ℕ) → from ≤ k → k < to → getD after k 0 ≡ value
   pub before-it : (k : ℕ) → k < from → getD after k 0 ≡ getD before k 0

@@ -11,7 +11,7 @@ use Rattle.sets.specs.Sets.{member, Exactly}
 use Rattle.sets.specs.Words.{places}
 use Rattle.answers.specs.Limits.{mostPatterns, mostPositions, pointWords, byteValues}
 use Rattle.numbering.specs.Numbering.{Automaton}
-use Rattle.moves.specs.Tables.{firstOf, Next}
+use Rattle.moves.specs.Tables.{firstOf, NextPoint}
 
 -- the start is the set of the points that can come first, if there are any
 pub record Started (follow : List ℕ) (x : ℕ) : Type 0 where
@@ -19,8 +19,8 @@ pub record Started (follow : List ℕ) (x : ℕ) : Type 0 where
   pub nonempty : x ≢ 0
 
 -- byte b leads from x to the set of the points that come after, if there are any
-pub record Moved (readers follow : List ℕ) (x b y : ℕ) : Type 0 where
-  pub exact : Exactly (places pointWords) y (Next readers follow x b)
+pub record TableMove (readers follow : List ℕ) (x b y : ℕ) : Type 0 where
+  pub exact : Exactly (places pointWords) y (NextPoint readers follow x b)
   pub nonempty : y ≢ 0
 
 abbrev pub tables : List ℕ → List ℕ → Automaton ℕ
@@ -28,7 +28,7 @@ tables readers follow =
     record {
       Same = λ x y. x ≡ y;
       Start = Started follow;
-      Moves = Moved readers follow;
+      Moves = TableMove readers follow;
       columns = byteValues;
     }
 

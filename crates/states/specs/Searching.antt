@@ -10,7 +10,7 @@ use Rattle.sets.specs.Sets.{Exactly}
 use Rattle.sets.specs.Words.{places, AreWords}
 use Rattle.answers.specs.Limits.{pointWords, byteValues, mostStates}
 use Rattle.numbering.specs.Numbering.{Found, FoundAll, TooMany}
-use Rattle.moves.specs.Tables.{readersOf, firstOf, setOf, Next}
+use Rattle.moves.specs.Tables.{readersOf, firstOf, setOf, NextPoint}
 use Rattle.states.specs.Machine.{tables, noCell}
 
 -- the first n sets of a slice
@@ -42,7 +42,7 @@ pub data Numbered (sets : List ℕ) (n y : ℕ) : ℕ → Type 0 where
 -- the words of what comes after set number i by byte b, and its number
 pub record Target (readers follow sets : List ℕ) (n i b : ℕ) (next : List ℕ) (r : ℕ) : Type 0 where
   pub words : AreWords next
-  pub exact : Exactly (places pointWords) (setOf next 0) (Next readers follow (setOf sets i) b)
+  pub exact : Exactly (places pointWords) (setOf next 0) (NextPoint readers follow (setOf sets i) b)
   pub number : Numbered sets n (setOf next 0) r
 
 -- the bytes from b up to e have the same readers

@@ -6,7 +6,7 @@ ghost use Rattle.answers.specs.Limits.{pointWords, mostStates, rowCells};
 ghost use Rattle.moves.specs.Tables.{setOf};
 ghost use Rattle.states.specs.Machine.{tokenOf};
 ghost use Rattle.states.specs.Searching.{setsRoom, Runs};
-ghost use Rattle.states.specs.Filling.{endCell, Cell, Spread, Filled, RowFilled};
+ghost use Rattle.states.specs.Filling.{endCell, Cell, CellsSpread, Filled, RowFilled};
 use crate::NO_CELL;
 use crate::seeking::target;
 use answers::limits::BYTE_VALUES;
@@ -58,7 +58,7 @@ fn cell(sets: &[u64], count: usize, state: u16, readers: &[u64], byte: u8, follo
 // The cells from one place up to another.
 fn spread(machine: &mut [u16], from: usize, to: usize, value: u16)
     requires { ⌜ (from ≤ to) × (to ≤ length (now machine)) ⌝ }
-    ensures { λ r. ⌜ Spread (now (machine .entry)) from to value (now (machine .exit)) ⌝ }
+    ensures { λ r. ⌜ CellsSpread (now (machine .entry)) from to value (now (machine .exit)) ⌝ }
 {
     let mut place = from;
     while place < to {

@@ -1,8 +1,10 @@
 // The search for the states: each state's row byte by byte, and a set that was not met before is a new state.
 ghost use Prim.Native.Nat.{_+_, _*_, _≤_, _<_};
 ghost use lib.ListN.{length};
+ghost use mathlib.Core.Bool.{true};
 ghost use mathlib.Core.Path.{_≡_};
 ghost use Rattle.answers.specs.Limits.{byteValues, mostStates};
+ghost use Rattle.moves.specs.Tables.{readersOf};
 ghost use Rattle.states.specs.Searching.{setsRoom, RunEnd, Runs, Searching, Begun, Turned, RowFound, Searched};
 use crate::seeking::keep;
 use crate::seeking::target;
@@ -12,8 +14,30 @@ use answers::limits::MOST_STATES;
 use answers::limits::POINT_WORDS;
 use answers::limits::POSITION_WORDS;
 use points::none;
-use points::same;
 use points::unite;
+
+// Whether the next byte is seen to have the readers of this one: where the table is too short nothing is seen.
+fn same_readers(readers: &[u64], byte: usize) -> bool
+    requires { ⌜ byte < byteValues ⌝ }
+    ensures { λ r. ⌜ (r ≡ true
+        → readersOf (now (readers .entry)) (byte + 1) ≡ readersOf (now (readers .entry)) byte) ⌝ }
+{
+    let at = byte * POSITION_WORDS;
+    let next = at + POSITION_WORDS;
+    if readers.len() < next + POSITION_WORDS {
+        return false;
+    }
+    let mut i = 0;
+    while i < POSITION_WORDS {
+        let place = at + i;
+        let above = next + i;
+        if readers[above] != readers[place] {
+            return false;
+        }
+        i += 1;
+    }
+    true
+}
 
 // Up to where the bytes have the readers of this one, known of the bytes above.
 fn run_end(ends: &[u16; BYTE_VALUES], readers: &[u64], byte: usize) -> u16
@@ -22,13 +46,7 @@ fn run_end(ends: &[u16; BYTE_VALUES], readers: &[u64], byte: usize) -> u16
 {
     let next = byte + 1;
     if next < BYTE_VALUES {
-        if same(
-            readers,
-            next * POSITION_WORDS,
-            readers,
-            byte * POSITION_WORDS,
-            POSITION_WORDS,
-        ) {
+        if same_readers(readers, byte) {
             return ends[next];
         }
     }

@@ -15,9 +15,9 @@ use answers::refusals::MACHINE_ROOM;
 use answers::refusals::ROOM;
 use answers::refusals::STATES;
 
-pub mod filling;
-pub mod finding;
-pub mod seeking;
+mod filling;
+mod finding;
+mod seeking;
 
 // The answer, and how many states the machine has.
 pub struct MachineMade {

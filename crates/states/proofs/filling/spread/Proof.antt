@@ -3,14 +3,14 @@ use borrow.Author.Needs.{needs}
 use mathlib.Core.Path.{_≡_, _∙_}
 use Prim.Native.Nat.{_-_, _≤_}
 use native.Mathlib.Omega.{arith}
-use Rattle.states.specs.Filling.{Spread}
+use Rattle.states.specs.Filling.{CellsSpread}
 use Rattle.states.proofs.Laying.{spread-none, spread-more}
 use Rattle.states.proofs.filling.spread.Statement.{statement}
 use Rattle.states.proofs.filling.spread.Tie as tie
 
 abbrev Inv-loop : tie.InvT-loop
 Inv-loop machine₀ from to value place₀ machine place =
-    (from ≤ place) × (place ≤ to) × Spread machine₀ from place value machine
+    (from ≤ place) × (place ≤ to) × CellsSpread machine₀ from place value machine
 
 abbrev μ-loop : tie.MeasureT-loop
 μ-loop machine₀ from to value place₀ machine place = to - place

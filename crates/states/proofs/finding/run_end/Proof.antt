@@ -9,14 +9,8 @@ use Rattle.states.proofs.finding.run_end.Tie as tie
 add-next : tie.Need-add-next
 add-next c = search needs
 
-mul-same : tie.Need-mul-same
-mul-same c = search needs
-
-mul-same-2 : tie.Need-mul-same-2
-mul-same-2 c = search needs
-
-same-requires : tie.Need-same-requires
-same-requires c κs = search needs
+same-readers-requires : tie.Need-same-readers-requires
+same-readers-requires c κs = search needs
 
 mul-result : tie.Need-mul-result
 mul-result c = search needs
@@ -28,7 +22,7 @@ returns : tie.Need-returns
 returns c =
     let same = c .before .before in
     let start = same .before .before .before in
-    run-on (same .same .result) (same .same .ensures) (c .before .if2 .taken)
+    run-on (same .same-readers .result) (same .same-readers .ensures) (c .before .if2 .taken)
     (start .pre .1 .run (start .args .byte + 1) (omega arith) (same .before .if1 .taken))
 
 cast-result : tie.Need-cast-result
@@ -44,9 +38,7 @@ run-end-spec =
     tie.close
     (tie.spec
     add-next
-    mul-same
-    mul-same-2
-    same-requires
+    same-readers-requires
     mul-result
     element-copy-out-result
     returns
