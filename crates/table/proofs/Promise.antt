@@ -1,9 +1,10 @@
 -- What crates above cite of tables.
 pub use Rattle.table.proofs.Cells.{columnNumber, cellNumber, row-numbered, column-at-numbered, cell-inside}
 pub use Rattle.table.proofs.Cells.{row-inside, cell-there, table-exact, built-exact, conflict-cell}
-pub use Rattle.table.proofs.Claimed.{getD-inside}
+pub use Rattle.table.proofs.Claimed.{getD-inside, claims-indexed}
 pub use Rattle.table.proofs.Unique.{table-unique, held-unique, first-conflict-unique}
 pub use Rattle.table.proofs.Outcomes.{build-outcome-unique, WithTable, build-with-room}
+pub use Rattle.table.proofs.Unique.{conflict-no-table}
 pub use Rattle.table.proofs.Building.{table-no-conflict, first-is-conflict, conflict-iff, conflict-first}
 pub use Rattle.table.proofs.Building.{build-built, built-build, built-done}
 pub use Rattle.table.proofs.TableFits.{held-vacant, held-filled, row-fits, misfit-not-fit, misfit-unique}
