@@ -22,13 +22,13 @@ use Rattle.answers.specs.Refusals as refusals
 use Rattle.book.specs.declared.Reading.{Reading}
 use Rattle.first.specs.Forms.{Indexes}
 use Rattle.first.proofs.Promise.{given-indexes, given-served, given-limits, given-count, left-is, rule-at, no-member}
-use Rattle.table.specs.Table.{size, rowAt, columnAt, ClaimsCell, held, TableOf, FirstConflict, BuiltWithoutConflict}
-use Rattle.table.specs.Fitting.{Fits, FitTable}
+use Rattle.table.specs.Table.{size, rowAt, columnAt, ClaimsCell, held}
+use Rattle.table.specs.Fitting.{Fits}
 use Rattle.table.specs.Fitting as fitting
 use Rattle.table.specs.Claims.{leftOf}
 use Rattle.table.proofs.Promise.{claims-indexed, conflict-cell, row-inside, held-vacant, held-filled}
-use Rattle.checker.specs.Calls.{Right, FirstDifferent, CheckOutcome, conflict, differs, passed}
-use Rattle.checker.specs.Checking.{Before, Twice, claimsBefore, Tallied, Contested, Disputed, disputed, DiffersAt}
+use Rattle.checker.specs.Calls.{Right, CheckOutcome, conflict, differs, passed}
+use Rattle.checker.specs.Checking.{Twice, claimsBefore, Contested, Disputed, disputed, DiffersAt}
 use Rattle.checker.specs.Checking.{Differs, missing, strange, Comparable, Countable, rowOf, bitOf}
 
 -- what a byte is, by what it says that the cell holds

@@ -1,8 +1,8 @@
 -- The worked examples: each answer is one that the outcome allows.
 use mathlib.Core.Path.{_≡_, refl, sym, subst}
-use mathlib.Core.Bool.{Bool, true, false, _||_}
+use mathlib.Core.Bool.{Bool, true, false}
 use mathlib.Core.Logic.{_≢_}
-use mathlib.Core.List.{List, [], _∷_}
+use mathlib.Core.List.{List}
 use mathlib.Core.Option.{Option, some, none}
 use Prim.Native.Nat.{ℕ, _<_}
 use native.Mathlib.Omega.{arith}
@@ -11,17 +11,15 @@ use lib.ListN.{length, getD, getElem?, set, take}
 use Rattle.grammar.specs.Grammar.{Production, Grammar, Rule, Every, nothing, each, Cell}
 use Rattle.grammar.specs.House.{house}
 use Rattle.grammar.proofs.Tests.{below, below-each}
-use Rattle.answers.specs.Answers.{done, refusal}
-use Rattle.book.specs.Examples.{houseBook, uselessBook}
 use Rattle.book.proofs.Promise.{house-serves, useless-refused}
 use Rattle.table.specs.Table.{size, rowAt, columnAt, held, TableOf}
 use Rattle.table.specs.Fitting.{Fits, vacant, filled, FitTable, Misfit, length-given}
-use Rattle.table.specs.Examples.{houseTable, conflictedHouseBook, conflictedHouse}
+use Rattle.table.specs.Examples.{houseTable, conflictedHouse}
 use Rattle.table.proofs.Promise.{cell-unique, held-unique, house-table-of, house-built, conflicted-house-serves}
 use Rattle.table.proofs.Promise.{conflicted-house-conflict}
 use Rattle.grammar.proofs.House.{house-no-conflict}
-use Rattle.checker.specs.Calls.{Right, FirstDifferent, CheckOutcome, refused, misfit, conflict, differs, passed}
-use Rattle.checker.specs.Examples.{Example, examples}
+use Rattle.checker.specs.Calls.{FirstDifferent, CheckOutcome, refused, misfit, conflict, differs, passed}
+use Rattle.checker.specs.Examples.{examples}
 
 -- a table that fits, by a test that computes
 module _ (g : Grammar) (table : List ℕ) where

@@ -1,6 +1,6 @@
 -- The first cell that two productions claim: what one production more does to it and to the columns claimed so far, and
 -- the two lowest claimants of a cell that has two.
-use mathlib.Core.Path.{_≡_, refl, sym, ap, _∙_, subst}
+use mathlib.Core.Path.{_≡_, sym, ap, _∙_, subst}
 use mathlib.Core.Bool.{Bool, true, false, _&&_, false≢true}
 use mathlib.Core.Logic.{_⊎_, inl, inr, _≢_}
 use mathlib.Core.List.{List}
@@ -19,7 +19,7 @@ use Rattle.answers.specs.Refusals as refusals
 use Rattle.answers.specs.Lowest.{Lowest}
 use Rattle.answers.proofs.Promise.{lowest-alike}
 use Rattle.table.specs.Claims.{ClaimsAt, Rivals}
-use Rattle.checker.specs.Checking.{Before, Twice, claimsBefore, Tallied, Both, Shared, Countable, From}
+use Rattle.checker.specs.Checking.{Before, Twice, claimsBefore, Tallied, Both, Shared, From}
 use Rattle.checker.specs.Checking.{rowOf, bitOf, ClaimsAdded, Disputed, disputed}
 
 -- the lowest of either kind, the one kind sought below the lowest of the other

@@ -1,5 +1,5 @@
 -- No statement of the crate allows a second outcome: the first cell that differs, and what a check answers.
-use mathlib.Core.Path.{_≡_, refl, sym, ap, _∙_, subst}
+use mathlib.Core.Path.{_≡_, refl, sym, _∙_}
 use mathlib.Core.Logic.{_⊎_, inl, inr}
 use mathlib.Core.List.{List}
 use Prim.Native.Nat.{ℕ, _+_, _*_, _<_}
@@ -18,7 +18,7 @@ use Rattle.table.specs.Table.{TableOf, FirstConflict}
 use Rattle.table.specs.Fitting.{FitTable, Misfit}
 use Rattle.table.proofs.Promise.{table-fits, misfit-not-fit, misfit-unique, first-conflict-unique, conflict-no-table}
 use Rattle.table.proofs.Promise.{first-is-conflict}
-use Rattle.checker.specs.Calls.{Right, FirstDifferent, CheckOutcome, misfit, conflict, differs, passed}
+use Rattle.checker.specs.Calls.{FirstDifferent, CheckOutcome, misfit, conflict, differs, passed}
 use Rattle.checker.specs.Calls.{CheckedWithFirst}
 use Rattle.checker.specs.Calls as calls
 use Rattle.checker.proofs.Answering.{checked-outcome}

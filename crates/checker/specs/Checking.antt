@@ -17,7 +17,7 @@ use Rattle.book.specs.declared.Reading.{Reading}
 use Rattle.first.specs.Forms.{Given}
 use Rattle.follow.specs.Families.{Lookaheads}
 use Rattle.table.specs.Fitting.{FitTable}
-use Rattle.table.specs.Claims.{ClaimsAt, claims, leftOf, Rivals}
+use Rattle.table.specs.Claims.{ClaimsAt, claims, Rivals}
 
 -- the row of a cell of a table with so many tokens, and the bit of its column
 abbrev pub rowOf : (tokens i : ℕ) → ℕ

@@ -17,8 +17,8 @@ pub record Example : Type 0 where
 abbrev told : List ℕ → List ℕ → Answer → Example
 told book cells answer = record { book = book; cells = cells; answer = answer }
 
--- H and its table; with cell 13 vacant; with cell 4 filled as well; H1 with the table of H, and with cell 0 vacant too: a
--- conflict is told before any difference; the first 19 cells; I, with no cells
+-- H and its table; with cell 13 vacant; with cell 4 filled as well; H1 with the table of H, and with cell 0 vacant too:
+-- a conflict is told before any difference; the first 19 cells; I, with no cells
 unfoldable pub examples : List Example
 unfolding houseBook uselessBook houseTable conflictedHouseBook
 examples =

@@ -1,13 +1,12 @@
 // The first cell that two productions claim, without a table: the columns that each row's productions claim so far, and
 // for each further production those that it shares with them.
 ghost use Prim.Native.Nat.{_+_, _≤_, _<_};
-ghost use lib.ListN.{length};
 ghost use Rattle.sets.specs.Sets.{columnPlace};
 ghost use Rattle.sets.specs.Calls.{number, Decides, setAt};
 ghost use Rattle.answers.specs.Lowest.{Lowest};
 ghost use Rattle.table.specs.Claims.{ClaimsAt, leftOf};
 ghost use Rattle.checker.specs.Checking.{Both, Shared, ClaimsAdded, Countable, Contested, From, Twice, Disputed};
-ghost use Rattle.checker.specs.Checking.{rowOf, bitOf, claimsBefore};
+ghost use Rattle.checker.specs.Checking.{rowOf, claimsBefore};
 use answers::Answer;
 use answers::buffers::least;
 use answers::refusal;

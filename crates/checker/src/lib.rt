@@ -19,7 +19,7 @@ use table::fitting::check_table;
 mod contests;
 mod differences;
 
-// A table that fits its book, by the book's lookaheads: the first conflict, else the first cell that differs, else done.
+// A table that fits its book, by the lookaheads: the first conflict, else the first cell that differs, else done.
 fn compare(book: &[u8], reading: Reading, ahead: &[u64], table: &[u8]) -> Answer
     requires { ⌜ Comparable (now book) reading (now ahead) (now table) ⌝ }
     ensures { λ r. ⌜ CheckOutcome (now (book .entry)) (now (table .entry)) r ⌝ }

@@ -9,6 +9,7 @@ pub mod BuildDemands
 pub mod ExpandDemands
 pub mod ExpandRoom
 pub mod Demands
+pub mod PassedTables
 pub mod Shown
 pub mod House
 pub mod Examples

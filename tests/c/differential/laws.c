@@ -14,6 +14,8 @@ static struct {
     { "room by formula, derived", 0 },
     { "room by formula, not derived", 0 },
     { "first of two parts", 0 },
+    { "a table passed as built", 0 },
+    { "a table not passed nor built", 0 },
 };
 
 /* Whether the book is right, its table was built without conflict, and the case's table is that one. */
@@ -79,6 +81,15 @@ bool parts_join(void)
         return !parts;
     laws[2].met++;
     return parts && whole == ((left & ~DESK_EMPTY_STRING) | (left & DESK_EMPTY_STRING ? right : 0));
+}
+
+bool passes_as_built(void)
+{
+    uint8_t answer[DESK_ANSWER_SIZE];
+    bool passed = desk_check_table(in.book, in.book_length, in.table, in.table_length, answer, sizeof answer)
+               == DESK_DONE;
+    laws[passed ? 3 : 4].met++;
+    return passed == table_is_built();
 }
 
 unsigned print_laws(void)

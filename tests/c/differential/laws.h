@@ -11,6 +11,9 @@ bool formula_is_enough(void);
 /* FIRST of the string is the join of FIRST of two parts of it, which are served like the whole. */
 bool parts_join(void);
 
+/* The table is passed exactly if building is done and writes it. */
+bool passes_as_built(void);
+
 /* Prints how often each law was met, and gives how many were never. */
 unsigned print_laws(void);
 

@@ -1,5 +1,5 @@
 -- The invariant: none from the first on that was passed is a claimant.
-use Prim.Native.Nat.{ℕ, _-_, _≤_}
+use Prim.Native.Nat.{_-_, _≤_}
 use native.Mathlib.Omega.{arith}
 use borrow.Author.Needs.{needs}
 use Rattle.sets.specs.Calls.{setAt}
