@@ -194,6 +194,9 @@ static struct workload *make_book(const char *name, const uint8_t *book, size_t 
     memcpy(made->book, book, length);
     made->book_length = length;
     made->times = times;
+    made->table_length = DESK_TABLE_CELLS(book);
+    if (plain_build(book, length, first, 64, follow, 64, made->table, sizeof made->table, answer, sizeof answer))
+        fail("a table has a conflict");
     return made;
 }
 
@@ -212,6 +215,7 @@ static struct workload *make_book(const char *name, const uint8_t *book, size_t 
 #define EXPAND_ARGUMENTS BOOK, work->lists[i], work->listed[i], stack, work->stack, tokens, sizeof tokens, \
                          answer, sizeof answer
 #define SETS_ARGUMENTS BOOK, first, 64, follow, 64, answer, sizeof answer
+#define CHECK_ARGUMENTS BOOK, work->table, work->table_length, answer, sizeof answer
 #define BUILD_ARGUMENTS BOOK, first, 64, follow, 64, table, sizeof table, answer, sizeof answer
 
 static void run_desk(void) { EACH_STRING(desk_run(RUN_ARGUMENTS)); }
@@ -223,6 +227,8 @@ static void judge_plain(void) { EACH_TIME(plain_judge(BOOK, answer, sizeof answe
 static void sets_desk(void) { EACH_TIME(desk_sets(SETS_ARGUMENTS)); }
 static void sets_plain(void) { EACH_TIME(plain_sets(SETS_ARGUMENTS)); }
 static void build_desk(void) { EACH_TIME(desk_build(BUILD_ARGUMENTS)); }
+static void check_desk(void) { EACH_TIME(desk_check_table(CHECK_ARGUMENTS)); }
+static void check_plain(void) { EACH_TIME(plain_check_table(CHECK_ARGUMENTS)); }
 static void build_plain(void) { EACH_TIME(plain_build(BUILD_ARGUMENTS)); }
 
 #ifdef WITH_BISON
@@ -276,6 +282,8 @@ static void print_book_figures(struct workload *workload)
     print_work("judge", workload, "call", 1, judge_desk, judge_plain, NULL);
     print_work("sets", workload, "call", 1, sets_desk, sets_plain, NULL);
     print_work("build", workload, "call", 1, build_desk, build_plain, NULL);
+    print_figure(&(struct figure){ "check", work->name, "call", (double)work->times, check_desk, check_plain,
+                                   build_desk, "build" });
     free(workload);
 }
 

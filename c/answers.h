@@ -21,7 +21,7 @@ static const char *words(uint32_t number)
         "a number or a length is out of range", "a symbol is not of the grammar", "a nonterminal is useless",
         "a buffer is too small", "a cell has two claimants", "the table does not fit the book",
         "a token is not of the grammar", "syntax", "a production does not fit", "refused", "a pattern is bad",
-        "no token starts here", "the patterns have too many states",
+        "no token starts here", "the patterns have too many states", "a cell is not the one of the book's table",
     };
     return number < sizeof refusals / sizeof *refusals ? refusals[number] : "refused";
 }

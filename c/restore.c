@@ -1,6 +1,7 @@
 #include "answers.h"
 
 #include <inttypes.h>
+#include <stdbool.h>
 #include <stdio.h>
 #include <stdlib.h>
 #include <string.h>
@@ -62,6 +63,35 @@ static uint32_t build(uint8_t *answer)
     return number;
 }
 
+/* What a cell of the table holds, and where it stands. */
+static void show_cell(size_t cell)
+{
+    size_t columns = book.bytes[2] + 1u, column = cell % columns;
+    printf("row %zu, column ", cell / columns);
+    if (column + 1 < columns)
+        printf("%zu", column);
+    else
+        printf("end");
+    if (table.bytes[cell] == DESK_NO_PRODUCTION)
+        printf(" holds no production\n");
+    else
+        printf(" holds %u\n", table.bytes[cell]);
+}
+
+/* Checks a table that was loaded, and says what is wrong with it. */
+static int check(uint8_t *answer)
+{
+    uint32_t number = desk_check_table(book.bytes, book.length, table.bytes, table.length, answer, DESK_ANSWER_SIZE);
+    if (number == DESK_DONE)
+        return 0;
+    refused("the table", number, answer);
+    bool of_cell = number == DESK_CONFLICT || number == DESK_DIFFERS
+                || (number == DESK_TABLE && table.length == DESK_TABLE_CELLS(book.bytes));
+    if (of_cell)
+        show_cell((size_t)word(answer, 0));
+    return 1;
+}
+
 /* Expands the list back and says whether it gives the tokens it was listed for. */
 static int expand_back(size_t listed, uint8_t *answer)
 {
@@ -103,9 +133,11 @@ int main(int argc, char **argv)
     }
     load(argv[1], &book);
     load(argv[3], &tokens);
-    if (strcmp(argv[2], "-") != 0)
+    if (strcmp(argv[2], "-") != 0) {
         load(argv[2], &table);
-    else {
+        if (check(answer) != 0)
+            return 1;
+    } else {
         uint32_t number = build(answer);
         if (number != DESK_DONE)
             return refused("building", number, answer);

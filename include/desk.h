@@ -89,7 +89,8 @@ enum {
     DESK_PRODUCTION = 12,
     DESK_PATTERN = 14,
     DESK_NO_TOKEN = 15,
-    DESK_STATES = 16
+    DESK_STATES = 16,
+    DESK_DIFFERS = 17
 };
 
 /* The details of DESK_ROOM: which buffer is too small. */
@@ -143,7 +144,8 @@ enum {
    same answer and list, and with fewer it is refused with DESK_ROOM, detail DESK_ROOM_STACK. With DESK_ROOM it says
    what was held before.
 
-   Any table that passes DESK_TABLE is run, whoever made it; desk_build makes the one of the book. With another table
+   Any table that passes DESK_TABLE is run, whoever made it; desk_build makes the one of the book, and desk_check_table
+   says whether a table is that one. With another table
    productions may replace one another without end: then the list or the stack fills up, and the call ends with
    DESK_ROOM. */
 uint32_t desk_run(const uint8_t *book, size_t book_len, const uint8_t *table, size_t table_len,
@@ -230,6 +232,21 @@ uint32_t desk_sets(const uint8_t *book, size_t book_len, uint64_t *first, size_t
 uint32_t desk_build(const uint8_t *book, size_t book_len, uint64_t *first, size_t first_len,
                     uint64_t *follow, size_t follow_len, uint8_t *table, size_t table_len,
                     uint8_t *answer, size_t answer_len);
+
+/* Checks a table against its book, whoever made it, and changes nothing but the answer: it passes exactly if it is the
+   one that desk_build writes. No table is built for that. `table` may be null with length 0.
+
+   Refusals, in this order:
+     the refusals of desk_judge;
+     DESK_TABLE     the table's length is not N x (T+1): place is the length given; or a cell is neither 255 nor a
+                    production of its row: place is the first such cell;
+     DESK_CONFLICT  two productions claim a cell, whatever the table holds: place and detail as desk_build has them;
+     DESK_DIFFERS   a cell does not hold the only production that claims it, or 255 if none does: place is the first
+                    such cell.
+   A conflict anywhere is told before any cell that differs. On a table that passed, a run of at most 4,096 tokens, each
+   below T, has all that is said of a run with the table of desk_build. */
+uint32_t desk_check_table(const uint8_t *book, size_t book_len, const uint8_t *table, size_t table_len,
+                          uint8_t *answer, size_t answer_len);
 
 /* Works out the lookahead of one production: FIRST of its right side without bit 63, with FOLLOW of its left side
    added if the right side can vanish; and how many leading symbols of the right side can vanish.

@@ -4,8 +4,8 @@
 BISON ?= $(shell command -v bison)
 C_OUT := target/c
 C_FLAGS := -std=c11 -O2 -Wall -Wextra -Wpedantic -Iinclude -Itests/c -Ibench
-C_EXAMPLES := tests/c/lent.c $(addprefix tests/c/examples/,main.c check.c books.c calls.c refused.c sets.c runs.c \
-              expansions.c rooms.c trees.c formula.c patterns.c cuts.c machines.c)
+C_EXAMPLES := tests/c/lent.c $(addprefix tests/c/examples/,main.c check.c books.c calls.c refused.c sets.c checks.c \
+              runs.c expansions.c rooms.c trees.c formula.c patterns.c cuts.c machines.c)
 C_DIFFERENTIAL := tests/c/lent.c tests/c/plain.c tests/c/cases.c $(addprefix tests/c/differential/,pick.c shape.c \
                   inputs.c strings.c needs.c compare.c laws.c depths.c counts.c)
 C_LINES := tests/c/lent.c tests/c/plain_lines.c tests/c/cases.c tests/c/differential/pick.c $(addprefix tests/c/lines/,\
@@ -35,6 +35,8 @@ c-test: $(addprefix $(C_OUT)/,examples differential lines examples-checked diffe
 	$(C_OUT)/lines-checked 40000
 	printf '\0\1\2\1\3\1' > $(C_OUT)/order
 	$(C_OUT)/restore books/house.book - $(C_OUT)/order | diff - tests/c/restore.stdout
+	printf '\0\377\377\377\377\377\1\377\377\377\377\377\2\377\3\377\377\377\4\5' > $(C_OUT)/table
+	{ $(C_OUT)/restore books/house.book $(C_OUT)/table $(C_OUT)/order || true; } | diff - tests/c/checked.stdout
 	{ $(C_OUT)/line books/house.patterns books/house.book < tests/c/line.stdin || true; } | diff - tests/c/line.stdout
 	$(C_OUT)/stack
 

@@ -1,6 +1,7 @@
 #include "plain.h"
 
 #include "plain/book.h"
+#include "plain/check.h"
 #include "plain/sets.h"
 #include "plain/steps.h"
 
@@ -95,6 +96,18 @@ uint32_t plain_build(const uint8_t *book, size_t book_len, uint64_t *first, size
         else
             build(&grammar, first, follow, table, &result);
     }
+    return give(&result, answer);
+}
+
+uint32_t plain_check_table(const uint8_t *book, size_t book_len, const uint8_t *table, size_t table_len,
+                           uint8_t *answer, size_t answer_len)
+{
+    struct grammar grammar;
+    struct answer result = { 0 };
+    if (answer_len < ANSWER_SIZE)
+        return ROOM;
+    if (judge(book, book_len, &grammar, &result) && table_fits(&grammar, table, table_len, &result))
+        table_is_right(&grammar, table, &result);
     return give(&result, answer);
 }
 

@@ -56,6 +56,11 @@ static void call_build(void)
                         table, sizeof table, answer, sizeof answer);
 }
 
+static void call_check(void)
+{
+    number = desk_check_table(book, book_length, table, table_length, answer, sizeof answer);
+}
+
 static void call_lookahead(void)
 {
     number = desk_lookahead(book, book_length, 0, set, 1, count, 1, answer, sizeof answer);
@@ -127,6 +132,7 @@ struct function {
 static const struct function judge = { "desk_judge", call_judge, 3400 };
 static const struct function sets = { "desk_sets", call_sets, 5350 };
 static const struct function build = { "desk_build", call_build, 11350 };
+static const struct function check = { "desk_check_table", call_check, 7700 };
 static const struct function lookahead = { "desk_lookahead", call_lookahead, 5350 };
 static const struct function first_of = { "desk_first_of", call_first_of, 4100 };
 static const struct function run = { "desk_run", call_run, 4400 };
@@ -194,7 +200,7 @@ static void print_depth(const struct function *function, const char *input)
     size_t depth = depth_of(function->call);
     uint32_t answered = number;
     depth -= depth_of(call_nothing);
-    printf("%-15s %-36s %8zu bytes, number %u\n", function->name, input, depth, (unsigned)answered);
+    printf("%-16s %-36s %8zu bytes, number %u\n", function->name, input, depth, (unsigned)answered);
     if (bounded && depth > function->most) {
         printf("%s takes more than %zu bytes\n", function->name, function->most);
         exceeded++;
@@ -206,6 +212,7 @@ static void print_book_depths(const char *input)
     print_depth(&judge, input);
     print_depth(&sets, input);
     print_depth(&build, input);
+    print_depth(&check, input);
     print_depth(&lookahead, input);
     print_depth(&first_of, input);
 }

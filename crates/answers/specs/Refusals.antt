@@ -1,5 +1,5 @@
--- The numbers of document 01's table of refusals and of document 02, W3 (14, 15, 16); the details of refusal 7, and
--- behind them its details where a line is cut.
+-- The numbers of document 01's table of refusals and of document 02, W3 (14, 15, 16) and W8 (17); the details of refusal
+-- 7, and behind them its details where a line is cut.
 use Prim.Native.Nat.{ℕ}
 
 abbrev pub served : ℕ
@@ -49,6 +49,9 @@ noToken = 15
 
 abbrev pub states : ℕ
 states = 16
+
+abbrev pub differs : ℕ
+differs = 17
 
 abbrev pub stackRoom : ℕ
 stackRoom = 1

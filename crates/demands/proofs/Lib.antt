@@ -10,6 +10,7 @@ pub mod ExpandDemands
 pub mod ExpandRoom
 pub mod Depth
 pub mod Demands
+pub mod PassedTables
 pub mod Shown
 pub mod House
 pub mod Examples

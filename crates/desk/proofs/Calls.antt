@@ -9,6 +9,8 @@ use Rattle.answers.specs.declared.Answer.{Answer}
 use Rattle.answers.specs.Buffers.{over}
 use Rattle.patterns.specs.Calls.{JudgePatterns}
 use Rattle.patterns.proofs.Promise.{judge-patterns-unique}
+use Rattle.checker.specs.Calls.{CheckOutcome}
+use Rattle.checker.proofs.Promise.{check-outcome-unique}
 use Rattle.pieces.specs.Calls.{CutWithOutcome}
 use Rattle.pieces.proofs.Promise.{cut-with-unique}
 use Rattle.book.specs.declared.Reading.{Reading}
@@ -82,6 +84,12 @@ pub cut-with-same : (machine line tokens ends : List ℕ)
 cut-with-same machine line tokens ends r q o p =
     let (answer, numbers, places) = cut-with-unique o p in
     λ i. (answer i, numbers i, places i)
+
+-- a table is checked one way
+pub check-same : (book table : List ℕ) → Unique (λ (x : Answer × Unit {0}). CheckOutcome book table (x .0))
+check-same book table x y o p =
+    let same : x .0 ≡ y .0 = check-outcome-unique o p in
+    λ i. (same i, tt)
 
 -- patterns are judged one way
 pub patterns-outcome-unique : (patterns lengths : List ℕ)

@@ -38,6 +38,8 @@ use Rattle.table.specs.Calls.{BuildOutcome}
 use Rattle.first.specs.Calls as first-calls
 use Rattle.follow.specs.Calls as follow-calls
 use Rattle.table.specs.Calls as calls
+use Rattle.checker.specs.Calls.{CheckOutcome}
+use Rattle.checker.specs.Calls as checks
 use Rattle.table.specs.Table.{size, held, cellOf}
 use Rattle.table.specs.Fitting.{Misfit, length-given, cell}
 use Rattle.machine.specs.Machine.{Offered, final}
@@ -186,6 +188,20 @@ build-fits b (calls.conflict s f h c) =
     let limits = serves-limits s in
     refusal-fits 8 (omega (arith, c .inside, size-bounded limits)) (omega (arith, below-rule (c .lowest .rule), below-rule (c .next .rule), limits .productions-fit))
 build-fits b (calls.served s f h x y t) = done-fits 0 (omega arith)
+
+-- of a check
+pub check-fits : {book table : List ℕ} {a : Answer}
+    → length book < 2 ^ 64
+    → length table < 2 ^ 64
+    → CheckOutcome book table a
+    → FitsWords a
+check-fits b t (checks.refused r) = refused-fits b r
+check-fits b t (checks.misfit s m) = refusal-fits 9 (misfit-bounded (serves-limits s) m t) (omega arith)
+check-fits b t (checks.conflict s f c) =
+    let limits = serves-limits s in
+    refusal-fits 8 (omega (arith, c .inside, size-bounded limits)) (omega (arith, below-rule (c .lowest .rule), below-rule (c .next .rule), limits .productions-fit))
+check-fits b t (checks.differs s f n d) = refusal-fits 17 (omega (arith, d .inside, size-bounded (serves-limits s))) (omega arith)
+check-fits b t (checks.passed p) = done-fits 0 (omega arith)
 
 -- of a lookahead
 pub lookahead-fits : {book : List ℕ} {production : ℕ} {r : SetAnswer} → length book < 2 ^ 64 → production < 2 ^ 64 → LookaheadOutcome book production r → FitsWords (r .answer)

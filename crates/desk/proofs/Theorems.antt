@@ -2,16 +2,20 @@
 -- lend an answer buffer long enough.
 use mathlib.Core.Path.{_≡_, refl, sym, _∙_, subst}
 use mathlib.Core.List.{List}
-use Prim.Native.Nat.{ℕ, _^_, _<_}
+use Prim.Native.Nat.{ℕ, _^_, _≤_, _<_}
 use native.Mathlib.Nat.{mul-le-mul}
 use native.Mathlib.Omega.{arith}
-use lib.ListN.{length}
+use lib.ListN.{length, getD}
+use Rattle.grammar.specs.Grammar.{Grammar}
 use Rattle.grammar.specs.Machine.{Longest}
+use Rattle.answers.specs.declared.Answer.{Answer}
 use Rattle.answers.specs.Buffers.{counted}
+use Rattle.answers.specs.Limits.{longestString}
 use Rattle.patterns.specs.Calls.{JudgePatterns}
 use Rattle.pieces.specs.Calls.{CutWithOutcome}
 use Rattle.cut.specs.Calls.{CutOutcome}
 use Rattle.cut.proofs.Promise.{cut-outcome-unique}
+use Rattle.book.specs.Judging.{Serves}
 use Rattle.book.proofs.Promise.{serves-limits}
 use Rattle.first.specs.Calls.{FirstOutcome}
 use Rattle.follow.specs.Calls.{SetsOutcome, LookaheadOutcome}
@@ -19,6 +23,7 @@ use Rattle.table.specs.Calls.{BuildOutcome}
 use Rattle.first.proofs.Promise.{first-outcome-unique}
 use Rattle.follow.proofs.Promise.{sets-outcome-unique, lookahead-outcome-unique}
 use Rattle.table.proofs.Promise.{build-outcome-unique}
+use Rattle.checker.specs.Calls.{CheckOutcome}
 use Rattle.machine.proofs.Promise.{expand-steps}
 use Rattle.run.specs.Running.{RunOutcome}
 use Rattle.run.proofs.Promise.{run-outcome-unique}
@@ -26,18 +31,20 @@ use Rattle.expand.specs.Expanding.{ExpandOutcome}
 use Rattle.expand.proofs.Promise.{expand-outcome-unique}
 use Rattle.demands.specs.Depth.{RunDepth, ExpandDepth}
 use Rattle.demands.specs.Formula.{RunWithinFormula}
+use Rattle.demands.specs.Demands.{Premises}
 use Rattle.demands.specs.Demands.{BuildMeets2, ExpandMeets2, RunMeets2, RunMeets3, RunStepsAdd, ExpandStepsAdd}
 use Rattle.demands.proofs.Promise.{build-meets2, run-meets3, run-meets2, run-steps-add, run-formula, expand-meets2}
-use Rattle.demands.proofs.Promise.{expand-steps-add, run-depth, expand-depth}
+use Rattle.demands.proofs.Promise.{expand-steps-add, run-depth, expand-depth, passed-premises}
 use Rattle.desk.specs.Desk.{littleEndian, answerBytes, answerSize, Lent, LentCell, JudgeOutcome, SetOutcome}
 use Rattle.desk.specs.Desk.{JudgeCall, PatternsCall, CutCall, CutWithCall, SetsCall, BuildCall, RunCall}
 use Rattle.desk.specs.Desk.{ExpandCall, LookaheadCall, FirstCall}
 use Rattle.desk.specs.Demands.{answerFrom}
 use Rattle.desk.proofs.Calls.{called-answer, called-unique, two-unique, three-unique, judge-outcome-unique}
-use Rattle.desk.proofs.Calls.{patterns-outcome-unique, cut-with-same, set-outcome-unique}
+use Rattle.desk.specs.Desk.{Called, CheckCall, short, answered}
+use Rattle.desk.proofs.Calls.{check-same, patterns-outcome-unique, cut-with-same, set-outcome-unique}
 use Rattle.desk.proofs.ReadBack.{FitsWords, answer-read, called-exact}
 use Rattle.desk.proofs.Fitting.{ran-bounded, run-fits, expand-fits, judge-fits, sets-fits, build-fits}
-use Rattle.desk.proofs.Fitting.{lookahead-fits, first-fits, patterns-fits, cut-fits, cut-with-fits}
+use Rattle.desk.proofs.Fitting.{check-fits, lookahead-fits, first-fits, patterns-fits, cut-fits, cut-with-fits}
 
 -- any two outcomes that a call allows are equal: the number returned, and every lent buffer
 pub run-call-unique : (book table tokens stack list answer : List ℕ) {n m : ℕ} {s t l k x y : List ℕ}
@@ -62,6 +69,14 @@ pub judge-call-unique : (book answer : List ℕ) {n m : ℕ} {x y : List ℕ}
     → (n ≡ m) × (x ≡ y)
 judge-call-unique book answer c d =
     let (number, none, bytes) = called-unique (judge-outcome-unique book) (c .call) (d .call) in
+    (number, bytes)
+
+pub check-call-unique : (book table answer : List ℕ) {n m : ℕ} {x y : List ℕ}
+    → CheckCall book table answer n x
+    → CheckCall book table answer m y
+    → (n ≡ m) × (x ≡ y)
+check-call-unique book table answer c d =
+    let (number, none, bytes) = called-unique (check-same book table) (c .call) (d .call) in
     (number, bytes)
 
 pub patterns-call-unique : (patterns lengths answer : List ℕ) {n m : ℕ} {x y : List ℕ}
@@ -139,6 +154,14 @@ pub judge-call-exact : {book answer : List ℕ} {n : ℕ} {x : List ℕ} → len
     → Lent answer → JudgeCall book answer n x → JudgeOutcome book (answerFrom n x)
 judge-call-exact b lent c = called-exact (λ a o. subst FitsWords (o .answer) (judge-fits b (o .judged))) lent (c .call)
 
+pub check-call-exact : {book table answer : List ℕ} {n : ℕ} {x : List ℕ}
+    → length book < 2 ^ 64
+    → length table < 2 ^ 64
+    → Lent answer
+    → CheckCall book table answer n x
+    → CheckOutcome book table (answerFrom n x)
+check-call-exact b t lent c = called-exact (λ a o. check-fits b t o) lent (c .call)
+
 pub patterns-call-exact : {patterns lengths answer : List ℕ} {n : ℕ} {x : List ℕ} → length patterns < 2 ^ 64
     → Lent answer
     → PatternsCall patterns lengths answer n x
@@ -184,6 +207,14 @@ pub first-call-exact : {book symbols cells counts answer : List ℕ} {n : ℕ} {
     → FirstCall book symbols cells counts answer n s l x
     → SetOutcome (FirstOutcome book symbols) cells counts (answerFrom n x) s l
 first-call-exact b lent c = called-exact (λ a o. subst FitsWords (o .answer) (first-fits b (o .outcome))) lent (c .call)
+
+-- a check that returns 0 had room for its answer
+check-answer : {book table answer : List ℕ} {n : ℕ} {x : List ℕ}
+    → Called {Buffers = Unit {0}} (Lent answer) (λ a after. CheckOutcome book table a) tt answer n tt x
+    → n ≡ 0
+    → (a : Answer) × (a .number ≡ 0) × CheckOutcome book table a
+check-answer (short none) e = absurd (omega arith)
+check-answer (answered {a = a} lent outcome) e = (a, e, outcome)
 
 -- the demands of one call that lends an answer buffer long enough, its answer read back from the number returned and
 -- the words written
@@ -283,6 +314,19 @@ module _ {answer : List ℕ} (lent : Lent answer) where
           kept = within .kept;
           never-room = λ h full k m. rw (read .number) (within .never-room h full k m);
         }
+
+  -- demand 3 on a table for which the check returned 0, whoever made it: of at most 4,096 tokens of its grammar
+  pub desk-passed-run-meets3 : {book table tokens stack list other : List ℕ} {g : Grammar} {n : ℕ} {s l x y : List ℕ}
+      → CheckCall book table other 0 y
+      → Serves book g
+      → length tokens ≤ longestString
+      → ((i : ℕ) → i < length tokens → getD tokens i 0 < g .tokens)
+      → RunCall book table tokens stack list answer n s l x
+      → Premises book table tokens
+      × RunMeets3 book table tokens stack list (record { answer = answerFrom n x; stack = s; list = l })
+  desk-passed-run-meets3 {book} {table} check serves few known c =
+      let (a, told, outcome) = check-answer (check .call) refl in
+      (passed-premises outcome told serves few known, desk-run-meets3 c)
 
   -- demand 2 of an expansion: given room, a complete list expands to the string that it derives
   pub desk-expand-meets2 : {book list stack output : List ℕ} {n : ℕ} {s v x : List ℕ}

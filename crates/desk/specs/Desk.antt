@@ -19,6 +19,7 @@ use Rattle.first.specs.declared.SetAnswer.{SetAnswer}
 use Rattle.first.specs.Calls.{FirstOutcome}
 use Rattle.follow.specs.Calls.{SetsOutcome, LookaheadOutcome}
 use Rattle.table.specs.Calls.{BuildOutcome}
+use Rattle.checker.specs.Calls.{CheckOutcome}
 use Rattle.run.specs.Running.{RunOutcome}
 use Rattle.expand.specs.Expanding.{ExpandOutcome}
 
@@ -60,6 +61,11 @@ pub record JudgeOutcome (book : List ℕ) (a : Answer) : Type 0 where
 -- judging changes no other buffer
 pub record JudgeCall (book answer : List ℕ) (number : ℕ) (answer′ : List ℕ) : Type 0 where
   pub call : Called {Buffers = Unit {0}} (Lent answer) (λ a after. JudgeOutcome book a) tt answer number tt answer′
+
+-- a table checked against its book changes no other buffer
+pub record CheckCall (book table answer : List ℕ) (number : ℕ) (answer′ : List ℕ) : Type 0 where
+  pub call :
+      Called {Buffers = Unit {0}} (Lent answer) (λ a after. CheckOutcome book table a) tt answer number tt answer′
 
 -- patterns judged, by their bytes and lengths
 pub record PatternsCall (patterns lengths answer : List ℕ) (number : ℕ) (answer′ : List ℕ) : Type 0 where

@@ -2,7 +2,7 @@
 // lent buffer; where that is too short, or the buffer for a set or for a number has no cell, the answer is 7 before all
 // else, and nothing changes.
 ghost use Rattle.desk.specs.Desk.{JudgeCall, SetsCall, BuildCall, RunCall, ExpandCall, LookaheadCall, FirstCall};
-ghost use Rattle.desk.specs.Desk.{PatternsCall, CutCall, CutWithCall};
+ghost use Rattle.desk.specs.Desk.{PatternsCall, CutCall, CutWithCall, CheckCall};
 use crate::words::ANSWER_SIZE;
 use crate::words::write_answer;
 use answers::refusals::ROOM;
@@ -83,6 +83,19 @@ pub extern "C" fn desk_judge(book: &[u8], answer: &mut [u8]) -> u32
     let judged = reading.answer;
     write_answer(answer, judged);
     judged.number
+}
+
+// Whether a table is the one that building gives, whoever made it.
+#[no_mangle]
+pub extern "C" fn desk_check_table(book: &[u8], table: &[u8], answer: &mut [u8]) -> u32
+    ensures { λ r. ⌜ CheckCall (now (book .entry)) (now (table .entry)) (now (answer .entry)) r (now (answer .exit)) ⌝ }
+{
+    if answer.len() < ANSWER_SIZE {
+        return ROOM;
+    }
+    let checked = checker::check(book, table);
+    write_answer(answer, checked);
+    checked.number
 }
 
 // The refusal 4 or 14 of patterns lent as their bytes and lengths, or done.

@@ -1,11 +1,12 @@
 -- A number is determined by its members.
 use mathlib.Core.Path.{_≡_, refl, sym, ap, _∙_}
-use mathlib.Core.Bool.{Bool, true, false, _||_}
+use mathlib.Core.Bool.{Bool, true, false, _&&_, _||_, false≢true}
 use Prim.Native.Nat.{ℕ, zero, suc, _+_, _/_, _%_, _^_, _<_}
 use native.Mathlib.Omega.{arith}
 use lib.Arith.{lt-one}
-use Rattle.sets.specs.Sets.{member, Subset, Exactly, united}
-use Rattle.sets.proofs.Members.{digit, member-lowest, member-next}
+use lib.Bits.{bitAnd}
+use Rattle.sets.specs.Sets.{member, Subset, Disjoint, Exactly, united}
+use Rattle.sets.proofs.Members.{digit, member-lowest, member-next, member-and, member-none}
 use Rattle.sets.proofs.Operations.{member-united, or-left}
 
 -- two numbers of w places with the same members are one
@@ -49,3 +50,19 @@ united-subset x y sub =
 
 pub subset-united : (x y : ℕ) → united x y ≡ y → Subset x y
 subset-united x y e k h = rw e at (or-left k x y h)
+
+-- the digits that two numbers share make 0 exactly if no member of one is one of the other
+pub disjoint-and : (x y : ℕ) → Disjoint x y → bitAnd x y ≡ 0
+disjoint-and x y apart =
+    same-members (bitAnd x y) 0
+    (λ k. member-and k x y ∙ none (member k x) (member k y) (apart k) ∙ sym (member-none k))
+  where
+    none : (a b : Bool) → (a ≡ true → ¬ (b ≡ true)) → a && b ≡ false
+    none true true f = absurd (f refl refl)
+    none true false f = refl
+    none false b f = refl
+
+pub and-disjoint : (x y : ℕ) → bitAnd x y ≡ 0 → Disjoint x y
+and-disjoint x y e k h l =
+    let both : member k (bitAnd x y) ≡ true = member-and k x y ∙ rw (h, l) in
+    false≢true (sym (member-none k) ∙ rw e at both)

@@ -4,8 +4,9 @@ use mathlib.Core.Bool.{Bool, true, false}
 use mathlib.Core.List.{List}
 use Prim.Native.Nat.{ℕ}
 use Rattle.sets.specs.declared.Set.{Set}
-use Rattle.sets.specs.Sets.{member, Subset, columnPlace}
-use Rattle.sets.specs.Calls.{number, Decides, None, Single, With, Without, Union, Join, Within, Same, Load, stored}
+use Rattle.sets.specs.Sets.{member, Subset, Disjoint, columnPlace}
+use Rattle.sets.specs.Calls.{number, Decides, None, Single, With, Without, Union, Join, Within, Apart, Same, Load}
+use Rattle.sets.specs.Calls.{stored}
 use Rattle.sets.proofs.Equality.{same-members}
 
 -- what equals one value, what decides one statement, and sets with the same members
@@ -52,6 +53,9 @@ join-unique h h′ = members-unique _ (h .members) (h′ .members)
 
 pub within-unique : (x y : Set) (r r′ : Bool) → Within x y r → Within x y r′ → r ≡ r′
 within-unique x y = decides-unique (Subset (number x) (number y))
+
+pub apart-unique : (x y : Set) (r r′ : Bool) → Apart x y r → Apart x y r′ → r ≡ r′
+apart-unique x y = decides-unique (Disjoint (number x) (number y))
 
 pub same-unique : (x y : Set) (r r′ : Bool) → Same x y r → Same x y r′ → r ≡ r′
 same-unique x y = decides-unique (number x ≡ number y)

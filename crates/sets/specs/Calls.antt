@@ -7,7 +7,7 @@ use Prim.Native.Nat.{ℕ, _^_, _<_}
 use lib.Dec.{eqb, ltb}
 use lib.ListN.{getD, set}
 use Rattle.sets.specs.declared.Set.{Set}
-use Rattle.sets.specs.Sets.{member, Subset, width, emptyString}
+use Rattle.sets.specs.Sets.{member, Subset, Disjoint, width, emptyString}
 
 -- the number that a set is
 abbrev pub number : Set → ℕ
@@ -54,6 +54,9 @@ Decides false A = A → ⊥
 
 abbrev pub Within : Set → Set → Bool → Type 0
 Within x y r = Decides r (Subset (number x) (number y))
+
+abbrev pub Apart : Set → Set → Bool → Type 0
+Apart x y r = Decides r (Disjoint (number x) (number y))
 
 abbrev pub Same : Set → Set → Bool → Type 0
 Same x y r = Decides r (number x ≡ number y)

@@ -23,6 +23,10 @@ member k x = eqb (x / 2 ^ k % 2) 1
 abbrev pub Subset : ℕ → ℕ → Type 0
 Subset x y = (k : ℕ) → member k x ≡ true → member k y ≡ true
 
+-- no member of x is one of y
+abbrev pub Disjoint : ℕ → ℕ → Type 0
+Disjoint x y = (k : ℕ) → member k x ≡ true → ¬ (member k y ≡ true)
+
 -- x is the number of w places whose members are those k of which P holds
 pub record Exactly (w x : ℕ) (P : ℕ → Type 0) : Type 0 where
   pub fits : x < 2 ^ w

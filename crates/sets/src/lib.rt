@@ -2,7 +2,8 @@
 // flat.
 ghost use mathlib.Core.Path.{_≡_};
 ghost use Rattle.sets.specs.Sets.{member, columnPlace};
-ghost use Rattle.sets.specs.Calls.{number, None, Single, With, Without, Union, Join, Within, Same, Load, stored};
+ghost use Rattle.sets.specs.Calls.{number, None, Single, With, Without, Union, Join, Within, Apart, Same, Load};
+ghost use Rattle.sets.specs.Calls.{stored};
 
 pub struct Set {
     pub word: u64,
@@ -95,6 +96,13 @@ pub fn within(x: Set, y: Set) -> bool
     ensures { λ r. ⌜ Within x y r ⌝ }
 {
     (x.word | y.word) == y.word
+}
+
+// Whether no member of x is one of y.
+pub fn apart(x: Set, y: Set) -> bool
+    ensures { λ r. ⌜ Apart x y r ⌝ }
+{
+    (x.word & y.word) == 0
 }
 
 pub fn same(x: Set, y: Set) -> bool

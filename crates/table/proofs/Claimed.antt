@@ -1,7 +1,7 @@
 -- The claims by the numbers of an index's lookaheads are the claims by derivation: so the contest that a ledger of all of them knows is
 -- the first conflict, and where it knows none its cells are the table.
 use mathlib.Core.Path.{_≡_, refl, sym, _∙_, subst}
-use mathlib.Core.Logic.{_⊎_, inl, inr}
+use mathlib.Core.Logic.{_↔_, _⊎_, inl, inr}
 use mathlib.Core.List.{List, [], _∷_}
 use mathlib.Core.Option.{some, none}
 use Prim.Native.Nat.{ℕ, zero, suc, _≤_, _<_}
@@ -34,31 +34,33 @@ held-none = refl
 
 module _ {g : Grammar} {book places ahead : List ℕ} {count T : ℕ} (index : Indexes book places count g) (same : T ≡ g .tokens)
     (looks : Lookaheads g ahead) where
+  -- a production claims a cell exactly if it is one of the records that the index lists, of the cell's row, and its
+  -- lookahead has the bit of the cell's column
+  pub claims-indexed : (i p : ℕ) → ClaimsCell g i p ↔ ((p < count) × bookClaims book places ahead T i p)
+  claims-indexed i p = (claimed, λ h. derived (h .0) (h .1))
+    where
+      claimed : ClaimsCell g i p → (p < count) × bookClaims book places ahead T i p
+      claimed k =
+          let (row, bit) = claims-exactly (indexes-limits index) (k .rule) (looks .each (k .rule)) i .0 k in
+          let here : bookClaims book places ahead (g .tokens) i p = record { of-row = left-is index (k .rule) ∙ row; has-bit = bit } in
+          (omega (arith, index .counted, below-rule (k .rule)), subst (λ (t : ℕ). bookClaims book places ahead t i p) (sym same) here)
+
+      derived : p < count → bookClaims book places ahead T i p → ClaimsCell g i p
+      derived below claim =
+          let (A, α, rule) = rule-at index p below in
+          let here : bookClaims book places ahead (g .tokens) i p = subst (λ (t : ℕ). bookClaims book places ahead t i p) same claim in
+          claims-exactly (indexes-limits index) rule (looks .each rule) i .1 (sym (left-is index rule) ∙ here .of-row, here .has-bit)
+
   -- the claims by number are those by derivation
   claim-derived : (i p : ℕ) → Laid (bookClaims book places ahead T) count 0 i p → (p < count) × ClaimsCell g i p
-  claim-derived i p laid = (below, derived)
+  claim-derived i p laid = let below = before (laid .turn) in (below, claims-indexed i p .1 (below, laid .claim))
     where
       before : (p < count) ⊎ ((p ≡ count) × (i < 0)) → p < count
       before (inl h) = h
       before (inr e) = absurd (omega (arith, e .1))
 
-      below : p < count
-      below = before (laid .turn)
-
-      derived : ClaimsCell g i p
-      derived =
-          let (A, α, rule) = rule-at index p below in
-          let here : bookClaims book places ahead (g .tokens) i p = subst (λ (t : ℕ). bookClaims book places ahead t i p) same (laid .claim) in
-          claims-exactly (indexes-limits index) rule (looks .each rule) i .1 (sym (left-is index rule) ∙ here .of-row, here .has-bit)
-
   derived-claim : (i p : ℕ) → ClaimsCell g i p → Laid (bookClaims book places ahead T) count 0 i p
-  derived-claim i p k =
-      let (row, bit) = claims-exactly (indexes-limits index) (k .rule) (looks .each (k .rule)) i .0 k in
-      let here : bookClaims book places ahead (g .tokens) i p = record { of-row = left-is index (k .rule) ∙ row; has-bit = bit } in
-      record {
-        claim = subst (λ (t : ℕ). bookClaims book places ahead t i p) (sym same) here;
-        turn = inl (omega (arith, index .counted, below-rule (k .rule)));
-      }
+  derived-claim i p k = let (below, claim) = claims-indexed i p .0 k in record { claim = claim; turn = inl below }
 
   module _ {table : List ℕ} {contest : Contest} (ledger : Ledger (Laid (bookClaims book places ahead T) count 0) table contest) where
     unrivalled : (j : ℕ) → j < contest .cell → (r s : ℕ) → ClaimsCell g j r → ClaimsCell g j s → r ≡ s

@@ -45,7 +45,7 @@ unfolding house
 house-build a b c = served house-serves (record { first-fits = a; follow-fits = b }) c house-first-sets house-follow-sets house-table-of
 
 -- H1: building gives 8, place 12, detail 515
-conflicted-house-serves : Serves conflictedHouseBook conflictedHouse
+pub conflicted-house-serves : Serves conflictedHouseBook conflictedHouse
 unfolding spells marked wanted records symbols symbolOf ending conflictedHouseBook conflictedHouse has productives workedUseful below
 conflicted-house-serves = record { read = refl; useful = useful-tested conflictedHouse 4 tt tt }
 

@@ -1,7 +1,7 @@
 -- What building goes by: which productions claim a cell by their left sides and lookaheads, and what is kept of the
 -- claims laid so far: the lowest claimant of each cell, and the first cell with two.
 -- Document 01, "Sets and table" and refusal 8.
--- Only contracts inside the crate cite what stands here.
+-- Only contracts inside the crate, and those inside `checker`, cite what stands here.
 use mathlib.Core.Path.{_≡_}
 use mathlib.Core.Bool.{Bool, true, false}
 use mathlib.Core.Logic.{_⊎_, _≢_}

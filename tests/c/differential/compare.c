@@ -152,6 +152,21 @@ static void compare_builds(void)
     compare(BUILD, number, wanted, lent, 4);
 }
 
+static void compare_checks(void)
+{
+    make_table(&in.shape);
+    if (chance(40))
+        change_cell(&in.shape);
+    spoil_book();
+    size_t size = answer_size();
+    struct lent lent[] = { lend_bytes(size) };
+    uint32_t wanted = plain_check_table(book(), in.book_length, table(), in.table_length, wanted_bytes(&lent[0]), size);
+    uint32_t number = desk_check_table(book(), in.book_length, table(), in.table_length, lent_bytes(&lent[0]), size);
+    compare(CHECK, number, wanted, lent, 1);
+    if (!passes_as_built())
+        show_difference(CHECK, number, wanted, "check and build");
+}
+
 static uint64_t any_production_number(void)
 {
     static const uint64_t others[] = { 127, 128, 255, 256, UINT64_C(1) << 32, UINT64_MAX };
@@ -205,8 +220,10 @@ void compare_case(unsigned long number)
         compare_judgements();
     else if (kind < 76)
         compare_sets();
-    else if (kind < 88)
+    else if (kind < 83)
         compare_builds();
+    else if (kind < 88)
+        compare_checks();
     else if (kind < 94)
         compare_lookaheads();
     else

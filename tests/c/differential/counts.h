@@ -3,7 +3,7 @@
 
 #include <stdint.h>
 
-enum function { RUN, EXPAND, JUDGE, SETS, BUILD, LOOKAHEAD, FIRST_OF, FUNCTIONS };
+enum function { RUN, EXPAND, JUDGE, SETS, BUILD, LOOKAHEAD, FIRST_OF, CHECK, FUNCTIONS };
 
 extern const char *const function_names[FUNCTIONS];
 

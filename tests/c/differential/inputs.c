@@ -98,3 +98,11 @@ void make_table(const struct shape *shape)
         in.table_length = chance(50) ? pick(0, in.table_length - 1)
                                      : extend(in.table, in.table_length, sizeof in.table);
 }
+
+void change_cell(const struct shape *shape)
+{
+    if (in.table_length == 0)
+        return;
+    size_t cell = pick(0, in.table_length - 1);
+    in.table[cell] = any_cell(shape, cell / (shape->terminals + 1));
+}

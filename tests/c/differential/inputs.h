@@ -29,6 +29,9 @@ void spoil_book(void);
 /* The book's own table if it has one, else one made in another way. */
 void make_table(const struct shape *shape);
 
+/* Changes one cell of the table to what its row allows there. */
+void change_cell(const struct shape *shape);
+
 /* Derives a token string from the start, which the tokens or the list that are made next come from. */
 void make_derivation(const struct shape *shape);
 

@@ -16,6 +16,8 @@ static struct {
     { "first of two parts", 0 },
     { "all symbols counted", 0 },
     { "not all symbols counted", 0 },
+    { "a table passed as built", 0 },
+    { "a table not passed nor built", 0 },
 };
 
 /* Whether the book is right, its table was built without conflict, and the case's table is that one. */
@@ -92,6 +94,15 @@ bool all_counted(void)
     bool vanishes = (set & DESK_EMPTY_STRING) != 0;
     laws[vanishes ? 3 : 4].met++;
     return vanishes == (count == in.string_length);
+}
+
+bool passes_as_built(void)
+{
+    uint8_t answer[DESK_ANSWER_SIZE];
+    bool passed = desk_check_table(in.book, in.book_length, in.table, in.table_length, answer, sizeof answer)
+               == DESK_DONE;
+    laws[passed ? 5 : 6].met++;
+    return passed == table_is_built();
 }
 
 unsigned print_laws(void)

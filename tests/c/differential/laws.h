@@ -15,6 +15,9 @@ bool parts_join(void);
 /* FIRST of the string has the empty string exactly if all its symbols are counted as ones that can vanish. */
 bool all_counted(void);
 
+/* The table is passed exactly if building is done and writes it. */
+bool passes_as_built(void);
+
 /* Prints how often each law was met, and gives how many were never. */
 unsigned print_laws(void);
 

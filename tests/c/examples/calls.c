@@ -105,6 +105,32 @@ void check_judge(const char *name, struct slice book, struct wanted wanted)
     try_answers(judge_once, &(struct judge_case){ name, book, wanted });
 }
 
+struct table_case {
+    const char *name;
+    struct slice book;
+    struct slice table;
+    struct wanted wanted;
+};
+
+static void check_table_once(const void *table_case, size_t answer_size)
+{
+    const struct table_case *c = table_case;
+    struct lent answer = lend_bytes(answer_size);
+    bool served = want_served(&answer, &c->wanted);
+    uint32_t number = desk_check_table(lay_slice(BOOK_SLOT, c->book), c->book.length, lay_slice(TABLE_SLOT, c->table),
+                                       c->table.length, lent_bytes(&answer), answer_size);
+    check_number(c->name, "check number", number, served, &c->wanted);
+    check_slice(c->name, "check book", BOOK_SLOT, c->book);
+    check_slice(c->name, "check table", TABLE_SLOT, c->table);
+    check_buffer(c->name, "check answer", &answer);
+}
+
+void check_table(const char *name, struct slice book, struct slice table, struct wanted wanted)
+{
+    struct table_case c = { name, book, table, wanted };
+    try_answers(check_table_once, &c);
+}
+
 static void want_sets(const struct grammar *grammar, const struct lent *first, const struct lent *follow)
 {
     want_words(first, grammar->first, nonterminals_of(grammar));

@@ -1,0 +1,3 @@
+pub mod Calls
+pub mod Checking
+pub mod Examples
