@@ -1,0 +1,14 @@
+pub mod FormSound
+pub mod FormComplete
+pub mod Place
+pub mod Stepping
+pub mod Drafts
+pub mod Faults
+pub mod Fields
+pub mod Outcomes
+pub mod Trips
+pub mod Longest
+pub mod Examples
+pub mod BookText
+pub mod Copying
+pub mod Theorems

@@ -1,0 +1,5 @@
+pub mod Sheet
+pub mod Calls
+pub mod Form
+pub mod Examples
+pub mod Writing

@@ -1,0 +1,3 @@
+// Grammar sheets: a book as text that can be typed, and back.
+mod form;
+pub mod writing;
