@@ -83,7 +83,7 @@ side-split (s ∷ form) (r ∷ other) {u} {v} e =
     (ap₂ _∷_ same forms, lines)
 
 -- a line with its parts in one row
-line-parts : (r : Production) (rest : List ℕ)
+pub line-parts : (r : Production) (rest : List ℕ)
     → lineText r ++ rest ≡ letterN ∷ (decimal (r .left) ++ (space ∷ colon ∷ (symbolsText (r .right) ++ (lineFeed ∷ rest))))
 unfolding lineText
 line-parts r rest = simp append-assoc

@@ -11,4 +11,10 @@ pub mod Longest
 pub mod Examples
 pub mod BookText
 pub mod Copying
+pub mod Turning
+pub mod Putting
+pub mod Standing
+pub mod Values
+pub mod Booked
+pub mod Answering
 pub mod Theorems

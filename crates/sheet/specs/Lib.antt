@@ -3,3 +3,5 @@ pub mod Calls
 pub mod Form
 pub mod Examples
 pub mod Writing
+pub mod Judging
+pub mod Booking
