@@ -11,6 +11,7 @@ pub mod Longest
 pub mod Examples
 pub mod BookText
 pub mod Copying
+pub mod Within
 pub mod Turning
 pub mod Putting
 pub mod Standing
@@ -18,3 +19,4 @@ pub mod Values
 pub mod Booked
 pub mod Answering
 pub mod Theorems
+pub mod Promise

@@ -10,7 +10,7 @@ use lib.ListN.{length, take, replicate, length-append}
 use Rattle.grammar.specs.declared.Symbol.{Symbol}
 use Rattle.grammar.specs.declared.Symbol.the-variants.{Token, Nonterminal}
 use Rattle.grammar.specs.Grammar.{Form, Production, Grammar, Every, nothing, each, Known, known-token, known-nonterminal}
-use Rattle.answers.specs.Limits.{mostTokens, mostNonterminals, mostProductions, mostSymbols}
+use Rattle.answers.specs.Limits.{mostCells, mostTokens, mostNonterminals, mostProductions, mostSymbols}
 use Rattle.text.specs.Text.{digit, lastDigits, decimal}
 use Rattle.text.proofs.Promise.{decimal-length, decimal-longer}
 use Rattle.reader.specs.Book.{Limits}
@@ -99,6 +99,11 @@ module _ (g : Grammar) (limits : Limits g) where
         lines-length (limits-held g limits),
         mul-le-mul-right (6 + mostSymbols * (2 + tokenDigits)) (limits .productions-fit),
       )
+
+-- and it is far below the cells of a lent buffer that count
+pub longest-counted : longestSheet ≤ mostCells
+unfolding longestSheet decimal lastDigits digit
+longest-counted = lit≤ tt
 
 -- a grammar whose sheet is of that length
 longest : Grammar

@@ -19,9 +19,10 @@ use Rattle.text.specs.Text.{decimal}
 use Rattle.reader.specs.Faults.{Fault, bad-mark, extra-byte, over-limit, not-a-symbol}
 use Rattle.reader.specs.Book.{refused, reads, spells, bytesOf, Limits}
 use Rattle.reader.proofs.Promise.{read-written, written-read, read-limits, longest-book, refused-kinds}
-use Rattle.sheet.specs.Sheet.{Draft, draftText, draftOf, sheetOf, HasForm, symbolText, lineText, Field, symbolField, symbolsFields, lineFields, linesFields, firstLine, firstFields, announced, fieldsOf, FirstFault, here, later}
+use Rattle.sheet.specs.Sheet.{Draft, draftText, draftOf, sheetOf, HasForm, symbolText, lineText, Field, symbolField, symbolsFields, lineFields, linesFields, firstLine, firstFields, announced, fieldsOf, FirstFault, here, later, longestSheet}
 use Rattle.sheet.specs.Calls.{Copied, no-room, served, WriteOutcome, misread, written, ReadOutcome, malformed, faulty, missing, beyond, booked}
 use Rattle.sheet.proofs.Outcomes.{write-outcome-unique, read-outcome-unique}
+use Rattle.sheet.proofs.Longest.{longest-sheet}
 
 -- values are refused with 4 or 5
 abbrev Kind : Field → Type 0
@@ -102,6 +103,17 @@ write-served : {book buffer : List ℕ} {a : Answer} {after : List ℕ} → Writ
 unfolding refusal
 write-served {book} (misread {number = n} {place = k} e) none = absurd (⊎-elim (λ h. omega arith) (λ f. omega (arith, fault-counts f)) (refused-kinds book e .kind))
 write-served (written {g = g} e copied) none = record { grammar = g; read = e; stands = copied-stands copied none }
+
+-- the bytes written are no more than those of the longest book and of the longest sheet
+pub read-steps : {sheet buffer : List ℕ} {a : Answer} {after : List ℕ} → ReadOutcome sheet buffer a after → a .number ≡ 0 → a .steps ≤ longestBook
+read-steps outcome reads-well =
+    let s = read-served outcome reads-well in
+    omega (arith, s .stands .counted, longest-book (bytesOf (s .grammar)) (read-written (s .limits)))
+
+pub write-steps : {book buffer : List ℕ} {a : Answer} {after : List ℕ} → WriteOutcome book buffer a after → a .number ≡ 0 → a .steps ≤ longestSheet
+write-steps {book} outcome reads-well =
+    let s = write-served outcome reads-well in
+    omega (arith, s .stands .counted, longest-sheet (s .grammar) (read-limits book (s .read)))
 
 -- a sheet is served, given room, exactly if it is that of a grammar within the limits
 pub sheet-reads-iff : {sheet buffer : List ℕ} → longestBook ≤ length buffer
