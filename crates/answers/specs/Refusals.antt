@@ -41,6 +41,9 @@ syntax = 11
 abbrev pub production : ℕ
 production = 12
 
+abbrev pub form : ℕ
+form = 13
+
 abbrev pub pattern : ℕ
 pattern = 14
 

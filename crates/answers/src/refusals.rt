@@ -25,6 +25,8 @@ pub const SYNTAX: u32 = 11;
 
 pub const PRODUCTION: u32 = 12;
 
+pub const FORM: u32 = 13;
+
 pub const PATTERN: u32 = 14;
 
 pub const NO_TOKEN: u32 = 15;

@@ -1,5 +1,5 @@
 -- From what the bytes spell, and the lowest useless nonterminal, to what judging answers.
-use mathlib.Core.Path.{_≡_, refl, sym, _∙_, ap}
+use mathlib.Core.Path.{_≡_, ap, _∙_}
 use mathlib.Core.List.{List}
 use Prim.Native.Nat.{ℕ, _≤_, _<_, min}
 use native.Mathlib.Omega.{arith}
@@ -9,37 +9,15 @@ use Rattle.answers.specs.Limits.{mostProductions}
 use Rattle.answers.specs.declared.Answer.{Answer}
 use Rattle.answers.specs.Answers.{done, refusal}
 use Rattle.answers.specs.Refusals.{useless}
-use Rattle.reader.specs.declared.Verdict.{Verdict}
-use Rattle.reader.specs.declared.Verdict.the-variants.{Next, Bad}
-use Rattle.reader.specs.Book.{Spelling, refused, reads, spells}
+use Rattle.reader.specs.Book.{reads, spells}
 use Rattle.reader.specs.Fields.{placesOf}
-use Rattle.reader.specs.Verdicts.{verdictOn, verdictOf}
 use Rattle.reader.proofs.Promise.{read-limits}
 use Rattle.book.specs.Judging.{AllUseful, refusing, indexOf, Judged, refuses, serves, useless-one}
 use Rattle.book.specs.Useful.{Surveyed, FirstUseless, TellsUseless, Indexed}
 use Rattle.book.proofs.Index.{header-tokens, header-nonterminals, header-start, header-productions, places-indexed}
 use Rattle.book.proofs.Sides.{sides-surveyed}
 
-spelling-read : (size : ℕ) (x : Spelling) {at : ℕ} → verdictOn size x ≡ Next at → (g : Grammar) × (x ≡ reads g)
-unfolding verdictOn
-spelling-read size (reads g) e = (g, refl)
-spelling-read size (refused number place) e = let bad : _≡_ {A = ℕ} 0 1 = cc in absurd (omega arith)
-
-spelling-refused : (size : ℕ) (x : Spelling) {number place : ℕ} → verdictOn size x ≡ Bad number place → x ≡ refused number place
-unfolding verdictOn
-spelling-refused size (reads g) e = let bad : _≡_ {A = ℕ} 0 1 = cc in absurd (omega arith)
-spelling-refused size (refused number place) e = cc
-
 module _ (b : List ℕ) where
-  -- a verdict that goes on means that the book spells a grammar
-  pub verdict-reads : {v : Verdict} {at : ℕ} → v ≡ verdictOf b → v ≡ Next at → (g : Grammar) × (spells b ≡ reads g)
-  unfolding verdictOf
-  verdict-reads e next = spelling-read (length b) (spells b) (sym e ∙ next)
-
-  pub verdict-refused : {v : Verdict} {number place : ℕ} → v ≡ verdictOf b → v ≡ Bad number place → spells b ≡ refused number place
-  unfolding verdictOf
-  verdict-refused e bad = spelling-refused (length b) (spells b) (sym e ∙ bad)
-
   -- as many records are surveyed as there are productions
   pub header-counted : {g : Grammar} {P count : ℕ} → spells b ≡ reads g → P ≡ getD b 5 0 → count ≡ min P mostProductions → count ≡ length (g .productions)
   header-counted read P-is count-is = omega (arith, P-is, count-is, header-productions b read, read-limits b read .productions-fit)

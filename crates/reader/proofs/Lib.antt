@@ -10,6 +10,7 @@ pub mod Positions
 pub mod Order
 pub mod Place
 pub mod Longest
+pub mod Telling
 pub mod Cells
 pub mod Forms
 pub mod Walking

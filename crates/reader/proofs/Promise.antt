@@ -8,6 +8,7 @@ pub use Rattle.reader.proofs.Bytes.{symbolOf-known, refused-not-reads}
 pub use Rattle.reader.proofs.Forms.{form-next, form-turn, form-past, form-none, form-dropped}
 pub use Rattle.reader.proofs.Forms.{every-in, form-spelled, symbol-token, symbol-nonterminal, byte-of-symbol}
 pub use Rattle.reader.proofs.Forms.{symbol-low, symbol-high, symbol-none}
-pub use Rattle.reader.proofs.Written.{written-read, read-limits}
+pub use Rattle.reader.proofs.Written.{read-written, written-read, read-limits}
 pub use Rattle.reader.proofs.Longest.{longest-book, judged-by-first, refused-within}
 pub use Rattle.reader.proofs.Place.{refused-kinds}
+pub use Rattle.reader.proofs.Telling.{verdict-reads, verdict-refused}

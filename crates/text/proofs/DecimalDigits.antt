@@ -124,6 +124,12 @@ decimal-length n = numeral-length n (decimal n) (decimal-numeral n)
 pub decimal-length-word : (n : ℕ) → n < 2 ^ 64 → length (decimal n) ≤ 20
 decimal-length-word n fits = decimal-length n 20 (omega arith) (omega arith)
 
+-- a larger number has no fewer digits
+pub decimal-longer : (n m : ℕ) → n ≤ m → length (decimal n) ≤ length (decimal m)
+decimal-longer n m less =
+    decimal-length n (length (decimal m)) (decimal-first m .0)
+    (omega (arith, decimal-value m, value-below 10 (decimal m) (each-kind decimal-is-digit (decimal m) (decimal-digits m))))
+
 pub numeral-unique : (n : ℕ) (text other : List ℕ) → Numeral n text → Numeral n other → text ≡ other
 numeral-unique n text other p q =
     value-injective 10 text other (digits text p) (digits other q)

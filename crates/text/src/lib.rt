@@ -1,9 +1,20 @@
-// Texts and numbers written into a lent buffer. A place goes in and the next one comes back; what finds no room is not
-// written.
+// Texts and numbers written into a lent buffer, and numbers read from a text.
+// A place goes in and the next one comes back; what finds no room is not written.
 ghost use mathlib.Core.Path.{_≡_};
 ghost use mathlib.Core.List.{[], _∷_};
-ghost use Prim.Native.Nat.{_<_};
+ghost use Prim.Native.Nat.{_+_, _-_, _*_, _≤_, _<_, min};
+ghost use lib.ListN.{getD};
 ghost use Rattle.text.specs.Text.{digit, decimal, hexadecimal, Put};
+ghost use Rattle.text.specs.Reading.{isDigit, mostRead, numberAt};
+
+// A number that was read, and the place behind it.
+pub struct Number {
+    pub value: u64,
+    pub next: usize,
+}
+
+// Larger numbers are read as this one.
+pub const MOST_READ: u64 = 1000;
 
 // One byte, where there is room.
 pub fn put(out: &mut [u8], at: usize, byte: u8) -> usize
@@ -64,4 +75,44 @@ pub fn hexadecimal(out: &mut [u8], at: usize, n: u64) -> usize
         place = put(out, place, digit((n >> (4 * left)) % 16));
     }
     place
+}
+
+// '0' to '9'.
+pub fn is_digit(byte: u8) -> bool
+    ensures { λ r. ⌜ r ≡ isDigit byte ⌝ }
+{
+    if byte < b'0' { false } else { byte < b'0' + 10 }
+}
+
+// Whether a digit stands at the place.
+fn digit_at(text: &[u8], at: usize) -> bool
+    ensures { λ r. ⌜ r ≡ isDigit (getD (now (text .entry)) at 0) ⌝ }
+{
+    if at < text.len() {
+        is_digit(text[at])
+    } else {
+        false
+    }
+}
+
+// The number with one digit more.
+fn with_digit(value: u64, byte: u8) -> u64
+    requires { ⌜ (value ≤ mostRead) × (48 ≤ byte) ⌝ }
+    ensures { λ r. ⌜ r ≡ min (10 * value + (byte - 48)) mostRead ⌝ }
+{
+    let more = 10 * value + (byte - b'0') as u64;
+    if more < MOST_READ { more } else { MOST_READ }
+}
+
+// The number that the digits from `at` on spell, all that stand there; none spell 0.
+pub fn read_number(text: &[u8], at: usize) -> Number
+    ensures { λ r. ⌜ r ≡ numberAt (now (text .entry)) at ⌝ }
+{
+    let mut value: u64 = 0;
+    let mut next = at;
+    while digit_at(text, next) {
+        value = with_digit(value, text[next]);
+        next += 1;
+    }
+    Number { value, next }
 }

@@ -1,7 +1,7 @@
 -- A verdict that goes on means that the book spells a grammar.
 use borrow.Author.Needs.{needs}
 use Rattle.book.specs.Judging.{refuses, misread}
-use Rattle.book.proofs.Outcome.{verdict-reads, verdict-refused}
+use Rattle.reader.proofs.Promise.{verdict-reads, verdict-refused}
 use Rattle.book.proofs.judging.judge.Statement.{statement}
 use Rattle.book.proofs.judging.judge.Tie as tie
 
