@@ -3,22 +3,30 @@ use mathlib.Core.Path.{_≡_, refl}
 use mathlib.Core.List.{List}
 use Prim.Native.Nat.{ℕ}
 use native.Mathlib.Omega.{arith}
-use lib.ListN.{drop}
+use lib.ListN.{length, drop}
 use Rattle.grammar.specs.Grammar.{Grammar}
 use Rattle.answers.specs.declared.Answer.{Answer}
 use Rattle.answers.specs.Buffers.{over, cleared}
+use Rattle.answers.specs.Lowest.{Lowest}
 use Rattle.answers.proofs.Promise.{lowest-unique}
 use Rattle.table.proofs.Promise.{misfit-not-fit, misfit-unique}
 use Rattle.machine.specs.Machine.{final}
 use Rattle.stack.proofs.Promise.{Call, refused, barred, ended, Apart, call-unique}
 use Rattle.offer.specs.Strings.{ran}
 use Rattle.offer.specs.Stops.{runAnswer}
-use Rattle.run.specs.Running.{FirstStrange, Barred, bad-table, too-long, strange, no-stack, Admits, wordsOf, RunOutcome, matchedIn, BesideOutcome}
+use Rattle.run.specs.Running.{Strange, FirstStrange, Barred, bad-table, too-long, strange, no-stack, Admits, wordsOf, RunOutcome, matchedIn, BesideOutcome}
 use Rattle.run.specs.Running as running
 
 -- the first strange token is determined
 pub first-strange-unique : {g : Grammar} {tokens : List ℕ} {i j : ℕ} → FirstStrange g tokens i → FirstStrange g tokens j → i ≡ j
 first-strange-unique a b = lowest-unique (a .lowest) (b .lowest)
+
+-- and so is the first token that is not below a limit
+pub first-above-unique : (limit : ℕ) (tokens : List ℕ) {i j : ℕ}
+    → Lowest (Strange limit tokens) (length tokens) i
+    → Lowest (Strange limit tokens) (length tokens) j
+    → i ≡ j
+first-above-unique limit tokens = lowest-unique
 
 module _ {g : Grammar} {table tokens stack : List ℕ} where
   -- what is refused before steps is refused with one answer

@@ -40,7 +40,7 @@ fn highest(tokens: &[u8]) -> u8
 
 // The first token that is not below `limit`, or the length. Where the highest one is below it no search is made, which
 // is faster.
-fn first_above(tokens: &[u8], limit: u8) -> usize
+pub fn first_above(tokens: &[u8], limit: u8) -> usize
     ensures { λ r. ⌜ Lowest (Strange limit (now (tokens .entry))) (length (now (tokens .entry))) r ⌝ }
 {
     if highest(tokens) < limit {

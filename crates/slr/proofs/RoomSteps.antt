@@ -1,14 +1,14 @@
 -- Single steps of the machine with room: what the run from here is where the cell, the move and the room are known.
 use mathlib.Core.Path.{_≡_, _∙_}
 use mathlib.Core.List.{List, [], _∷_}
-use mathlib.Core.Option.{some}
+use mathlib.Core.Option.{some, none}
 use Prim.Native.Nat.{ℕ, zero, suc, _-_, _≤_, _<_}
 use native.Mathlib.Omega.{arith}
 use lib.ListN.{length, drop, length-append}
 use Rattle.grammar.specs.Grammar.{Column, token, endmark}
 use Rattle.grammar.specs.Machine.{front}
 use Rattle.slr.specs.Actions.{Action, shift, reduce, accept}
-use Rattle.slr.specs.RoomMachine.{Setting, Progress, SlrReason, full-list, full-stack, SlrOffered, taken, stopped, shifted, reduced, shifting, uncovering, acting, slrFacing, moving, slrOffer, slrRunFrom}
+use Rattle.slr.specs.RoomMachine.{Setting, Progress, SlrReason, full-list, full-stack, wants, SlrOffered, taken, stopped, shifted, reduced, shifting, uncovering, acting, slrFacing, moving, slrOffer, slrRunFrom}
 use Rattle.slr.proofs.Codes.{below-true, below-false}
 
 module _ (m : Setting) where
@@ -95,6 +95,38 @@ module _ (m : Setting) where
   unfolding slrRunFrom
   run-same [] s s′ e = e
   run-same (t ∷ w) s s′ e = rw (e, slrRunFrom)
+
+  -- the table does not allow a step: no action, no state uncovered, or no move
+  offer-any : (c : Column) (s : Progress) {o : SlrOffered}
+      → ((apply : ℕ → ℕ → List ℕ → SlrOffered) → slrFacing m apply c s ≡ o)
+      → (l : ℕ) → slrOffer m l c s ≡ o
+  unfolding slrOffer
+  offer-any c s h zero = h _
+  offer-any c s h (suc l) = h _
+
+  module _ (w : List ℕ) (s : Progress) where
+    abbrev left : ℕ
+    left = m .cells - length (s .listed)
+
+    pub run-empty : m .cell (s .top) (front w) ≡ none → slrRunFrom m w s ≡ stopped (wants (s .top)) s
+    unfolding slrFacing
+    run-empty e = run-stops w s (wants (s .top)) (offer-any (front w) s (λ apply. rw (e, slrFacing)) left)
+
+    module _ (p : ℕ) (reduces : m .cell (s .top) (front w) ≡ some (reduce p)) where
+      pub run-bare : drop (m .size p) (s .top ∷ s .below) ≡ [] → slrRunFrom m w s ≡ stopped (wants (s .top)) s
+      unfolding acting uncovering
+      run-bare e =
+          run-stops w s (wants (s .top))
+          (offer-any (front w) s (λ apply. facing-some apply (front w) s (reduce p) reduces ∙ rw (e, uncovering)) left)
+
+      pub run-no-move : (k : ℕ) (rest : List ℕ)
+          → drop (m .size p) (s .top ∷ s .below) ≡ k ∷ rest
+          → m .move k (m .left p) ≡ none
+          → slrRunFrom m w s ≡ stopped (wants (s .top)) s
+      unfolding acting uncovering
+      run-no-move k rest e f =
+          run-stops w s (wants (s .top))
+          (offer-any (front w) s (λ apply. facing-some apply (front w) s (reduce p) reduces ∙ rw (e, f, uncovering)) left)
 
   module _ (w : List ℕ) (s : Progress) (p j k : ℕ) (rest : List ℕ) (reduces : m .cell (s .top) (front w) ≡ some (reduce p))
       (uncovers : drop (m .size p) (s .top ∷ s .below) ≡ k ∷ rest) (moves : m .move k (m .left p) ≡ some j) where

@@ -1,0 +1,4 @@
+pub mod Fitting
+pub mod Rowwise
+pub mod Checks
+pub mod Unique
