@@ -2,12 +2,14 @@
 -- lend an answer buffer long enough.
 use mathlib.Core.Path.{_≡_, refl, sym, _∙_, subst}
 use mathlib.Core.List.{List}
-use Prim.Native.Nat.{ℕ, _^_, _<_}
+use Prim.Native.Nat.{ℕ, _^_, _≤_, _<_}
 use native.Mathlib.Nat.{mul-le-mul}
 use native.Mathlib.Omega.{arith}
-use lib.ListN.{length}
+use lib.ListN.{length, take}
 use Rattle.grammar.specs.Machine.{Longest}
-use Rattle.answers.specs.Buffers.{counted}
+use Rattle.answers.specs.Answers.{done}
+use Rattle.answers.specs.Buffers.{counted, over}
+use Rattle.answers.specs.Refusals.{served}
 use Rattle.patterns.specs.Calls.{JudgePatterns}
 use Rattle.pieces.specs.Calls.{CutWithOutcome}
 use Rattle.cut.specs.Calls.{CutOutcome}
@@ -24,18 +26,21 @@ use Rattle.run.specs.Running.{RunOutcome}
 use Rattle.run.proofs.Promise.{run-outcome-unique}
 use Rattle.expand.specs.Expanding.{ExpandOutcome}
 use Rattle.expand.proofs.Promise.{expand-outcome-unique}
+use Rattle.sheet.specs.Calls.{WriteOutcome, ReadOutcome}
 use Rattle.demands.specs.Formula.{RunWithinFormula}
 use Rattle.demands.specs.Demands.{BuildMeets2, ExpandMeets2, RunMeets2, RunMeets3, RunStepsAdd, ExpandStepsAdd}
 use Rattle.demands.proofs.Promise.{build-meets2, run-meets3, run-meets2, run-steps-add, run-formula, expand-meets2}
 use Rattle.demands.proofs.Promise.{expand-steps-add}
 use Rattle.desk.specs.Desk.{littleEndian, answerBytes, answerSize, Lent, LentCell, JudgeOutcome, SetOutcome}
 use Rattle.desk.specs.Desk.{JudgeCall, PatternsCall, CutCall, CutWithCall, SetsCall, BuildCall, RunCall}
-use Rattle.desk.specs.Desk.{ExpandCall, LookaheadCall, FirstCall}
+use Rattle.desk.specs.Desk.{ExpandCall, LookaheadCall, FirstCall, WriteSheetCall, ReadSheetCall}
 use Rattle.desk.specs.Demands.{answerFrom}
 use Rattle.desk.proofs.Calls.{called-answer, called-unique, two-unique, three-unique, judge-outcome-unique}
 use Rattle.desk.proofs.Calls.{patterns-outcome-unique, cut-with-same, set-outcome-unique}
 use Rattle.desk.proofs.ReadBack.{FitsWords, answer-read, called-exact}
 use Rattle.desk.proofs.Fitting.{ran-bounded, run-fits, expand-fits, judge-fits, sets-fits, build-fits}
+use Rattle.desk.proofs.SheetCalls.{write-sheet-same, read-sheet-same, write-sheet-fits, read-sheet-fits}
+use Rattle.desk.proofs.SheetCalls.{call-sheet-book-sheet, call-book-sheet-book}
 use Rattle.desk.proofs.Fitting.{lookahead-fits, first-fits, patterns-fits, cut-fits, cut-with-fits}
 
 -- any two outcomes that a call allows are equal: the number returned, and every lent buffer
@@ -115,6 +120,18 @@ pub first-call-unique : (book symbols cells answer : List ℕ) {n m : ℕ} {s t 
 first-call-unique book symbols cells answer c d =
     called-unique (set-outcome-unique (λ r q o p. first-outcome-unique book symbols o p)) (c .call) (d .call)
 
+pub write-sheet-call-unique : (book sheet answer : List ℕ) {n m : ℕ} {s t x y : List ℕ}
+    → WriteSheetCall book sheet answer n s x
+    → WriteSheetCall book sheet answer m t y
+    → (n ≡ m) × (s ≡ t) × (x ≡ y)
+write-sheet-call-unique book sheet answer c d = called-unique (write-sheet-same book sheet) (c .call) (d .call)
+
+pub read-sheet-call-unique : (sheet book answer : List ℕ) {n m : ℕ} {s t x y : List ℕ}
+    → ReadSheetCall sheet book answer n s x
+    → ReadSheetCall sheet book answer m t y
+    → (n ≡ m) × (s ≡ t) × (x ≡ y)
+read-sheet-call-unique sheet book answer c d = called-unique (read-sheet-same sheet book) (c .call) (d .call)
+
 -- the words lose nothing: where the book and the table are shorter than 2 ^ 64, the answer read from them is an answer
 -- of the function beneath
 pub run-call-exact : {book table tokens stack list answer : List ℕ} {n : ℕ} {s l x : List ℕ}
@@ -180,6 +197,42 @@ pub first-call-exact : {book symbols cells answer : List ℕ} {n : ℕ} {s x : L
     → FirstCall book symbols cells answer n s x
     → SetOutcome (FirstOutcome book symbols) cells (answerFrom n x) s
 first-call-exact b lent c = called-exact (λ a o. subst FitsWords (o .answer) (first-fits b (o .outcome))) lent (c .call)
+
+pub write-sheet-call-exact : {book sheet answer : List ℕ} {n : ℕ} {s x : List ℕ}
+    → length book < 2 ^ 64
+    → Lent answer
+    → WriteSheetCall book sheet answer n s x
+    → WriteOutcome book sheet (answerFrom n x) s
+write-sheet-call-exact b lent c = called-exact (λ a o. write-sheet-fits b o) lent (c .call)
+
+pub read-sheet-call-exact : {sheet book answer : List ℕ} {n : ℕ} {s x : List ℕ}
+    → length sheet < 2 ^ 64
+    → Lent answer
+    → ReadSheetCall sheet book answer n s x
+    → ReadOutcome sheet book (answerFrom n x) s
+read-sheet-call-exact w lent c = called-exact (λ a o. read-sheet-fits w o) lent (c .call)
+
+-- over and back by calls: a sheet that is read, and the bytes that it gave written again, with room for it
+pub desk-sheet-book-sheet : {sheet bookRoom sheetRoom book text answer again : List ℕ} {n m : ℕ} {x y : List ℕ}
+    → Lent answer
+    → Lent again
+    → ReadSheetCall sheet bookRoom answer n book x
+    → n ≡ served
+    → length sheet ≤ length sheetRoom
+    → WriteSheetCall (take (answerFrom n x .steps) book) sheetRoom again m text y
+    → (m ≡ served) × (text ≡ over sheet sheetRoom) × (y ≡ over (answerBytes (done (length sheet))) again)
+desk-sheet-book-sheet = call-sheet-book-sheet
+
+-- and a book that is written as a sheet and read again
+pub desk-book-sheet-book : {book sheetRoom bookRoom sheet bytes answer again : List ℕ} {n m : ℕ} {x y : List ℕ}
+    → Lent answer
+    → Lent again
+    → WriteSheetCall book sheetRoom answer n sheet x
+    → n ≡ served
+    → length book ≤ length bookRoom
+    → ReadSheetCall (take (answerFrom n x .steps) sheet) bookRoom again m bytes y
+    → (m ≡ served) × (bytes ≡ over book bookRoom) × (y ≡ over (answerBytes (done (length book))) again)
+desk-book-sheet-book = call-book-sheet-book
 
 -- the demands of one call that lends an answer buffer long enough, its answer read back from the number returned and
 -- the words written

@@ -20,6 +20,7 @@ use Rattle.follow.specs.Calls.{SetsOutcome, LookaheadOutcome}
 use Rattle.table.specs.Calls.{BuildOutcome}
 use Rattle.run.specs.Running.{RunOutcome}
 use Rattle.expand.specs.Expanding.{ExpandOutcome}
+use Rattle.sheet.specs.Calls.{WriteOutcome, ReadOutcome}
 
 -- a number in so many bytes, the lowest first
 unfoldable pub littleEndian : ℕ → ℕ → List ℕ
@@ -137,3 +138,13 @@ pub record FirstCall (book symbols cells answer : List ℕ) (number : ℕ) (cell
   pub call :
       Called {Buffers = List ℕ} (LentCell cells answer) (SetOutcome (FirstOutcome book symbols) cells) cells answer
       number cells′ answer′
+
+-- the sheet of a book
+pub record WriteSheetCall (book sheet answer : List ℕ) (number : ℕ) (sheet′ answer′ : List ℕ) : Type 0 where
+  pub call :
+      Called {Buffers = List ℕ} (Lent answer) (WriteOutcome book sheet) sheet answer number sheet′ answer′
+
+-- the book of a sheet
+pub record ReadSheetCall (sheet book answer : List ℕ) (number : ℕ) (book′ answer′ : List ℕ) : Type 0 where
+  pub call :
+      Called {Buffers = List ℕ} (Lent answer) (ReadOutcome sheet book) book answer number book′ answer′
