@@ -3,6 +3,8 @@
 # make list BOOK=FILE     lists a book
 # make restore            the example program in C, target/c/restore
 # make cut LINE=..        cuts a line as typed and runs its tokens; without LINE, the lines on standard input
+# make sheet BOOK=FILE    writes a book's sheet, the book as text that can be typed
+# make book SHEET=FILE    writes a sheet's book
 # make bench              the benchmark
 # make stack              the machine stack that each C function uses
 SHELL := /bin/bash

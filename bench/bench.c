@@ -1,6 +1,7 @@
 #include "desk.h"
 #include "house.h"
 #include "plain.h"
+#include "plain_sheets.h"
 #include "source.h"
 #include "timing.h"
 
@@ -231,6 +232,18 @@ static void check_desk(void) { EACH_TIME(desk_check_table(CHECK_ARGUMENTS)); }
 static void check_plain(void) { EACH_TIME(plain_check_table(CHECK_ARGUMENTS)); }
 static void build_plain(void) { EACH_TIME(plain_build(BUILD_ARGUMENTS)); }
 
+/* The sheet of the workload's book, and room to write one and to read its book. */
+static uint8_t sheet[DESK_MOST_SHEET_BYTES], written[DESK_MOST_SHEET_BYTES], read_book[DESK_MOST_BOOK_BYTES];
+static size_t sheet_length;
+
+#define WRITE_ARGUMENTS BOOK, written, sizeof written, answer, sizeof answer
+#define READ_ARGUMENTS sheet, sheet_length, read_book, sizeof read_book, answer, sizeof answer
+
+static void write_desk(void) { EACH_TIME(desk_write_sheet(WRITE_ARGUMENTS)); }
+static void write_plain(void) { EACH_TIME(plain_write_sheet(WRITE_ARGUMENTS)); }
+static void read_desk(void) { EACH_TIME(desk_read_sheet(READ_ARGUMENTS)); }
+static void read_plain(void) { EACH_TIME(plain_read_sheet(READ_ARGUMENTS)); }
+
 #ifdef WITH_BISON
 static int parse(size_t i)
 {
@@ -257,6 +270,8 @@ void clear_buffers(void)
     memset(answer, 0, sizeof answer);
     memset(first, 0, sizeof first);
     memset(follow, 0, sizeof follow);
+    memset(written, 0, sizeof written);
+    memset(read_book, 0, sizeof read_book);
 }
 
 /* Prints a figure of the workload, with bison's parser as the third where it is timed. */
@@ -287,6 +302,16 @@ static void print_book_figures(struct workload *workload)
     free(workload);
 }
 
+/* The sheet of a book, written and read. */
+static void print_sheet_figures(struct workload *workload)
+{
+    plain_write_sheet(workload->book, workload->book_length, sheet, sizeof sheet, answer, sizeof answer);
+    sheet_length = (size_t)answer[16] | (size_t)answer[17] << 8;
+    print_work("write sheet", workload, "call", 1, write_desk, write_plain, NULL);
+    print_work("read sheet", workload, "call", 1, read_desk, read_plain, NULL);
+    free(workload);
+}
+
 /* Usage: bench [ROUNDS]. */
 int main(int argc, char **argv)
 {
@@ -306,6 +331,8 @@ int main(int argc, char **argv)
     print_book_figures(make_book("largest, records falling", largest, sizeof largest, 50));
     make_largest(largest, true);
     print_book_figures(make_book("largest, records rising", largest, sizeof largest, 50));
+    print_sheet_figures(make_book("house", house_book, sizeof house_book, 10000));
+    print_sheet_figures(make_book("largest", largest, sizeof largest, 200));
     if (failures > 0)
         fail("a call was refused");
     return 0;

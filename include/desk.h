@@ -27,9 +27,9 @@ extern "C" {
 
    Every call returns one of the numbers below and writes five words of 64 bits, lowest byte first whatever the
    machine, into the lent answer buffer: place, detail, steps, expected set and depth, from bytes 0, 8, 16, 24 and 32.
-   The words that the comments below do not name are 0; after DESK_DONE only the steps of a run, an expansion or a cut
-   and the depth of a run or an expansion can be other than 0. The answer is written on every refusal too. Bytes of the
-   answer buffer past 40 stay as they were. There is one exception: where the answer buffer has less than 40 bytes, or a
+   The words that the comments below do not name are 0; after DESK_DONE only the steps of a run, an expansion, a cut or
+   a sheet and the depth of a run or an expansion can be other than 0. The answer is written on every refusal too. Bytes
+   of the answer buffer past 40 stay as they were. There is one exception: where the answer buffer has less than 40 bytes, or a
    set is answered and its buffer has no cell or that of its number has none, the call returns DESK_ROOM before all else
    and writes nothing at all, to the answer buffer or to any other.
 
@@ -38,6 +38,7 @@ extern "C" {
 
 #define DESK_ANSWER_SIZE 40
 #define DESK_MOST_BOOK_BYTES 2566
+#define DESK_MOST_SHEET_BYTES 8973
 #define DESK_MOST_GRAMMAR_TOKENS 62
 #define DESK_MOST_TOKENS 4096
 #define DESK_MOST_CELLS 65535
@@ -87,6 +88,7 @@ enum {
     DESK_TOKEN = 10,
     DESK_SYNTAX = 11,
     DESK_PRODUCTION = 12,
+    DESK_FORM = 13,
     DESK_PATTERN = 14,
     DESK_NO_TOKEN = 15,
     DESK_STATES = 16,
@@ -337,6 +339,47 @@ uint32_t desk_cut(const uint8_t *patterns, size_t patterns_len, const uint64_t *
 uint32_t desk_cut_with(const uint16_t *machine, size_t machine_len, const uint8_t *line, size_t line_len,
                        uint8_t *tokens, size_t tokens_len, uint64_t *ends, size_t ends_len,
                        uint8_t *answer, size_t answer_len);
+
+/* Writes the sheet of a book: the book as text that can be typed, a line for the four numbers of its header and a line
+   for each production. The first line is T, N, the start and P, parted by one space; a production's line is `n` and the
+   left side, ` :`, then for each symbol a space, `t` or `n` and its number. Each line ends with a line feed, the last
+   one too; numbers are decimal without leading zeros, and nothing else stands in a sheet. House book H:
+
+     4 4 0 6
+     n0 : t0 n1
+     n1 : t1 n2 n3
+     n2 : t2 t1
+     n2 :
+     n3 : t3 n1
+     n3 :
+
+   Refusals, in this order:
+     DESK_SHORT, DESK_MARK, DESK_EXTRA, DESK_LIMIT, DESK_SYMBOL of the book, as desk_judge has them; a book with useless
+                   nonterminals has a sheet;
+     DESK_ROOM     the sheet has more bytes than were lent: place is how many it has, detail 0.
+   Refused, the buffer is unchanged. Done, steps is the number of bytes written, and bytes beyond them are unchanged.
+   DESK_MOST_SHEET_BYTES are always enough; a caller who lends none (null with length 0) is told how many it takes.
+   Machine stack: some 9 KB. */
+uint32_t desk_write_sheet(const uint8_t *book, size_t book_len, uint8_t *sheet, size_t sheet_len,
+                          uint8_t *answer, size_t answer_len);
+
+/* Reads a sheet and writes its book: with desk_write_sheet, over and back gives the same bytes, either way.
+
+   Refusals, in this order; place counts bytes of the sheet from 0:
+     DESK_FORM     the sheet has not the form of one, looked at over its whole length before any value: place is the
+                   first byte with which no sheet can go on, or sheet_len where it only breaks off, as without a last
+                   line feed;
+     DESK_LIMIT    T, N, the start or P is out of range: place is its first digit; or a line has a 17th symbol: place is
+                   its letter;
+     DESK_SYMBOL   a left side is not below N, a token not below T, a nonterminal not below N: place is its first digit,
+                   whichever of these comes first over the first P + 1 lines;
+     DESK_SHORT    fewer than P lines follow the first: place is sheet_len;
+     DESK_EXTRA    more than P do: place is the first byte of the first one too many, whose values are not looked at;
+     DESK_ROOM     the book has more bytes than were lent: place is how many it has, detail 0.
+   Refused, the buffer is unchanged. Done, steps is the number of bytes written, and bytes beyond them are unchanged.
+   DESK_MOST_BOOK_BYTES are always enough. Machine stack: some 3 KB. */
+uint32_t desk_read_sheet(const uint8_t *sheet, size_t sheet_len, uint8_t *book, size_t book_len,
+                         uint8_t *answer, size_t answer_len);
 
 #ifdef __cplusplus
 }

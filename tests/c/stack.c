@@ -31,6 +31,7 @@ static size_t tokens_length, list_length;
 static uint64_t first[DESK_MOST_NONTERMINALS], follow[DESK_MOST_NONTERMINALS], set[1], count[1];
 static uint16_t machine[DESK_MOST_MACHINE_CELLS];
 static uint8_t answer[DESK_ANSWER_SIZE];
+static uint8_t sheet[DESK_MOST_SHEET_BYTES], read_book[DESK_MOST_BOOK_BYTES];
 
 static const uint8_t growing[] = { 'G', 'R', 1, 1, 0, 2, 'P', 'R', 0, 2, N(0), 0, 'P', 'R', 0, 1, 0 };
 
@@ -122,6 +123,19 @@ static void call_expand(void)
                          answer, sizeof answer);
 }
 
+static void call_write_sheet(void)
+{
+    number = desk_write_sheet(book, book_length, sheet, sizeof sheet, answer, sizeof answer);
+}
+
+/* The sheet that was written last, whose length its steps told. */
+static size_t sheet_length;
+
+static void call_read_sheet(void)
+{
+    number = desk_read_sheet(sheet, sheet_length, read_book, sizeof read_book, answer, sizeof answer);
+}
+
 /* A function, and the most bytes that it may take on x86-64. */
 struct function {
     const char *name;
@@ -140,6 +154,8 @@ static const struct function expand = { "desk_expand", call_expand, 4600 };
 static const struct function patterns = { "desk_patterns", call_patterns, 18300 };
 static const struct function cut = { "desk_cut", call_cut, 32800 };
 static const struct function cut_nested = { "desk_cut", call_cut_nested, 38700 };
+static const struct function write_sheet = { "desk_write_sheet", call_write_sheet, 9800 };
+static const struct function read_sheet = { "desk_read_sheet", call_read_sheet, 3400 };
 static const struct function cut_with = { "desk_cut_with", call_cut_with, 1024 };
 
 #ifdef __x86_64__
@@ -289,6 +305,13 @@ static void print_run_depths(void)
     print_depth(&expand, "65535 productions, stack and tokens");
 }
 
+static void print_sheet_depths(const char *input)
+{
+    print_depth(&write_sheet, input);
+    sheet_length = (size_t)answer[16] | (size_t)answer[17] << 8;
+    print_depth(&read_sheet, input);
+}
+
 static void print_line_depths(void)
 {
     print_depth(&patterns, "eight nested groups");
@@ -302,8 +325,10 @@ int main(void)
     map_stack();
     set_book(house_book, sizeof house_book);
     print_book_depths("house");
+    print_sheet_depths("house");
     set_longest();
     print_book_depths("longest book");
+    print_sheet_depths("longest book");
     print_run_depths();
     print_line_depths();
     return exceeded == 0 ? 0 : 1;

@@ -4,5 +4,6 @@ pub mod Calls
 pub mod ReadBack
 pub mod Fitting
 pub mod Depth
+pub mod SheetCalls
 pub mod Theorems
 pub mod Examples

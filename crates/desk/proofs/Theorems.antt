@@ -6,12 +6,13 @@ use mathlib.Core.List.{List}
 use Prim.Native.Nat.{ℕ, _^_, _≤_, _<_}
 use native.Mathlib.Nat.{mul-le-mul}
 use native.Mathlib.Omega.{arith}
-use lib.ListN.{length, getD}
+use lib.ListN.{length, getD, take}
 use Rattle.grammar.specs.Grammar.{Grammar}
 use Rattle.grammar.specs.Machine.{Longest}
+use Rattle.answers.specs.Answers.{done}
 use Rattle.answers.specs.declared.Answer.{Answer}
-use Rattle.answers.specs.Buffers.{counted}
-use Rattle.answers.specs.Refusals.{room, syntax, production, stackRoom}
+use Rattle.answers.specs.Buffers.{counted, over}
+use Rattle.answers.specs.Refusals.{room, syntax, production, stackRoom, served}
 use Rattle.answers.specs.Limits.{longestString}
 use Rattle.patterns.specs.Calls.{JudgePatterns}
 use Rattle.pieces.specs.Calls.{CutWithOutcome}
@@ -31,6 +32,7 @@ use Rattle.run.specs.Running.{RunOutcome}
 use Rattle.run.proofs.Promise.{run-outcome-unique}
 use Rattle.expand.specs.Expanding.{ExpandOutcome}
 use Rattle.expand.proofs.Promise.{expand-outcome-unique}
+use Rattle.sheet.specs.Calls.{WriteOutcome, ReadOutcome}
 use Rattle.demands.specs.Depth.{RunDepth, ExpandDepth}
 use Rattle.demands.specs.Formula.{RunWithinFormula}
 use Rattle.demands.specs.Demands.{Premises}
@@ -41,7 +43,7 @@ use Rattle.demands.proofs.Promise.{run-depth-exactly, run-depth-least, run-dept
 use Rattle.demands.proofs.Promise.{expand-depth-exactly, expand-depth-least, expand-depth-enough}
 use Rattle.desk.specs.Desk.{littleEndian, answerBytes, answerSize, Lent, LentCell, JudgeOutcome, SetOutcome}
 use Rattle.desk.specs.Desk.{JudgeCall, PatternsCall, CutCall, CutWithCall, SetsCall, BuildCall, RunCall}
-use Rattle.desk.specs.Desk.{ExpandCall, LookaheadCall, FirstCall}
+use Rattle.desk.specs.Desk.{ExpandCall, LookaheadCall, FirstCall, WriteSheetCall, ReadSheetCall}
 use Rattle.desk.specs.Demands.{answerFrom}
 use Rattle.desk.proofs.Calls.{called-answer, called-unique, two-unique, three-unique, judge-outcome-unique}
 use Rattle.desk.specs.Desk.{Called, CheckCall, short, answered}
@@ -49,6 +51,8 @@ use Rattle.desk.proofs.Calls.{check-same, patterns-outcome-unique, cut-
 use Rattle.desk.proofs.ReadBack.{FitsWords, answer-read, called-exact}
 use Rattle.desk.proofs.Depth.{ran-counted, expanded-counted, exactly-read, least-read, enough-read}
 use Rattle.desk.proofs.Fitting.{ran-bounded, run-fits, expand-fits, judge-fits, sets-fits, build-fits}
+use Rattle.desk.proofs.SheetCalls.{write-sheet-same, read-sheet-same, write-sheet-fits, read-sheet-fits}
+use Rattle.desk.proofs.SheetCalls.{call-sheet-book-sheet, call-book-sheet-book}
 use Rattle.desk.proofs.Fitting.{check-fits, lookahead-fits, first-fits, patterns-fits, cut-fits, cut-with-fits}
 
 -- any two outcomes that a call allows are equal: the number returned, and every lent buffer
@@ -139,6 +143,18 @@ first-call-unique book symbols cells counts answer c d =
     two-unique (SetOutcome (FirstOutcome book symbols) cells counts)
     (set-outcome-unique (λ r q o p. first-outcome-unique book symbols o p)) (c .call) (d .call)
 
+pub write-sheet-call-unique : (book sheet answer : List ℕ) {n m : ℕ} {s t x y : List ℕ}
+    → WriteSheetCall book sheet answer n s x
+    → WriteSheetCall book sheet answer m t y
+    → (n ≡ m) × (s ≡ t) × (x ≡ y)
+write-sheet-call-unique book sheet answer c d = called-unique (write-sheet-same book sheet) (c .call) (d .call)
+
+pub read-sheet-call-unique : (sheet book answer : List ℕ) {n m : ℕ} {s t x y : List ℕ}
+    → ReadSheetCall sheet book answer n s x
+    → ReadSheetCall sheet book answer m t y
+    → (n ≡ m) × (s ≡ t) × (x ≡ y)
+read-sheet-call-unique sheet book answer c d = called-unique (read-sheet-same sheet book) (c .call) (d .call)
+
 -- the words lose nothing: where the book and the table are shorter than 2 ^ 64, the answer read from them is an answer
 -- of the function beneath
 pub run-call-exact : {book table tokens stack list answer : List ℕ} {n : ℕ} {s l x : List ℕ}
@@ -212,6 +228,42 @@ pub first-call-exact : {book symbols cells counts answer : List ℕ} {n : ℕ} {
     → FirstCall book symbols cells counts answer n s l x
     → SetOutcome (FirstOutcome book symbols) cells counts (answerFrom n x) s l
 first-call-exact b lent c = called-exact (λ a o. subst FitsWords (o .answer) (first-fits b (o .outcome))) lent (c .call)
+
+pub write-sheet-call-exact : {book sheet answer : List ℕ} {n : ℕ} {s x : List ℕ}
+    → length book < 2 ^ 64
+    → Lent answer
+    → WriteSheetCall book sheet answer n s x
+    → WriteOutcome book sheet (answerFrom n x) s
+write-sheet-call-exact b lent c = called-exact (λ a o. write-sheet-fits b o) lent (c .call)
+
+pub read-sheet-call-exact : {sheet book answer : List ℕ} {n : ℕ} {s x : List ℕ}
+    → length sheet < 2 ^ 64
+    → Lent answer
+    → ReadSheetCall sheet book answer n s x
+    → ReadOutcome sheet book (answerFrom n x) s
+read-sheet-call-exact w lent c = called-exact (λ a o. read-sheet-fits w o) lent (c .call)
+
+-- over and back by calls: a sheet that is read, and the bytes that it gave written again, with room for it
+pub desk-sheet-book-sheet : {sheet bookRoom sheetRoom book text answer again : List ℕ} {n m : ℕ} {x y : List ℕ}
+    → Lent answer
+    → Lent again
+    → ReadSheetCall sheet bookRoom answer n book x
+    → n ≡ served
+    → length sheet ≤ length sheetRoom
+    → WriteSheetCall (take (answerFrom n x .steps) book) sheetRoom again m text y
+    → (m ≡ served) × (text ≡ over sheet sheetRoom) × (y ≡ over (answerBytes (done (length sheet))) again)
+desk-sheet-book-sheet = call-sheet-book-sheet
+
+-- and a book that is written as a sheet and read again
+pub desk-book-sheet-book : {book sheetRoom bookRoom sheet bytes answer again : List ℕ} {n m : ℕ} {x y : List ℕ}
+    → Lent answer
+    → Lent again
+    → WriteSheetCall book sheetRoom answer n sheet x
+    → n ≡ served
+    → length book ≤ length bookRoom
+    → ReadSheetCall (take (answerFrom n x .steps) sheet) bookRoom again m bytes y
+    → (m ≡ served) × (bytes ≡ over book bookRoom) × (y ≡ over (answerBytes (done (length book))) again)
+desk-book-sheet-book = call-book-sheet-book
 
 -- a check that returns 0 had room for its answer
 check-answer : {book table answer : List ℕ} {n : ℕ} {x : List ℕ}

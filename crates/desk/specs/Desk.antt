@@ -22,6 +22,7 @@ use Rattle.table.specs.Calls.{BuildOutcome}
 use Rattle.checker.specs.Calls.{CheckOutcome}
 use Rattle.run.specs.Running.{RunOutcome}
 use Rattle.expand.specs.Expanding.{ExpandOutcome}
+use Rattle.sheet.specs.Calls.{WriteOutcome, ReadOutcome}
 
 -- a number in so many bytes, the lowest first
 unfoldable pub littleEndian : ℕ → ℕ → List ℕ
@@ -151,3 +152,13 @@ pub record FirstCall (book symbols cells counts answer
       Called {Buffers = List ℕ × List ℕ} (LentCell cells counts answer)
       (λ a after. SetOutcome (FirstOutcome book symbols) cells counts a (after .0) (after .1)) (cells, counts) answer
       number (cells′, counts′) answer′
+
+-- the sheet of a book
+pub record WriteSheetCall (book sheet answer : List ℕ) (number : ℕ) (sheet′ answer′ : List ℕ) : Type 0 where
+  pub call :
+      Called {Buffers = List ℕ} (Lent answer) (WriteOutcome book sheet) sheet answer number sheet′ answer′
+
+-- the book of a sheet
+pub record ReadSheetCall (sheet book answer : List ℕ) (number : ℕ) (book′ answer′ : List ℕ) : Type 0 where
+  pub call :
+      Called {Buffers = List ℕ} (Lent answer) (ReadOutcome sheet book) book answer number book′ answer′

@@ -11,6 +11,7 @@ use expand::expand;
 use pieces::cutting::cut_with;
 use run::running::run;
 
+mod sheets;
 mod words;
 
 // A token string run on a book and a table.

@@ -20,7 +20,7 @@ use Rattle.reader.proofs.Promise.{read-written, longest-book}
 use Rattle.sheet.specs.Sheet.{lineFeed, space, letterN, letterT, Draft, symbolText, symbolsText, lineText, linesText, firstLine, draftText, draftOf, sheetOf}
 use Rattle.sheet.specs.Sheet.{fieldsOf, Faultless}
 use Rattle.sheet.specs.Judging.{past, headIn, isSpace, symbolNumber, leftNumber, rightPlace}
-use Rattle.sheet.specs.Booking.{byteIn, numberByte, rightIn, rightEnd, recordIn, lineAfter, recordsIn, headBytes, bookIn}
+use Rattle.sheet.specs.Booking.{byteFrom, byteIn, numberByte, rightIn, rightEnd, recordIn, lineAfter, recordsIn, headBytes, bookIn}
 use Rattle.sheet.specs.Calls.{Copied, ReadOutcome, booked}
 use Rattle.sheet.proofs.Fields.{Held, limits-held, faultless-limits}
 use Rattle.sheet.proofs.Standing.{rest-on, numberOf, symbol-space, symbol-letter, symbol-number, behind-symbols, no-space, rightFrom, LineAt, line-at, HeadAt, head-at}
@@ -31,7 +31,7 @@ module _ (text : List ℕ) (g : Grammar) (limits : Limits g) where
       → (isSpace text at ≡ true)
       × (byteIn text at ≡ byteOf s)
       × (symbolNumber text at .next ≡ at + length (symbolText s))
-  unfolding symbolText byteIn byteOf
+  unfolding symbolText byteFrom byteIn byteOf
   symbol-read at rest (known-token {t = t} known) stands other =
       let number = symbol-number text at letterT t rest stands other in
       let value : min t mostRead % 128 ≡ t = omega (arith, limits .tokens-fit) in

@@ -11,7 +11,8 @@ use Rattle.grammar.specs.declared.Symbol.the-variants.{Token, Nonterminal}
 use Rattle.grammar.specs.Grammar.{Form, Production, Grammar, Rule, Known, known-token, known-nonterminal}
 use Rattle.grammar.proofs.Every.{every-at}
 use Rattle.answers.specs.Answers.{done}
-use Rattle.answers.specs.Buffers.{over}
+use lib.Seq.{take-all}
+use Rattle.answers.specs.Buffers.{over, written}
 use Rattle.text.specs.Text.{Put}
 use Rattle.text.proofs.Promise.{put-cells, put-front, put-length}
 use Rattle.reader.specs.Book.{reads, spells, byteOf, bytesOf, Limits}
@@ -19,19 +20,20 @@ use Rattle.reader.specs.Fields.{symbolOfByte, formIn, leftAt, lengthAt, rightAt
 use Rattle.reader.proofs.Promise.{RecordAt, recordsSize, recordPlace, record-at, recordPlace-suc, form-spelled, symbol-token, symbol-nonterminal, written-read, read-limits}
 use Rattle.sheet.specs.Sheet.{lineText, linesText, firstLine, draftText, draftOf, sheetOf, longestSheet}
 use Rattle.answers.specs.declared.Answer.{Answer}
-use Rattle.sheet.specs.Calls.{Copied, served, WriteOutcome, written}
+use Rattle.sheet.specs.Calls.{Copied, served, WriteOutcome}
+use Rattle.sheet.specs.Calls as calls
 use Rattle.sheet.proofs.Longest.{longest-sheet}
 use Rattle.sheet.specs.Writing.{recordText, recordsText, headText, bookText}
 
--- what was put to the front of a buffer with room is copied
-pub copied-put : {bytes buffer after : List ℕ} {next : ℕ}
-    → Put buffer 0 bytes after next
+-- what was written to the front of a buffer with room is copied
+pub copied-written : {bytes buffer after : List ℕ}
+    → after ≡ written bytes buffer
     → length bytes ≤ length buffer
     → Copied bytes buffer (done (length bytes)) after
-copied-put {bytes} {buffer} {after} p room =
-    let cells : after ≡ over bytes buffer =
-    put-cells p (omega arith) ∙ ap (λ (k : ℕ). bytes ++ drop k buffer) (zero-add (length bytes)) in
-    subst (λ (a : List ℕ). Copied bytes buffer (done (length bytes)) a) (sym cells) (served room)
+copied-written {bytes} {buffer} {after} cells room =
+    let all : take (length buffer) bytes ≡ bytes = take-all (length buffer) bytes room in
+    let whole : after ≡ over bytes buffer = cells ∙ ap (λ (l : List ℕ). over l buffer) all in
+    subst (λ (a : List ℕ). Copied bytes buffer (done (length bytes)) a) (sym whole) (served room)
 
 -- what was put to the front of a buffer ends within it
 pub put-within : {blank bytes text : List ℕ} {size : ℕ} → Put blank 0 bytes text size → size ≤ length text
@@ -107,4 +109,4 @@ written-copied {book} {blank} {text} {buffer} {after} {size} {a} (g, read) enoug
     let fits : length (bookText book) ≤ length blank =
     omega (arith, ap length same, longest-sheet g (read-limits book read)) in
     let front : take size text ≡ sheetOf g = put-front p fits ∙ same in
-    written read (subst (λ (bytes : List ℕ). Copied bytes buffer a after) front copied)
+    calls.written read (subst (λ (bytes : List ℕ). Copied bytes buffer a after) front copied)

@@ -10,7 +10,7 @@ use Rattle.text.specs.declared.Number.{Number}
 use Rattle.text.specs.Text.{Put}
 use Rattle.text.proofs.Promise.{put-then, put-room, put-front, Completes, completes-start, completes-more, completes-all}
 use Rattle.sheet.specs.Judging.{past, isSpace, another, symbolNumber, leftNumber, rightPlace}
-use Rattle.sheet.specs.Booking.{byteIn, numberByte, rightIn, rightEnd, recordIn, lineAfter, recordsIn, headBytes, bookIn, Copies}
+use Rattle.sheet.specs.Booking.{byteFrom, byteIn, numberByte, rightIn, rightEnd, recordIn, lineAfter, recordsIn, headBytes, bookIn, Copies}
 use Rattle.sheet.specs.declared.judging.Head.{Head}
 use Rattle.sheet.specs.declared.booking.Places.{Places}
 use Rattle.sheet.proofs.Turning.{another-space, another-room}
@@ -63,18 +63,19 @@ listing-start text before from =
 pub listing-turn : {text before between further : List ℕ} {from room at middle later b : ℕ} {number : Number}
     → Listing text before from room at between middle
     → another text room at ≡ true
-    → b ≡ byteIn text at
-    → Put between middle (b ∷ []) further later
     → number ≡ symbolNumber text at
+    → b ≡ byteFrom text at (number .value)
+    → Put between middle (b ∷ []) further later
     → Listing text before from (room - 1) (number .next) further later
-listing-turn {text} {before} {between} {further} {from} {room} {at} {middle} {later} listing more same put told =
+unfolding byteIn
+listing-turn {text} {before} {between} {further} {from} {room} {at} {middle} {later} listing more told same put =
     let whole : List ℕ = rightIn text mostSymbols from in
     let left : List ℕ = rightIn text (room - 1) (symbolNumber text at .next) in
     let split : Completes before 0 whole between middle (byteIn text at ∷ left) =
     subst (λ (rest : List ℕ). Completes before 0 whole between middle rest) (right-next text room at more) (listing .completes) in
     rw told
     (record {
-      completes = completes-more (byteIn text at ∷ []) left split (rw same at put);
+      completes = completes-more (byteIn text at ∷ []) left split (rw (same, told) at put);
       end = sym (end-next text room at more) ∙ listing .end;
     })
 

@@ -1,5 +1,5 @@
 -- What is promised of grammar sheets, one page: each theorem under the sentence that it proves. Document 02, W1.
-use mathlib.Core.Path.{_≡_}
+use mathlib.Core.Path.{_≡_, refl}
 use mathlib.Core.Logic.{_↔_, _⊎_}
 use mathlib.Core.List.{List}
 use Prim.Native.Nat.{ℕ, _≤_}
@@ -75,6 +75,11 @@ pub fault-kinds : (d : Draft) {n p : ℕ}
     → FirstFault (fieldsOf d) n p
     → (n ≡ limit) ⊎ (n ≡ symbol)
 fault-kinds = trips.fault-kinds
+
+-- a grammar's own sheet has the form
+pub sheet-form : (g : Grammar) → HasForm (sheetOf g)
+unfolding sheetOf
+sheet-form g = record { draft = draftOf g; told = refl }
 
 -- every value of a grammar's own sheet is in its range exactly if the grammar is within the limits of a book
 pub faultless-exact : (g : Grammar) → Limits g ↔ Faultless (fieldsOf (draftOf g))

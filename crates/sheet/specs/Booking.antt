@@ -14,11 +14,12 @@ use Rattle.sheet.specs.Judging.{past, isSpace, symbolNumber, leftNumber,
 use Rattle.sheet.specs.declared.judging.Head.{Head}
 use Rattle.sheet.specs.declared.booking.Places.{Places}
 
--- the byte of the symbol at a place: a token its number, a nonterminal 128 more
+-- the byte of the symbol at a place, whose number was read: a token its number, a nonterminal 128 more
+unfoldable pub byteFrom : List ℕ → (at number : ℕ) → ℕ
+byteFrom text at number = cond (eqb (getD text (at + 1) 0) letterT) (number % 128) (128 + number % 128)
+
 unfoldable pub byteIn : List ℕ → ℕ → ℕ
-byteIn text at =
-    let number = symbolNumber text at .value % 128 in
-    cond (eqb (getD text (at + 1) 0) letterT) number (128 + number)
+byteIn text at = byteFrom text at (symbolNumber text at .value)
 
 -- the bytes of the symbols from a place on, at most so many, and the place behind them
 unfoldable pub rightIn : List ℕ → (room at : ℕ) → List ℕ

@@ -26,15 +26,15 @@ pub(crate) struct Places {
     pub book: usize,
 }
 
-// The byte of the symbol at a place: a token its number, a nonterminal 128 more.
-fn byte_in(sheet: &[u8], at: usize) -> u8
-    ensures { λ r. ⌜ r ≡ booking.byteIn (now (sheet .entry)) at ⌝ }
+// The byte of the symbol at a place, whose number was read: a token its number, a nonterminal 128 more.
+fn byte_from(sheet: &[u8], at: usize, number: u64) -> u8
+    ensures { λ r. ⌜ r ≡ booking.byteFrom (now (sheet .entry)) at number ⌝ }
 {
-    let number = (symbol_number(sheet, at).value % 128) as u8;
+    let low = (number % 128) as u8;
     if byte_at(sheet, at, 1) == b't' {
-        number
+        low
     } else {
-        128 + number
+        128 + low
     }
 }
 
@@ -48,8 +48,9 @@ fn put_right(out: &mut [u8], sheet: &[u8], at: usize) -> Places
     let mut next: usize = 0;
     let mut room = MOST_SYMBOLS;
     while another(sheet, room, place) {
-        next = put(out, next, byte_in(sheet, place));
-        place = symbol_number(sheet, place).next;
+        let number = symbol_number(sheet, place);
+        next = put(out, next, byte_from(sheet, place, number.value));
+        place = number.next;
         room -= 1;
     }
     Places {

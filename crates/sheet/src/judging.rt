@@ -95,7 +95,7 @@ fn judge_head(sheet: &[u8], head: Head) -> Verdict
 }
 
 // Whether a symbol stands here.
-pub(crate) fn is_space(sheet: &[u8], at: usize) -> bool
+fn is_space(sheet: &[u8], at: usize) -> bool
     ensures { λ r. ⌜ r ≡ judging.isSpace (now (sheet .entry)) at ⌝ }
 {
     byte_at(sheet, at, 0) == b' '

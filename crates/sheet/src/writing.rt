@@ -12,6 +12,7 @@ ghost use Rattle.sheet.specs.Writing.{letterOf, numberOf, recordText, re
 ghost use Rattle.sheet.specs.Calls.{Copied, WriteOutcome};
 ghost use Prim.Native.Nat.{_+_};
 use answers::Answer;
+use answers::buffers::write_bytes;
 use answers::done;
 use answers::refusal;
 use answers::refusals::ROOM;
@@ -27,7 +28,6 @@ use reader::fields::length_at;
 use reader::walk::read;
 use text::decimal;
 use text::put;
-use text::put_all;
 
 // No sheet of a book is longer.
 pub const LONGEST_SHEET: usize = 8973;
@@ -138,7 +138,7 @@ pub(crate) fn copy(bytes: &[u8], out: &mut [u8]) -> Answer
     if out.len() < bytes.len() {
         return refusal(ROOM, bytes.len() as u64, 0);
     }
-    put_all(out, 0, bytes);
+    write_bytes(bytes, out);
     done(bytes.len() as u64)
 }
 

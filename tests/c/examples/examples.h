@@ -13,6 +13,7 @@ void check_trees(void);
 void check_formula(void);
 void check_all_patterns(void);
 void check_cut_lines(void);
+void check_sheets(void);
 
 struct grammar;
 

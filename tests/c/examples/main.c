@@ -5,7 +5,7 @@
 _Static_assert(DESK_DONE == 0 && DESK_SHORT == 1 && DESK_MARK == 2 && DESK_EXTRA == 3 && DESK_LIMIT == 4, "numbers");
 _Static_assert(DESK_SYMBOL == 5 && DESK_USELESS == 6 && DESK_ROOM == 7 && DESK_CONFLICT == 8, "numbers");
 _Static_assert(DESK_TABLE == 9 && DESK_TOKEN == 10 && DESK_SYNTAX == 11 && DESK_PRODUCTION == 12, "numbers");
-_Static_assert(DESK_PATTERN == 14 && DESK_NO_TOKEN == 15 && DESK_STATES == 16, "numbers");
+_Static_assert(DESK_FORM == 13 && DESK_PATTERN == 14 && DESK_NO_TOKEN == 15 && DESK_STATES == 16, "numbers");
 _Static_assert(DESK_DIFFERS == 17, "numbers");
 _Static_assert(DESK_CUT_ROOM_MACHINE == 1 && DESK_CUT_ROOM_TOKENS == 2, "details");
 _Static_assert(DESK_ROOM_STACK == 1 && DESK_ROOM_LIST == 2 && DESK_ROOM_TOKENS == 3, "details");
@@ -24,5 +24,6 @@ int main(void)
     check_formula();
     check_all_patterns();
     check_cut_lines();
+    check_sheets();
     return report();
 }

@@ -121,7 +121,7 @@ static uint64_t find_useful(const struct grammar *grammar)
 }
 
 /* Reads a book and judges it: its bytes from the front, then whether a nonterminal is useless. */
-static bool judge(const uint8_t *book, size_t length, struct grammar *grammar, struct answer *answer)
+static inline bool judge(const uint8_t *book, size_t length, struct grammar *grammar, struct answer *answer)
 {
     if (!read_book(book, length, grammar, answer))
         return false;

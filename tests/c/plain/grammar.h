@@ -44,7 +44,7 @@ static size_t smaller(size_t a, size_t b)
     return a < b ? a : b;
 }
 
-static size_t table_size(const struct grammar *grammar)
+static inline size_t table_size(const struct grammar *grammar)
 {
     return grammar->nonterminals * (grammar->terminals + 1);
 }

@@ -24,14 +24,14 @@ loop-holds c = listing-start _ _ _
 another-requires : tie.Need-another-requires Inv-loop μ-loop
 another-requires c κs = search needs
 
-byte-in-requires : tie.Need-byte-in-requires Inv-loop μ-loop
-byte-in-requires c κs = search needs
+symbol-number-requires : tie.Need-symbol-number-requires Inv-loop μ-loop
+symbol-number-requires c κs = search needs
+
+byte-from-requires : tie.Need-byte-from-requires Inv-loop μ-loop
+byte-from-requires c κs = search needs
 
 put-requires : tie.Need-put-requires Inv-loop μ-loop
 put-requires c κs = search needs
-
-symbol-number-requires : tie.Need-symbol-number-requires Inv-loop μ-loop
-symbol-number-requires c κs = search needs
 
 sub-room : tie.Need-sub-room Inv-loop μ-loop
 sub-room c = omega (arith, some-room (c .before .before .before .before .before .before))
@@ -41,13 +41,14 @@ loop-less c = omega (arith, some-room (c .before .before .before .before .before
 
 loop-again : tie.Need-loop-again Inv-loop μ-loop
 loop-again c =
-    let at-put = c .before .before .before in
+    let at-put = c .before .before in
     let at-byte = at-put .before in
-    let at-if = at-byte .before .before in
+    let at-number = at-byte .before .before in
+    let at-if = at-number .before in
     listing-turn (at-if .before .before .loop .inv) (sym (at-if .before .another .ensures) ∙ at-if .if1 .taken)
-    (at-byte .byte-in .ensures)
+    (at-number .symbol-number .ensures)
+    (at-byte .byte-from .ensures)
     (at-put .put .ensures)
-    (c .symbol-number .ensures)
 
 returns : tie.Need-returns Inv-loop μ-loop
 returns c = listing-end (c .before .before .loop .inv) (sym (c .before .another .ensures) ∙ c .if1 .left)
@@ -63,9 +64,9 @@ put-right-spec =
     μ-loop
     loop-holds
     another-requires
-    byte-in-requires
-    put-requires
     symbol-number-requires
+    byte-from-requires
+    put-requires
     sub-room
     loop-less
     loop-again

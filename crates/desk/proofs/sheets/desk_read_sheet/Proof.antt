@@ -1,0 +1,32 @@
+-- The book's answer is written, or the answer buffer is too short.
+use native.Mathlib.Omega.{arith}
+use borrow.Author.Needs.{needs}
+use Rattle.desk.specs.Desk.{short}
+use Rattle.desk.proofs.AnswerBytes.{answerSize-is}
+use Rattle.desk.proofs.Calls.{answered-call}
+use Rattle.desk.proofs.sheets.desk_read_sheet.Statement.{statement}
+use Rattle.desk.proofs.sheets.desk_read_sheet.Tie as tie
+
+returns : tie.Need-returns
+returns c = record { call = short (λ lent. omega (arith, answerSize-is)) }
+
+read-requires : tie.Need-read-requires
+read-requires c κs = search needs
+
+write-answer-requires : tie.Need-write-answer-requires
+write-answer-requires c κs = omega (arith, answerSize-is)
+
+same-length : tie.Need-same-length
+same-length c = search needs
+
+same-length-2 : tie.Need-same-length-2
+same-length-2 c = search needs
+
+returns-2 : tie.Need-returns-2
+returns-2 c =
+    let told = c .before .before .before .before .before .before .read in
+    let write-answer = c .before .before .write-answer in
+    record { call = answered-call (told .result) (omega (arith, answerSize-is)) (told .ensures) (write-answer .ensures) }
+
+pub desk-read-sheet-spec : {M : Type 1} → statement M
+desk-read-sheet-spec = tie.close (tie.spec returns read-requires write-answer-requires same-length same-length-2 returns-2)
