@@ -50,6 +50,10 @@ noToken = 15
 abbrev pub states : ℕ
 states = 16
 
+-- of document 02, W14
+abbrev pub profile : ℕ
+profile = 21
+
 abbrev pub stackRoom : ℕ
 stackRoom = 1
 

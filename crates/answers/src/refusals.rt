@@ -31,6 +31,8 @@ pub const NO_TOKEN: u32 = 15;
 
 pub const STATES: u32 = 16;
 
+pub const PROFILE: u32 = 21;
+
 pub const STACK_ROOM: u64 = 1;
 
 pub const LIST_ROOM: u64 = 2;

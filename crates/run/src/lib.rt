@@ -3,7 +3,7 @@ use answers::Answer;
 
 mod answering;
 pub mod beside;
-mod checking;
+pub mod checking;
 pub mod running;
 
 // The answer of a run, and how many tokens it matched.
