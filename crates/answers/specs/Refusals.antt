@@ -56,6 +56,10 @@ states = 16
 abbrev pub differs : ℕ
 differs = 17
 
+-- of document 02, W14
+abbrev pub profile : ℕ
+profile = 21
+
 abbrev pub stackRoom : ℕ
 stackRoom = 1
 

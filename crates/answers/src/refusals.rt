@@ -35,6 +35,8 @@ pub const STATES: u32 = 16;
 
 pub const DIFFERS: u32 = 17;
 
+pub const PROFILE: u32 = 21;
+
 pub const STACK_ROOM: u64 = 1;
 
 pub const LIST_ROOM: u64 = 2;

@@ -16,7 +16,7 @@ use Rattle.sets.proofs.Promise.{decided, value-unique, decides-unique}
 use Rattle.reader.specs.Fields.{leftAt, rightAt}
 use Rattle.book.specs.declared.Reading.{Reading}
 use Rattle.book.specs.declared.columns.Outline.{Outline}
-use Rattle.book.specs.Columns.{outlineIn, productionAt, outlined, Gathered, Lefts, Lengths, IsOf}
+use Rattle.book.specs.Columns.{outlineIn, productionAt, outlined, Gathered, Lefts, Lengths, Heads, IsOf}
 use Rattle.book.proofs.IndexGrammar.{production-found, production-missing}
 
 zeros-read : (n p : ℕ) → getD (replicate {A = ℕ} n 0) p 0 ≡ 0
@@ -124,6 +124,12 @@ pub lengths-unique : (book : List ℕ) {places : List ℕ} (o : Outline) {column
     → Lengths book places o column′
     → column ≡ column′
 lengths-unique book o = gathered-unique
+
+pub heads-unique : (book : List ℕ) {places : List ℕ} (o : Outline) {column column′ : List ℕ}
+    → Heads book places o column
+    → Heads book places o column′
+    → column ≡ column′
+heads-unique book o = gathered-unique
 
 pub is-of-unique : (lefts : List ℕ) (o : Outline) (A p : ℕ) (r r′ : Bool)
     → Decides r (IsOf lefts o A p)

@@ -22,7 +22,7 @@ pub use Rattle.book.proofs.Examples.{house-reads, house-serves, useless
 pub use Rattle.book.proofs.IndexGrammar.{outlined-sized, production-found, production-missing}
 pub use Rattle.book.proofs.IndexGrammar.{index-grammar, reading-grammar}
 pub use Rattle.book.proofs.ColumnLaws.{is-of-rule, rule-is-of}
-pub use Rattle.book.proofs.ColumnLaws.{outline-unique, lefts-unique, lengths-unique}
+pub use Rattle.book.proofs.ColumnLaws.{outline-unique, lefts-unique, lengths-unique, heads-unique}
 pub use Rattle.book.proofs.ColumnLaws.{gathered-at-unique, is-of-unique}
 pub use Rattle.book.proofs.Unique.{refuses-unique, refuses-not-serves, serves-unique, judged-unique}
 

@@ -1,11 +1,12 @@
 -- The columns of an index: T, N, start and P of a reading, the grammar that its places find in a book, and by
--- production the left side and the length of the right side. For every book and every reading. Document 01, "The book".
+-- production the left side, the length of the right side and its first byte. For every book and every reading.
+-- Document 01, "The book".
 use mathlib.Core.Path.{_≡_}
 use mathlib.Core.List.{List, [], _∷_}
 use Prim.Native.Nat.{ℕ, zero, suc, _%_, _≤_, _<_}
 use lib.ListN.{length, getD}
 use Rattle.grammar.specs.Grammar.{Production, Grammar}
-use Rattle.reader.specs.Fields.{leftAt, lengthAt, rightAt}
+use Rattle.reader.specs.Fields.{leftAt, lengthAt, headAt, rightAt}
 use Rattle.book.specs.declared.Reading.{Reading}
 use Rattle.book.specs.declared.columns.Outline.{Outline}
 
@@ -56,6 +57,10 @@ Lefts book places o = Gathered (leftAt book) places (o .productions)
 
 abbrev pub Lengths : (book places : List ℕ) → Outline → List ℕ → Type 0
 Lengths book places o = Gathered (lengthAt book) places (o .productions)
+
+-- the byte where its symbols start: that of the first symbol, if there is one
+abbrev pub Heads : (book places : List ℕ) → Outline → List ℕ → Type 0
+Heads book places o = Gathered (headAt book) places (o .productions)
 
 -- p is one of the productions, and its left side is A
 pub record IsOf (lefts : List ℕ) (o : Outline) (A p : ℕ) : Type 0 where

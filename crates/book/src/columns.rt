@@ -1,12 +1,14 @@
-// The columns of an index: T, N, start and P of a reading, and by production its left side and its right side's length.
+// The columns of an index: T, N, start and P of a reading, and by production its left side, its right side's length and
+// first byte.
 ghost use mathlib.Core.Path.{_≡_};
 ghost use Prim.Native.Nat.{_+_};
 ghost use lib.ListN.{getD};
 ghost use Rattle.sets.specs.Calls.{Decides};
-ghost use Rattle.book.specs.Columns.{outlineIn, Gathered, Lefts, Lengths, IsOf};
+ghost use Rattle.book.specs.Columns.{outlineIn, Gathered, Lefts, Lengths, Heads, IsOf};
 use crate::Reading;
 use reader::fields::LEFT;
 use reader::fields::LENGTH;
+use reader::fields::SYMBOLS;
 use reader::fields::byte_at;
 use reader::fields::place_at;
 
@@ -57,6 +59,13 @@ pub fn gather_lengths(book: &[u8], places: &[u16], outline: Outline) -> [u8; 256
     ensures { λ r. ⌜ Lengths (now (book .entry)) (now (places .entry)) outline r ⌝ }
 {
     gather(book, places, outline.productions, LENGTH)
+}
+
+// The byte where the symbols of each production start; of an empty right side what stands behind it.
+pub fn gather_heads(book: &[u8], places: &[u16], outline: Outline) -> [u8; 256]
+    ensures { λ r. ⌜ Heads (now (book .entry)) (now (places .entry)) outline r ⌝ }
+{
+    gather(book, places, outline.productions, SYMBOLS)
 }
 
 // What a column holds for production p; 0 past its end.

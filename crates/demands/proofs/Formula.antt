@@ -27,7 +27,7 @@ use Rattle.demands.proofs.AnyTable.{ends-told, ends-steps}
 use Rattle.demands.proofs.Kept.{premises-exact, RunBegins, stackless, begins, run-begins}
 
 -- what stops for room is not decided
-short-undecided : {r : Reason} {s : State} → Short r → ¬ Decided (stopped r s)
+pub short-undecided : {r : Reason} {s : State} → Short r → ¬ Decided (stopped r s)
 short-undecided short-list (refused q) = elim q [ ]
 short-undecided short-stack (refused q) = elim q [ ]
 

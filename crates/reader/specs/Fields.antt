@@ -23,6 +23,10 @@ leftAt b at = getD b (at + 2) 0
 abbrev pub lengthAt : List ℕ → ℕ → ℕ
 lengthAt b at = getD b (at + 3) 0
 
+-- the byte where its symbols start
+abbrev pub headAt : List ℕ → ℕ → ℕ
+headAt b at = getD b (at + 4) 0
+
 -- symbol i of the record at a place
 unfoldable pub symbolAt : List ℕ → ℕ → ℕ → Symbol
 symbolAt b at i = symbolOfByte (getD b (at + 4 + i) 0)

@@ -4,3 +4,4 @@ pub mod Beside
 pub mod Checking
 pub mod Judged
 pub mod Running
+pub mod Tokens

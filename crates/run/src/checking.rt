@@ -5,10 +5,12 @@ ghost use Rattle.book.specs.Columns.{outlined};
 ghost use Rattle.answers.specs.Lowest.{Lowest};
 ghost use Rattle.run.specs.Checking.{CheckedWith};
 ghost use Rattle.run.specs.Running.{Strange};
+ghost use Rattle.run.specs.Tokens.{TokensChecked};
 use answers::Answer;
 use answers::done;
 use answers::limits::LONGEST_STRING;
 use answers::refusal;
+use answers::refusals::DONE;
 use answers::refusals::LIMIT;
 use answers::refusals::ROOM;
 use answers::refusals::STACK_ROOM;
@@ -56,6 +58,20 @@ pub fn first_above(tokens: &[u8], limit: u8) -> usize
     i
 }
 
+// The refusal of a token string, where each token is to be below `limit`, or done.
+pub fn check_tokens(tokens: &[u8], limit: u8) -> Answer
+    ensures { λ r. ⌜ TokensChecked limit (now (tokens .entry)) r ⌝ }
+{
+    if LONGEST_STRING < tokens.len() {
+        return refusal(LIMIT, LONGEST_STRING as u64, 0);
+    }
+    let strange = first_above(tokens, limit);
+    if strange < tokens.len() {
+        return refusal(TOKEN, strange as u64, 0);
+    }
+    done(0)
+}
+
 // The refusal of a run before steps, or done.
 pub(crate) fn check(
     book: &[u8],
@@ -76,12 +92,9 @@ pub(crate) fn check(
     if let Fitting::MisfitAt(place) = fitting {
         return refusal(TABLE, place as u64, 0);
     }
-    if LONGEST_STRING < tokens.len() {
-        return refusal(LIMIT, LONGEST_STRING as u64, 0);
-    }
-    let strange = first_above(tokens, outline.tokens);
-    if strange < tokens.len() {
-        return refusal(TOKEN, strange as u64, 0);
+    let checked = check_tokens(tokens, outline.tokens);
+    if checked.number != DONE {
+        return checked;
     }
     if cells == 0 {
         return refusal(ROOM, 0, STACK_ROOM);

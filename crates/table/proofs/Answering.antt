@@ -6,7 +6,6 @@ use Prim.Native.Nat.{ℕ, _+_, _*_, _^_, _≤_, _<_}
 use native.Mathlib.Nat.{mul-le-mul, mul-le-mul-left, mul-le-mul-right}
 use native.Mathlib.Omega.{arith}
 use lib.ListN.{length, take, getD}
-use lib.Seq.{length-take-le, getD-take}
 use Rattle.grammar.specs.Grammar.{Grammar}
 use Rattle.answers.specs.declared.Answer.{Answer}
 use Rattle.answers.specs.Answers.{done, refusal}
@@ -24,12 +23,14 @@ use Rattle.follow.specs.Checks.{SetsLacking, SetsRoomed}
 use Rattle.follow.specs.WorkedOut.{WorkedOut}
 use Rattle.follow.proofs.Promise.{sets-refusing, given-lacking, given-fit, family-written, worked-given}
 use Rattle.table.specs.Table.{size}
-use Rattle.table.specs.Claims.{leftOf, bookClaims, Laid, Vacancy, Claimable, Tabulated, disputed}
+use Rattle.table.specs.Claims.{leftOf, bookClaims, Laid, Claimable, Tabulated, disputed}
 use Rattle.table.specs.Claims as claims
+use Rattle.table.specs.Vacancy.{Vacancy}
 use Rattle.table.specs.Filling.{Fillable, Enterable, Entered, clash, entered}
 use Rattle.table.specs.Calls.{BuildOutcome}
 use Rattle.table.specs.Calls as calls
 use Rattle.table.proofs.Claimed.{contest-conflict, ledger-table}
+use Rattle.table.proofs.Vacant.{taken-sized, taken-vacant}
 
 module _ {book : List ℕ} {reading : Reading} (given : Given book reading) where
   -- the number of cells
@@ -49,10 +50,6 @@ pub cells-fit : (n t : ℕ) → n < 256 → t < 256 → n * (t + 1) < 2 ^ 64
 cells-fit n t hn ht =
     let rows : n * (t + 1) ≤ n * 256 = mul-le-mul-left n (omega arith) in
     omega arith
-
--- of enough cells, the first n are n
-pub taken-sized : {n most : ℕ} {cells : List ℕ} → n ≤ most → Vacancy most cells → length (take n cells) ≡ n
-taken-sized {n} {most} {cells} fits vacancy = length-take-le n cells (omega (arith, vacancy .sized))
 
 -- a contest is the first conflict; cells without one are the table
 module _ {book : List ℕ} {reading : Reading} {ahead table : List ℕ} (x : Enterable book reading ahead table) where
@@ -83,9 +80,7 @@ module _ {book : List ℕ} {reading : Reading} {ahead table : List ℕ} (x : Ent
           rw (left-is index rule, sized) (mul-le-mul-right (reading .tokens + 1) below)
 
       blank : (i : ℕ) → i < length (take n cells) → getD (take n cells) i 0 ≡ 255
-      blank i h =
-          let inside : i < n = omega (arith, sized) in
-          getD-take n cells i 0 inside ∙ vacancy .blank i (omega arith)
+      blank i h = taken-vacant fits vacancy .blank i (omega (arith, sized))
 
   pub enter-tabulated : {n : ℕ} {a : Answer} {table′ : List ℕ}
       → n ≡ reading .nonterminals * (reading .tokens + 1)

@@ -59,7 +59,7 @@ unfolding conflictedHouse
 conflicted-house-build a b c = conflict conflicted-house-serves (record { first-fits = a; follow-fits = b }) c conflicted-house-conflict
 
 -- J: building gives 8, place 1, detail 1
-nested-serves : Serves nestedBook nestedGrammar
+pub nested-serves : Serves nestedBook nestedGrammar
 unfolding spells marked wanted records symbols symbolOf ending nestedBook nestedGrammar has productives workedUseful below
 nested-serves = record { read = refl; useful = useful-tested nestedGrammar 4 tt tt }
 

@@ -7,7 +7,7 @@ use mathlib.Core.List.{List}
 use Prim.Native.Nat.{ℕ, _≤_, _<_}
 use native.Mathlib.Decide.{ℕ-discrete}
 use native.Mathlib.Omega.{arith}
-use lib.ListN.{length, getD, set, replicate, length-set, length-replicate, getD-replicate}
+use lib.ListN.{length, getD, set, length-set}
 use lib.Seq.{getD-set-same, getD-set-other}
 use Rattle.answers.specs.declared.Answer.{Answer}
 use Rattle.answers.specs.Answers.{done, refusal}
@@ -15,7 +15,7 @@ use Rattle.answers.specs.Buffers.{over}
 use Rattle.answers.specs.Buffers as buffers
 use Rattle.answers.proofs.Promise.{written-all}
 use Rattle.table.specs.declared.claims.Contest.{Contest}
-use Rattle.table.specs.Claims.{Rivals, AtMostOne, Holds, lowest, vacant, Ledger, Vacancy, Claimed, enters, contests, follows}
+use Rattle.table.specs.Claims.{Rivals, AtMostOne, Holds, lowest, vacant, Ledger, Claimed, enters, contests, follows}
 use Rattle.table.specs.Claims.{Settled, contested, uncontested, Tabulated, disputed, written}
 
 -- the claims D are the claims C, and that of p on a cell
@@ -23,10 +23,6 @@ pub record Adds (C D : ℕ → ℕ → Type 0) (cell p : ℕ) : Type 0 where
   pub keeps : (i q : ℕ) → C i q → D i q
   pub new : D cell p
   pub only : (i q : ℕ) → D i q → C i q ⊎ ((i ≡ cell) × (q ≡ p))
-
--- cells that are one byte, repeated
-pub all-vacant : (n : ℕ) → Vacancy n (replicate n 255)
-all-vacant n = record { sized = length-replicate {A = ℕ} n 255; blank = λ i h. getD-replicate {A = ℕ} n i 255 0 h }
 
 -- the same claims, with every cell vacant, or told in another way
 module _ {C D : ℕ → ℕ → Type 0} {table : List ℕ} {known : Contest} where

@@ -4,6 +4,7 @@ pub mod Outcomes
 pub mod Building
 pub mod Ledgers
 pub mod Rows
+pub mod Vacant
 pub mod Claimed
 pub mod Answering
 pub mod Worked

@@ -62,11 +62,6 @@ pub record Ledger (C : ℕ → ℕ → Type 0) (table : List ℕ) (known : Conte
   pub rivals : known .cell < length table → Rivals (C (known .cell)) (known .lowest) (known .next)
   pub earlier : (j : ℕ) → j < known .cell → AtMostOne (C j)
 
--- so many cells, and none of them is claimed
-pub record Vacancy (n : ℕ) (cells : List ℕ) : Type 0 where
-  pub sized : length cells ≡ n
-  pub blank : (i : ℕ) → i < n → getD cells i 0 ≡ 255
-
 -- p claims a cell or not: a vacant one is entered, and one that is held is contested, which counts if no cell up to it
 -- is known to be
 pub data Claimed (table : List ℕ) (cell p : ℕ) (known : Contest) : Bool → Contest → List ℕ → Type 0 where

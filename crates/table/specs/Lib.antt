@@ -4,3 +4,4 @@ pub mod Examples
 pub mod Filling
 pub mod Fitting
 pub mod Table
+pub mod Vacancy

@@ -5,10 +5,13 @@ ghost use Rattle.grammar.specs.Grammar.{Grammar};
 ghost use Rattle.sets.specs.Sets.{member};
 ghost use Rattle.sets.specs.Calls.{number};
 ghost use Rattle.book.specs.Judging.{Serves};
-ghost use Rattle.table.specs.Claims.{bookClaims, Laid, Ledger, Vacancy, Claimed, RowClaimed};
+ghost use Rattle.table.specs.Claims.{bookClaims, Laid, Ledger, Claimed, RowClaimed};
 ghost use Rattle.table.specs.Claims.{Claimable, Settled, Tabulated};
 ghost use Rattle.table.specs.Filling.{Enterable, Entered};
 use crate::VACANT;
+use crate::vacancy::FEW;
+use crate::vacancy::vacant_few;
+use crate::vacancy::vacant_most;
 use answers::Answer;
 use answers::buffers::write_bytes;
 use answers::done;
@@ -23,32 +26,12 @@ use sets::Set;
 use sets::has;
 use sets::load;
 
-// The most cells that a small table has: for it only so many are made vacant.
-const FEW: usize = 512;
-
-// The cells of the largest table, 64 rows of 63 columns.
-const MOST: usize = 4032;
-
 // The first cell known to have two claimants, in cell order, and its two lowest; past the last cell where none is
 // known.
 pub(crate) struct Contest {
     pub(crate) cell: usize,
     pub(crate) lowest: u32,
     pub(crate) next: u32,
-}
-
-// Cells for a small table, all of them vacant.
-fn vacant_few() -> [u8; FEW]
-    ensures { λ r. ⌜ Vacancy 512 r ⌝ }
-{
-    [VACANT; FEW]
-}
-
-// Cells for the largest table, all of them vacant.
-fn vacant_most() -> [u8; MOST]
-    ensures { λ r. ⌜ Vacancy 4032 r ⌝ }
-{
-    [VACANT; MOST]
 }
 
 // Production p claims a cell if its lookahead has the bit of the cell's column: a vacant cell it gets, and one that is

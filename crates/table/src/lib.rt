@@ -13,6 +13,7 @@ use follow::work_out;
 
 mod claims;
 pub mod fitting;
+pub mod vacancy;
 
 // The byte of a cell that no production claims.
 pub const VACANT: u8 = 255;

@@ -1,7 +1,7 @@
 -- One case of `Checked` for each answer.
 use borrow.Author.Needs.{needs}
 use Rattle.book.proofs.Promise.{outlined-sized}
-use Rattle.run.proofs.Checks.{check-table, check-long, check-strange, check-no-stack, check-done}
+use Rattle.run.proofs.Checks.{check-table, check-barred, check-no-stack, check-done}
 use Rattle.run.proofs.checking.check.Statement.{statement}
 use Rattle.run.proofs.checking.check.Tie as tie
 
@@ -20,41 +20,32 @@ returns c = check-table (c .before .before .before .before .check-table .ensures
 enum-told : tie.Need-enum-told
 enum-told c = search needs
 
+check-tokens-requires : tie.Need-check-tokens-requires
+check-tokens-requires c κs = search needs
+
+returns-2 : tie.Need-returns-2
+returns-2 c =
+    let fitting = c .before .before .before .before .before .check-table .ensures in
+    let fits = c .before .before .before .enum-told .given .1 in
+    check-barred fitting fits (outlined-sized _ _ _) (c .before .before .check-tokens .ensures) (c .if1 .taken)
+
 refusal-requires-2 : tie.Need-refusal-requires-2
 refusal-requires-2 c κs = search needs
 
-returns-2 : tie.Need-returns-2
-returns-2 c = check-long (c .before .before .before .before .check-table .ensures) (c .before .before .enum-told .given .1) (c .before .if1 .taken) (c .refusal2 .ensures)
-
-first-above-requires : tie.Need-first-above-requires
-first-above-requires c κs = search needs
-
-refusal-requires-3 : tie.Need-refusal-requires-3
-refusal-requires-3 c κs = search needs
-
 returns-3 : tie.Need-returns-3
 returns-3 c =
-    let fitting = c .before .before .before .before .before .before .check-table .ensures in
-    let fits = c .before .before .before .before .enum-told .given .1 in
-    check-strange fitting fits (c .before .before .before .if1 .left) (outlined-sized _ _ _) (c .before .before .first-above .ensures) (c .before .if2 .taken) (c .refusal3 .ensures)
+    let fitting = c .before .before .before .before .before .before .before .check-table .ensures in
+    let fits = c .before .before .before .before .before .enum-told .given .1 in
+    check-no-stack fitting fits (outlined-sized _ _ _) (c .before .before .before .before .check-tokens .ensures) (c .before .before .if1 .left) (c .before .if2 .taken) (c .refusal2 .ensures)
 
-refusal-requires-4 : tie.Need-refusal-requires-4
-refusal-requires-4 c κs = search needs
+done-requires : tie.Need-done-requires
+done-requires c κs = search needs
 
 returns-4 : tie.Need-returns-4
 returns-4 c =
     let fitting = c .before .before .before .before .before .before .before .check-table .ensures in
     let fits = c .before .before .before .before .before .enum-told .given .1 in
-    check-no-stack fitting fits (c .before .before .before .before .if1 .left) (outlined-sized _ _ _) (c .before .before .before .first-above .ensures) (c .before .before .if2 .left) (c .before .if3 .taken) (c .refusal4 .ensures)
-
-done-requires : tie.Need-done-requires
-done-requires c κs = search needs
-
-returns-5 : tie.Need-returns-5
-returns-5 c =
-    let fitting = c .before .before .before .before .before .before .before .check-table .ensures in
-    let fits = c .before .before .before .before .before .enum-told .given .1 in
-    check-done fitting fits (c .before .before .before .before .if1 .left) (outlined-sized _ _ _) (c .before .before .before .first-above .ensures) (c .before .before .if2 .left) (c .before .if3 .left) (c .done .ensures)
+    check-done fitting fits (outlined-sized _ _ _) (c .before .before .before .before .check-tokens .ensures) (c .before .before .if1 .left) (c .before .if2 .left) (c .done .ensures)
 
 pub check-spec : {M : Type 1} → statement M
 check-spec =
@@ -65,12 +56,9 @@ check-spec =
     refusal-requires
     returns
     enum-told
-    refusal-requires-2
+    check-tokens-requires
     returns-2
-    first-above-requires
-    refusal-requires-3
+    refusal-requires-2
     returns-3
-    refusal-requires-4
-    returns-4
     done-requires
-    returns-5)
+    returns-4)

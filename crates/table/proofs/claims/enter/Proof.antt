@@ -2,7 +2,8 @@
 use mathlib.Core.Path.{sym}
 use native.Mathlib.Omega.{arith}
 use borrow.Author.Needs.{needs}
-use Rattle.table.proofs.Answering.{given-most, cells-fit, taken-sized, enter-ready, enter-tabulated}
+use Rattle.table.proofs.Answering.{given-most, cells-fit, enter-ready, enter-tabulated}
+use Rattle.table.proofs.Vacant.{taken-sized}
 use Rattle.table.proofs.claims.enter.Statement.{statement}
 use Rattle.table.proofs.claims.enter.Tie as tie
 

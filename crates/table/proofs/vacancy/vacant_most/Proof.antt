@@ -1,7 +1,7 @@
 -- The array is one byte, repeated.
-use Rattle.table.proofs.Ledgers.{all-vacant}
-use Rattle.table.proofs.claims.vacant_most.Statement.{statement}
-use Rattle.table.proofs.claims.vacant_most.Tie as tie
+use Rattle.table.proofs.Vacant.{all-vacant}
+use Rattle.table.proofs.vacancy.vacant_most.Statement.{statement}
+use Rattle.table.proofs.vacancy.vacant_most.Tie as tie
 
 returns : tie.Need-returns
 returns c = all-vacant 4032

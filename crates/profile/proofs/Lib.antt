@@ -1,0 +1,9 @@
+pub mod Starts
+pub mod Breaking
+pub mod Entering
+pub mod Outcomes
+pub mod Unique
+pub mod Runs
+pub mod Examples
+pub mod Theorems
+pub mod Promise

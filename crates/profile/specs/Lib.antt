@@ -1,0 +1,4 @@
+pub mod Breaking
+pub mod Entering
+pub mod Plain
+pub mod Examples
