@@ -30,10 +30,10 @@ use Rattle.offer.specs.Stops.{marking, filledBelow, expected, answered, runAnsw
 use Rattle.offer.specs.Strings.{ran}
 use Rattle.run.specs.Running as running
 use Rattle.demands.specs.Examples.{Allowed, Given, answering}
-use Rattle.demands.specs.ChainExample.{chainBook, chainGrammar, chainTable, longBook, longGrammar, longTable, runsZero, chainRun, longRun, lowRun, listlessRun}
+use Rattle.demands.specs.ChainExample.{chainBook, chainGrammar, chainTable, longBook, longGrammar, longTable, Zeros, runsZero, chainRun, longRun, lowRun, listlessRun}
 use Rattle.demands.specs.Demands.{Ran, MayRun, Premises}
 use Rattle.demands.proofs.Kept.{premises-admit}
-use Rattle.demands.proofs.Formula.{run-formula}
+use Rattle.demands.proofs.Formula.{keeps-formula}
 use Rattle.demands.proofs.Examples.{allowed-given}
 
 module _ (g : Grammar) (n : ℕ) where
@@ -85,11 +85,6 @@ pub long-no-empty : NoEmptyRight longGrammar
 unfolding longGrammar all
 long-no-empty = filled-tested longGrammar tt
 
--- a string of the token 0
-pub record Zeros (tokens : List ℕ) : Type 0 where
-  pub short : length tokens ≤ 4096
-  pub zeros : (i : ℕ) → i < length tokens → getD tokens i 0 ≡ 0
-
 pub one-zero : Zeros (0 ∷ [])
 one-zero = record { short = omega arith; zeros = at }
   where
@@ -127,12 +122,12 @@ pub chain-run-given : Given chainRun
 chain-run-given = allowed-given chainRun chain-run-allowed
 
 -- and the formula says that it is 0 or 11, its premises being met together
-pub chain-never-room : (r : Ran)
+pub chain-decides : (r : Ran)
     → MayRun chainBook chainTable (0 ∷ []) (replicate 31 9) (replicate 2 9) r
     → (r .answer .number ≡ 0) ⊎ (r .answer .number ≡ syntax)
 unfolding chainGrammar chain-built built-tested chain-premises zeros-premises
-chain-never-room r o =
-    run-formula chainBook chainTable (0 ∷ []) (replicate 31 9) (replicate 2 9) r o .never-room
+chain-decides r o =
+    keeps-formula chainBook chainTable (0 ∷ []) (replicate 31 9) (replicate 2 9) r o .never-room
     (chain-premises one-zero) chain-no-empty (omega arith) (omega arith)
 
 -- the definitions give the rows of the second book
@@ -144,5 +139,5 @@ long-runs-allowed =
     (each {x = listlessRun} (running.ended (long-built .serves) (premises-admit (long-premises one-zero) (replicate 16 9) (omega arith))) nothing))
 
 -- so with a stack cell or a list cell less than the formula's the answer is 7: for one nonterminal and one token neither can be lowered
-pub formula-needed : Every Given (longRun ∷ lowRun ∷ listlessRun ∷ [])
-formula-needed = every-map allowed-given long-runs-allowed
+pub long-runs-given : Every Given (longRun ∷ lowRun ∷ listlessRun ∷ [])
+long-runs-given = every-map allowed-given long-runs-allowed

@@ -1,12 +1,12 @@
 -- The demands, one page: a call that keeps its promise meets them, each theorem under the sentence that it proves.
 use mathlib.Core.Path.{_≡_, refl, ap, _∙_}
 use mathlib.Core.Logic.{_↔_, _⊎_, _≢_}
-use mathlib.Core.List.{List}
+use mathlib.Core.List.{List, [], _∷_}
 use Prim.Native.Nat.{ℕ, _+_, _≤_, _<_}
 use native.Mathlib.Omega.{arith}
-use lib.ListN.{length, getD, take, drop}
+use lib.ListN.{length, getD, take, drop, replicate}
 use lib.Seq.{take-at}
-use Rattle.grammar.specs.Grammar.{Grammar, Complete}
+use Rattle.grammar.specs.Grammar.{Grammar, Complete, Every}
 use Rattle.grammar.proofs.Theorems.{leftmost-unique}
 use Rattle.answers.specs.declared.Answer.{Answer}
 use Rattle.answers.specs.Answers.{done, atDepth}
@@ -29,6 +29,9 @@ use Rattle.demands.specs.Demands.{Built, Ran, Expanded, MayBuild, MayRun
 use Rattle.demands.specs.Demands.{BuildMeets2, ExpandMeets2, RunMeets2, RunMeets3, RunStepsAdd, ExpandStepsAdd}
 use Rattle.demands.specs.RoomPlace.{StopsForRoom, ExpansionStops}
 use Rattle.demands.specs.Depth.{RunDepth, ExpandDepth}
+use Rattle.demands.specs.Formula.{RunWithinFormula}
+use Rattle.demands.specs.Examples.{Given}
+use Rattle.demands.specs.ChainExample.{chainBook, chainTable, longRun, lowRun, listlessRun}
 use Rattle.demands.specs.Offers.{startOn, atStart, OfferedInTurn, deepestOf, MakesRun}
 use Rattle.demands.proofs.BuildDemands.{done-exactly, conflict-exactly, done-exactly-if}
 use Rattle.demands.proofs.ExpandDemands.{ends-moves, done-complete, done-exact, unfit-exact, unfit-place}
@@ -40,13 +43,12 @@ use Rattle.demands.proofs.AnyTable.{ends-told, ends-steps, any-accepted
 use Rattle.demands.proofs.RunDemands.{accepted-derived, syntax-place, served-or-short, room-short}
 use Rattle.demands.proofs.RunDemands.{short-room-refused, runs-back, done-had-room}
 use Rattle.demands.proofs.RunRoom.{room-place, decides-exactly}
-use Rattle.demands.proofs.Depth.{run-depth-told, run-goes-same, run-lacks-stack, run-deep-as-peak}
-use Rattle.demands.proofs.Depth.{expand-depth-told, expansion-goes-same, expansion-lacks-stack}
-use Rattle.demands.proofs.Depth.{expansion-deep-as-peak}
+use Rattle.demands.proofs.Depth.{run-depth-told, run-goes-same, run-goes-exactly, run-lacks-stack}
+use Rattle.demands.proofs.Depth.{expand-depth-told, expansion-goes-same, expansion-goes-exactly}
+use Rattle.demands.proofs.Depth.{expansion-lacks-stack, run-deep-as-peak, expansion-deep-as-peak}
 use Rattle.demands.proofs.Offers.{offers-made, turn-unique}
--- room by formula: where no right side is empty, a run of n tokens keeps within N × n list cells and 1 + 15 × N × n
--- stack cells, and with those it is never refused for room
-pub use Rattle.demands.proofs.Formula.{run-formula}
+use Rattle.demands.proofs.Formula.{keeps-formula}
+use Rattle.demands.proofs.ChainExample.{chain-decides, long-runs-given}
 
 -- demand 2: sets and tables have no member missing and none added, and a conflict is found exactly if two productions
 -- claim one cell
@@ -124,23 +126,37 @@ module _ (book table tokens stack list : List ℕ) (r : Ran) (o : MayRun book ta
   pub run-depth : RunDepth book table tokens stack list r
   run-depth = run-depth-told book table tokens stack list r o
 
-  module _ (decides : (r .answer .number ≡ 0) ⊎ (r .answer .number ≡ syntax)) (other : List ℕ) (q : Ran)
-      (p : MayRun book table tokens other list q) where
-    -- a run that ends with 0 or 11, on any table that passes refusal 9, ends with the same answer and list on every
-    -- stack of which at least so many cells count
-    pub run-depth-enough : r .answer .depth ≤ counted other → (q .answer ≡ r .answer) × (q .list ≡ r .list)
-    run-depth-enough = run-goes-same book table tokens stack list r o decides other q p
+  module _ (other : List ℕ) (q : Ran) (p : MayRun book table tokens other list q) where
+    -- lent that many cells a call goes the same way: however it ends, on a stack that is not larger answer and list are
+    -- the same exactly if at least so many cells of it count
+    pub run-depth-exactly : counted other ≤ counted stack
+        → ((q .answer ≡ r .answer) × (q .list ≡ r .list)) ↔ (r .answer .depth ≤ counted other)
+    run-depth-exactly = run-goes-exactly book table tokens stack list r o other q p
 
-    -- and with fewer, down to none, it is refused for room, for want of stack
+    -- lent one less, or fewer down to none, it is refused for room, for want of stack, and where it has a cell, after
+    -- fewer steps
     pub run-depth-least : counted other < r .answer .depth
-        → (q .answer .number ≡ room) × (q .answer .detail ≡ stackRoom)
-    run-depth-least = run-lacks-stack book table tokens stack list r o decides other q p
+        → (q .answer .number ≡ room)
+        × (q .answer .detail ≡ stackRoom)
+        × (1 ≤ length other → q .answer .steps < r .answer .steps)
+    run-depth-least = run-lacks-stack book table tokens stack list r o other q p
+
+    -- a run that ends with 0 or 11, on any table that passes refusal 9, goes the same way on a larger stack too
+    pub run-depth-enough : (r .answer .number ≡ 0) ⊎ (r .answer .number ≡ syntax)
+        → r .answer .depth ≤ counted other
+        → (q .answer ≡ r .answer) × (q .list ≡ r .list)
+    run-depth-enough = run-goes-same book table tokens stack list r o other q p
 
   -- where a derivable string is accepted, the depth is the greatest height along its derivation
   pub run-depth-peak : (h : Premises book table tokens) {ps : List ℕ} (d : Complete (h .built .grammar) ps tokens)
       → r .answer .number ≡ 0
       → r .answer .depth ≡ peak d
   run-depth-peak h d n = run-deep-as-peak book table tokens stack list r o h d n
+
+  -- room by formula: where no right side of the book is empty, a run of n tokens keeps within N × n list cells and
+  -- 1 + 15 × N × n stack cells, and with those it is never refused for room
+  pub run-formula : RunWithinFormula book table tokens stack list r
+  run-formula = keeps-formula book table tokens stack list r o
 
   -- on any table that passes refusal 9 the run is done, or refuses for room or for syntax
   pub run-any-ends : {g : Grammar}
@@ -157,6 +173,18 @@ module _ (book table tokens stack list : List ℕ) (r : Ran) (o : MayRun book ta
       → r .answer .number ≡ 0
       → (ps : List ℕ) × Complete g ps tokens × (r .list ≡ over ps list) × (r .answer .steps ≡ length ps + length tokens)
   run-any-accepts s a n = any-accepted (a .fits) (run-ends book table tokens stack list r o s a) n
+
+-- the formula's premises are met together: with its room for one token, the run of 0 on A → B 0, B → 0 0 is not
+-- refused for room
+pub chain-never-room : (r : Ran)
+    → MayRun chainBook chainTable (0 ∷ []) (replicate 31 9) (replicate 2 9) r
+    → (r .answer .number ≡ 0) ⊎ (r .answer .number ≡ syntax)
+chain-never-room = chain-decides
+
+-- for one nonterminal and one token neither number can be lowered: on A → 0 0 .. 0 with a stack cell or a list cell
+-- less than the formula's the run of 0 is refused for room
+pub formula-needed : Every Given (longRun ∷ lowRun ∷ listlessRun ∷ [])
+formula-needed = long-runs-given
 
 module _ (book list stack output : List ℕ) (r : Expanded) (o : MayExpand book list stack output r) where
   -- demand 2: given room and at most 65,535 productions, a complete list expands to the string that it derives
@@ -185,17 +213,26 @@ module _ (book list stack output : List ℕ) (r : Expanded) (o : MayExpand book 
   pub expand-depth : ExpandDepth book list stack output r
   expand-depth = expand-depth-told book list stack output r o
 
-  module _ (decides : (r .answer .number ≡ 0) ⊎ (r .answer .number ≡ production)) (other : List ℕ) (q : Expanded)
-      (p : MayExpand book list other output q) where
-    -- an expansion that ends with 0 or 12 ends with the same answer and output on every stack of which at least so many
-    -- cells count
-    pub expand-depth-enough : r .answer .depth ≤ counted other → (q .answer ≡ r .answer) × (q .output ≡ r .output)
-    expand-depth-enough = expansion-goes-same book list stack output r o decides other q p
+  module _ (other : List ℕ) (q : Expanded) (p : MayExpand book list other output q) where
+    -- lent that many cells a call goes the same way: however it ends, on a stack that is not larger answer and output
+    -- are the same exactly if at least so many cells of it count
+    pub expand-depth-exactly : counted other ≤ counted stack
+        → ((q .answer ≡ r .answer) × (q .output ≡ r .output)) ↔ (r .answer .depth ≤ counted other)
+    expand-depth-exactly = expansion-goes-exactly book list stack output r o other q p
 
-    -- and with fewer, down to none, it is refused for room, for want of stack
+    -- lent one less, or fewer down to none, it is refused for room, for want of stack, and where it has a cell, after
+    -- fewer steps
     pub expand-depth-least : counted other < r .answer .depth
-        → (q .answer .number ≡ room) × (q .answer .detail ≡ stackRoom)
-    expand-depth-least = expansion-lacks-stack book list stack output r o decides other q p
+        → (q .answer .number ≡ room)
+        × (q .answer .detail ≡ stackRoom)
+        × (1 ≤ length other → q .answer .steps < r .answer .steps)
+    expand-depth-least = expansion-lacks-stack book list stack output r o other q p
+
+    -- an expansion that ends with 0 or 12 goes the same way on a larger stack too
+    pub expand-depth-enough : (r .answer .number ≡ 0) ⊎ (r .answer .number ≡ production)
+        → r .answer .depth ≤ counted other
+        → (q .answer ≡ r .answer) × (q .output ≡ r .output)
+    expand-depth-enough = expansion-goes-same book list stack output r o other q p
 
   module _ {g : Grammar} (s : Serves book g) (short : length list ≤ longestList) where
     -- where a complete list is done, the depth is the greatest height along its derivation

@@ -25,7 +25,7 @@ use Rattle.run.proofs.Promise.{run-outcome-unique}
 use Rattle.expand.specs.Expanding.{closing, answeredBy, expandAnswer}
 use Rattle.expand.specs.Expanding as expanding
 use Rattle.expand.proofs.Promise.{expand-outcome-unique}
-use Rattle.demands.specs.Examples.{Example, Allowed, Given, answering, runs, expands, exampleA, exampleB, exampleC, exampleD, exampleE, exampleF, exampleG, refusesBuilding, exampleH1, exampleI, exampleJ, exampleK, exampleKShort, examples}
+use Rattle.demands.specs.Examples.{Example, Allowed, Given, answering, runs, expands, exampleA, exampleB, exampleC, exampleD, exampleE, exampleF, exampleG, refusesBuilding, exampleH1, exampleI, exampleJ, exampleK, exampleKShort, exampleAList, exampleAListLow, exampleAListShort, examples}
 use Rattle.demands.specs.Examples as rows
 use Rattle.demands.proofs.House.{house-admits}
 
@@ -45,7 +45,7 @@ four-strange =
 
 -- the definitions allow every row
 pub examples-allowed : Every Allowed examples
-unfolding examples Allowed exampleA exampleB exampleC exampleD exampleE exampleF exampleG refusesBuilding exampleH1 exampleI exampleJ exampleK exampleKShort runs expands answering house houseTable below begun meets popped replaced used facing offer runFrom rightOf isOf cellOf held only united added marking filledBelow ran expected answered runAnswer atDepth final done stop refusal ended wrote applied writing applying expandFrom opened closing answeredBy expandAnswer
+unfolding examples Allowed exampleA exampleB exampleC exampleD exampleE exampleF exampleG refusesBuilding exampleH1 exampleI exampleJ exampleK exampleKShort exampleAList exampleAListLow exampleAListShort runs expands answering house houseTable below begun meets popped replaced used facing offer runFrom rightOf isOf cellOf held only united added marking filledBelow ran expected answered runAnswer atDepth final done stop refusal ended wrote applied writing applying expandFrom opened closing answeredBy expandAnswer
 examples-allowed =
     each {x = exampleA} (running.ended house-serves (house-admits _ (omega arith) tt _ (omega arith)))
     (each {x = exampleB} (running.ended house-serves (house-admits _ (omega arith) tt _ (omega arith)))
@@ -58,7 +58,10 @@ examples-allowed =
     (each {x = exampleI} (calls.refused useless-refused)
     (each {x = exampleJ} (nested-build (omega arith) (omega arith) (omega arith))
     (each {x = exampleK} (expanding.ended house-serves (omega arith) (omega arith))
-    (each {x = exampleKShort} (expanding.ended house-serves (omega arith) (omega arith)) nothing)))))))))))
+    (each {x = exampleKShort} (expanding.ended house-serves (omega arith) (omega arith))
+    (each {x = exampleAList} (expanding.ended house-serves (omega arith) (omega arith))
+    (each {x = exampleAListLow} (expanding.ended house-serves (omega arith) (omega arith))
+    (each {x = exampleAListShort} (expanding.ended house-serves (omega arith) (omega arith)) nothing))))))))))))))
 
 -- what the promise allows of a call is determined
 pub allowed-given : (x : Example) → Allowed x → Given x

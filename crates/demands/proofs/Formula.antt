@@ -83,10 +83,10 @@ module _ {book table tokens : List ℕ} (h : Premises book table tokens) (full :
           absurd (short-undecided why (subst (λ (o : Offered). Decided o) stopped-at decided))
 
 -- a run that keeps its promise keeps within the formula
-pub run-formula : (book table tokens stack list : List ℕ) (r : Ran)
+pub keeps-formula : (book table tokens stack list : List ℕ) (r : Ran)
     → MayRun book table tokens stack list r
     → RunWithinFormula book table tokens stack list r
-run-formula book table tokens stack list r o =
+keeps-formula book table tokens stack list r o =
     record {
       listed = λ h full. (lists-within h full stack list, steps-within h full stack list (run-begins book table tokens stack list r o h));
       kept = λ h full. keeps-behind h full stack list (run-begins book table tokens stack list r o h);

@@ -82,7 +82,7 @@ pub record Early (a : Answer) : Type 0 where
   pub depth : a .depth ≡ 0
   pub number : (1 ≤ a .number) × (a .number ≤ 10)
 
-refusal-early : (n place detail : ℕ) → (1 ≤ n) × (n ≤ 10) → Early (refusal n place detail)
+pub refusal-early : (n place detail : ℕ) → (1 ≤ n) × (n ≤ 10) → Early (refusal n place detail)
 unfolding refusal
 refusal-early n place detail number = record { steps = refl; depth = refl; number = number }
 

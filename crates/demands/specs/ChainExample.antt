@@ -1,9 +1,10 @@
 -- Two books in which no right side is empty, with their tables, and the string 0 run on them: with the room of the
 -- formula, and with one cell less of stack and of list.
 -- Request W11. Lent buffers hold 9s, so that a cell that is left alone shows.
+use mathlib.Core.Path.{_≡_}
 use mathlib.Core.List.{List, [], _∷_, _++_}
-use Prim.Native.Nat.{ℕ, _^_}
-use lib.ListN.{replicate}
+use Prim.Native.Nat.{ℕ, _^_, _≤_, _<_}
+use lib.ListN.{length, getD, replicate}
 use Rattle.grammar.specs.declared.Symbol.the-variants.{Token, Nonterminal}
 use Rattle.grammar.specs.Grammar.{Grammar}
 use Rattle.answers.specs.declared.Answer.{Answer}
@@ -42,6 +43,11 @@ longGrammar =
 
 unfoldable pub longTable : List ℕ
 longTable = 0 ∷ 255 ∷ []
+
+-- a string of the token 0
+pub record Zeros (tokens : List ℕ) : Type 0 where
+  pub short : length tokens ≤ 4096
+  pub zeros : (i : ℕ) → i < length tokens → getD tokens i 0 ≡ 0
 
 -- the run of 0 with so many cells of stack and list: the answer, and what is left of the list
 unfoldable pub runsZero : (book table : List ℕ) (stack list : ℕ) → Answer → (written : List ℕ) → Example

@@ -1,5 +1,7 @@
--- The starred examples, A to K: the calls with all that is lent, and the whole answer with all that is left.
--- Document 01, "The lister and the examples". Lent buffers hold 9s, so that a cell that is left alone shows.
+-- The starred examples, A to K, and the list of A expanded: the calls with all that is lent, and the whole answer with
+-- all that is left.
+-- Document 01, "The lister and the examples"; document 02, W7. Lent buffers hold 9s, so that a cell that is left alone
+-- shows.
 use mathlib.Core.Path.{_≡_}
 use mathlib.Core.List.{List, [], _∷_}
 use Prim.Native.Nat.{ℕ, _+_, _^_}
@@ -112,10 +114,29 @@ exampleKShort =
     expands (0 ∷ 1 ∷ 3 ∷ []) (9 ∷ 9 ∷ 9 ∷ []) (9 ∷ 9 ∷ 9 ∷ [])
     (answering 12 3 0 5 0 3) (0 ∷ 0 ∷ 0 ∷ []) (0 ∷ 1 ∷ 9 ∷ [])
 
+-- the list of A, with just enough room
+unfoldable pub exampleAList : Example
+exampleAList =
+    expands (0 ∷ 1 ∷ 2 ∷ 4 ∷ 1 ∷ 3 ∷ 5 ∷ []) (9 ∷ 9 ∷ 9 ∷ []) (9 ∷ 9 ∷ 9 ∷ 9 ∷ 9 ∷ 9 ∷ [])
+    (answering 0 0 0 13 0 3) (0 ∷ 0 ∷ 0 ∷ []) (0 ∷ 1 ∷ 2 ∷ 1 ∷ 3 ∷ 1 ∷ [])
+
+-- with a stack of two cells: one is held when it stops, and two were
+unfoldable pub exampleAListLow : Example
+exampleAListLow =
+    expands (0 ∷ 1 ∷ 2 ∷ 4 ∷ 1 ∷ 3 ∷ 5 ∷ []) (9 ∷ 9 ∷ []) (9 ∷ 9 ∷ 9 ∷ 9 ∷ 9 ∷ 9 ∷ [])
+    (answering 7 1 1 2 0 2) (0 ∷ 0 ∷ []) (0 ∷ 9 ∷ 9 ∷ 9 ∷ 9 ∷ 9 ∷ [])
+
+-- with an output of four cells: two are held when it stops, and three were, of four lent
+unfoldable pub exampleAListShort : Example
+exampleAListShort =
+    expands (0 ∷ 1 ∷ 2 ∷ 4 ∷ 1 ∷ 3 ∷ 5 ∷ []) (9 ∷ 9 ∷ 9 ∷ 9 ∷ []) (9 ∷ 9 ∷ 9 ∷ 9 ∷ [])
+    (answering 7 4 3 8 0 3) (0 ∷ 0 ∷ 0 ∷ 0 ∷ []) (0 ∷ 1 ∷ 2 ∷ 1 ∷ [])
+
 unfoldable pub examples : List Example
 examples =
     exampleA ∷ exampleB ∷ exampleC ∷ exampleD ∷ exampleE ∷ exampleF ∷ exampleG
-    ∷ exampleH1 ∷ exampleI ∷ exampleJ ∷ exampleK ∷ exampleKShort ∷ []
+    ∷ exampleH1 ∷ exampleI ∷ exampleJ ∷ exampleK ∷ exampleKShort
+    ∷ exampleAList ∷ exampleAListLow ∷ exampleAListShort ∷ []
 
 -- whatever the promise of the example's call allows is the example's outcome
 unfoldable pub Given : Example → Type 0

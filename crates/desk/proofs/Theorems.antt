@@ -1,13 +1,15 @@
 -- What is proved of the C functions, one page: each call allows one outcome, and meets the demands, read of calls that
 -- lend an answer buffer long enough.
 use mathlib.Core.Path.{_≡_, refl, sym, _∙_, subst}
+use mathlib.Core.Logic.{_↔_, _⊎_}
 use mathlib.Core.List.{List}
-use Prim.Native.Nat.{ℕ, _^_, _<_}
+use Prim.Native.Nat.{ℕ, _^_, _<_, _≤_}
 use native.Mathlib.Nat.{mul-le-mul}
 use native.Mathlib.Omega.{arith}
 use lib.ListN.{length}
 use Rattle.grammar.specs.Machine.{Longest}
 use Rattle.answers.specs.Buffers.{counted}
+use Rattle.answers.specs.Refusals.{room, syntax, production, stackRoom}
 use Rattle.patterns.specs.Calls.{JudgePatterns}
 use Rattle.pieces.specs.Calls.{CutWithOutcome}
 use Rattle.cut.specs.Calls.{CutOutcome}
@@ -28,7 +30,8 @@ use Rattle.demands.specs.Depth.{RunDepth, ExpandDepth}
 use Rattle.demands.specs.Formula.{RunWithinFormula}
 use Rattle.demands.specs.Demands.{BuildMeets2, ExpandMeets2, RunMeets2, RunMeets3, RunStepsAdd, ExpandStepsAdd}
 use Rattle.demands.proofs.Promise.{build-meets2, run-meets3, run-meets2, run-steps-add, run-formula, expand-meets2}
-use Rattle.demands.proofs.Promise.{expand-steps-add, run-depth, expand-depth}
+use Rattle.demands.proofs.Promise.{expand-steps-add, run-depth, run-depth-exactly, run-depth-least, run-depth-enough}
+use Rattle.demands.proofs.Promise.{expand-depth, expand-depth-exactly, expand-depth-least, expand-depth-enough}
 use Rattle.desk.specs.Desk.{littleEndian, answerBytes, answerSize, Lent, LentCell, JudgeOutcome, SetOutcome}
 use Rattle.desk.specs.Desk.{JudgeCall, PatternsCall, CutCall, CutWithCall, SetsCall, BuildCall, RunCall}
 use Rattle.desk.specs.Desk.{ExpandCall, LookaheadCall, FirstCall}
@@ -36,6 +39,7 @@ use Rattle.desk.specs.Demands.{answerFrom}
 use Rattle.desk.proofs.Calls.{called-answer, called-unique, two-unique, three-unique, judge-outcome-unique}
 use Rattle.desk.proofs.Calls.{patterns-outcome-unique, cut-with-same, set-outcome-unique}
 use Rattle.desk.proofs.ReadBack.{FitsWords, answer-read, called-exact}
+use Rattle.desk.proofs.Depth.{ran-counted, expanded-counted, exactly-read, least-read, enough-read}
 use Rattle.desk.proofs.Fitting.{ran-bounded, run-fits, expand-fits, judge-fits, sets-fits, build-fits}
 use Rattle.desk.proofs.Fitting.{lookahead-fits, first-fits, patterns-fits, cut-fits, cut-with-fits}
 
@@ -354,6 +358,75 @@ module _ {answer : List ℕ} (lent : Lent answer) where
         follow-sets = λ {g} serves m. meets .follow-sets serves (sym (read .number) ∙ m);
         cells = λ {g} serves m. meets .cells serves (sym (read .number) ∙ m);
       }
+
+-- how deep a call went, of two calls that lend answer buffers long enough and, but for the stack, the same
+module _ {answer buffer : List ℕ} (lent : Lent answer) (given : Lent buffer) (stack other : List ℕ) where
+  module _ {book table tokens list : List ℕ} {n m : ℕ} {s l x t k y : List ℕ}
+      (c : RunCall book table tokens stack list answer n s l x)
+      (d : RunCall book table tokens other list buffer m t k y) where
+    -- with a stack that is not larger it goes the same way exactly if at least so many cells of it count
+    pub desk-run-depth-exactly : counted other ≤ counted stack
+        → ((answerFrom m y ≡ answerFrom n x) × (k ≡ l)) ↔ (answerFrom n x .depth ≤ counted other)
+    desk-run-depth-exactly less =
+        let r = called-answer lent (c .call) in
+        let q = called-answer given (d .call) in
+        exactly-read r q stack other (ran-counted (r .outcome)) (ran-counted (q .outcome))
+        (run-depth-exactly book table tokens stack list (record { answer = r .told; stack = s; list = l }) (r .outcome)
+        other (record { answer = q .told; stack = t; list = k }) (q .outcome) less)
+
+    -- with fewer it is refused for room, for want of stack
+    pub desk-run-depth-least : counted other < answerFrom n x .depth
+        → (answerFrom m y .number ≡ room) × (answerFrom m y .detail ≡ stackRoom)
+    desk-run-depth-least =
+        let r = called-answer lent (c .call) in
+        let q = called-answer given (d .call) in
+        least-read r q stack other (ran-counted (r .outcome)) (ran-counted (q .outcome))
+        (run-depth-least book table tokens stack list (record { answer = r .told; stack = s; list = l }) (r .outcome)
+        other (record { answer = q .told; stack = t; list = k }) (q .outcome))
+
+    -- and where it ends with 0 or 11, it goes the same way with a larger stack too
+    pub desk-run-depth-enough : (n ≡ 0) ⊎ (n ≡ syntax)
+        → answerFrom n x .depth ≤ counted other
+        → (answerFrom m y ≡ answerFrom n x) × (k ≡ l)
+    desk-run-depth-enough decides =
+        let r = called-answer lent (c .call) in
+        let q = called-answer given (d .call) in
+        enough-read r q stack other (ran-counted (r .outcome)) (ran-counted (q .outcome))
+        (run-depth-enough book table tokens stack list (record { answer = r .told; stack = s; list = l }) (r .outcome)
+        other (record { answer = q .told; stack = t; list = k }) (q .outcome) (rw (r .returned) at decides))
+
+  module _ {book list output : List ℕ} {n m : ℕ} {s v x t w y : List ℕ}
+      (c : ExpandCall book list stack output answer n s v x)
+      (d : ExpandCall book list other output buffer m t w y) where
+    -- the same of an expansion that is lent the same output
+    pub desk-expand-depth-exactly : counted other ≤ counted stack
+        → ((answerFrom m y ≡ answerFrom n x) × (w ≡ v)) ↔ (answerFrom n x .depth ≤ counted other)
+    desk-expand-depth-exactly less =
+        let r = called-answer lent (c .call) in
+        let q = called-answer given (d .call) in
+        exactly-read r q stack other (expanded-counted (r .outcome)) (expanded-counted (q .outcome))
+        (expand-depth-exactly book list stack output (record { answer = r .told; stack = s; output = v }) (r .outcome)
+        other (record { answer = q .told; stack = t; output = w }) (q .outcome) less)
+
+    pub desk-expand-depth-least : counted other < answerFrom n x .depth
+        → (answerFrom m y .number ≡ room) × (answerFrom m y .detail ≡ stackRoom)
+    desk-expand-depth-least =
+        let r = called-answer lent (c .call) in
+        let q = called-answer given (d .call) in
+        least-read r q stack other (expanded-counted (r .outcome)) (expanded-counted (q .outcome))
+        (expand-depth-least book list stack output (record { answer = r .told; stack = s; output = v }) (r .outcome)
+        other (record { answer = q .told; stack = t; output = w }) (q .outcome))
+
+    -- it goes the same way with a larger stack where it ends with 0 or 12
+    pub desk-expand-depth-enough : (n ≡ 0) ⊎ (n ≡ production)
+        → answerFrom n x .depth ≤ counted other
+        → (answerFrom m y ≡ answerFrom n x) × (w ≡ v)
+    desk-expand-depth-enough decides =
+        let r = called-answer lent (c .call) in
+        let q = called-answer given (d .call) in
+        enough-read r q stack other (expanded-counted (r .outcome)) (expanded-counted (q .outcome))
+        (expand-depth-enough book list stack output (record { answer = r .told; stack = s; output = v }) (r .outcome)
+        other (record { answer = q .told; stack = t; output = w }) (q .outcome) (rw (r .returned) at decides))
 
 -- an answer buffer has 40 bytes or more
 pub answer-size : answerSize ≡ 40

@@ -1,97 +1,123 @@
--- The greatest height that a run or an expansion reaches is the stack that it needs: with so many cells or more it goes the same way, and with
--- fewer it stops for want of stack. So it is of whatever did not stop for that.
-use mathlib.Core.Path.{_≡_, refl, sym, ap, _∙_}
+-- The greatest height that a run or an expansion reaches is the stack that it needs: with fewer cells it stops for want of stack, before it gets
+-- so high; with so many it goes the same way, and with more too, if it did not stop for want of stack.
+use mathlib.Core.Path.{_≡_, refl, ap, _∙_}
 use mathlib.Core.Logic.{_≢_}
 use mathlib.Core.Bool.{Bool}
-use mathlib.Core.List.{List, _++_}
+use mathlib.Core.List.{List, _∷_, _++_}
 use mathlib.Core.Option.{Option}
-use Prim.Native.Nat.{ℕ, _+_, _≤_, _<_}
+use Prim.Native.Nat.{ℕ, _≤_, _<_}
+use native.Mathlib.Decide.{decLe}
 use native.Mathlib.Omega.{arith}
 use lib.ListN.{length}
+use Rattle.grammar.specs.declared.Symbol.the-variants.{Nonterminal}
 use Rattle.grammar.specs.Grammar.{Form, Grammar, Column}
-use Rattle.machine.specs.Machine.{State, Offered, taken, stopped, begun, runFrom}
-use Rattle.machine.specs.declared.Reason.the-variants.{FullList, FullStack, WantsEnd, WantsToken, WantsRow}
+use Rattle.grammar.specs.Machine.{front}
+use Rattle.machine.specs.Machine.{State, Offered, stopped, begun, popped, replaced, runFrom}
+use Rattle.machine.specs.declared.Reason.the-variants.{FullStack}
 use Rattle.machine.specs.Expansion.{Course, Expansion, ended, wrote, applied, expandFrom, opened, expansion}
+use Rattle.machine.specs.Stopping.{HadStack}
 use Rattle.machine.specs.declared.Upshot.{Upshot}
 use Rattle.machine.specs.declared.Upshot.the-variants as upshots
-use Rattle.machine.proofs.Walk.{final, Walked, Halt, accepts, left-over, unmatched, vacant, list-full, stack-full}
+use Rattle.machine.proofs.Walk.{final, Walk, here, match, expand, Walked, Halt, accepts, left-over, unmatched, vacant, list-full, stack-full}
 use Rattle.machine.proofs.Agreement.{walk-runs, walk-lists, ran}
-use Rattle.machine.proofs.Count.{halt-final}
-use Rattle.machine.proofs.RunTheorems.{run-steps}
+use Rattle.machine.proofs.Count.{walk-grown, halt-final}
 use Rattle.machine.proofs.RoomNeeded.{walk-within}
 use Rattle.machine.proofs.ExpandMoves as moves
 use Rattle.machine.proofs.ExpandTrace.{Expands, finished, left-over, too-short, misfit, no-output, no-stack, write, apply}
 use Rattle.machine.proofs.ExpandWhole.{whole}
-use Rattle.machine.proofs.ExpandTheorems.{expand-steps}
 
--- the outcome is no stop for want of stack
-abbrev pub HadStack : Offered → Type 0
-HadStack o = (e : State) → o ≢ stopped FullStack e
+-- with this room a walk from s stops for want of stack before it gets to e
+record CutShort (right : ℕ → Form) (cell : ℕ → Column → Option ℕ) (room cells : ℕ) (w : List ℕ) (s e : State) : Type 0 where
+  rest : List ℕ
+  last : State
+  walk : Walk right cell room cells rest last w s
+  halt : Halt right cell room cells (front rest) last (stopped FullStack last)
+  sooner : last .moves < e .moves
 
-halt-within : {right : ℕ → Form} {cell : ℕ → Column → Option ℕ} {much room cells : ℕ} {c : Column} {s : State} {o : Offered}
-    → Halt right cell much cells c s o
-    → HadStack o
-    → Halt right cell room cells c s o
-halt-within (accepts e f) n = accepts e f
-halt-within (Halt.left-over e f) n = Halt.left-over e f
-halt-within (unmatched e f) n = unmatched e f
-halt-within (vacant e f) n = vacant e f
-halt-within (list-full e f m) n = list-full e f m
-halt-within (stack-full e f l m) n = absurd (n _ refl)
+module _ {right : ℕ → Form} {cell : ℕ → Column → Option ℕ} {much room cells : ℕ} where
+  -- where it halts it halts with other room too; for want of stack, with less
+  halt-within : {c : Column} {s : State} {o : Offered}
+      → Halt right cell much cells c s o
+      → ((e : State) → o ≡ stopped FullStack e → room ≤ much)
+      → Halt right cell room cells c s o
+  halt-within (accepts e f) n = accepts e f
+  halt-within (Halt.left-over e f) n = Halt.left-over e f
+  halt-within (unmatched e f) n = unmatched e f
+  halt-within (vacant e f) n = vacant e f
+  halt-within (list-full e f m) n = list-full e f m
+  halt-within (stack-full e f l m) n = stack-full e f l (omega (arith, n _ refl))
+
+  -- so does one that would get higher than the room
+  walk-cut : {z w : List ℕ} {e s : State} → Walk right cell much cells z e w s → s .height ≤ room → room < e .height → CutShort right cell room cells w s e
+  unfolding popped replaced
+  walk-cut here h k = absurd (omega arith)
+  walk-cut (match f r) h k =
+      let cut = walk-cut r h k in
+      record { rest = cut .rest; last = cut .last; walk = match f (cut .walk); halt = cut .halt; sooner = cut .sooner }
+  walk-cut {e = e} (expand {p = p} {α = α} {w = w} {s = s} f c l m r) h k = go (decLe (length (right p ++ α)) room) (walk-cut r)
+    where
+      go : Dec (length (right p ++ α) ≤ room)
+          → (replaced p (right p ++ α) s .height ≤ room → room < e .height → CutShort right cell room cells w (replaced p (right p ++ α) s) e)
+          → CutShort right cell room cells w s e
+      go (yes n) again =
+          let cut = again (omega arith) k in
+          record { rest = cut .rest; last = cut .last; walk = expand {s = s} f c l n (cut .walk); halt = cut .halt; sooner = cut .sooner }
+      go (no n) again =
+          let (j, matched, grown) = walk-grown r in
+          record { rest = w; last = s; walk = here; halt = stack-full f c l (omega arith); sooner = omega (arith, grown .steps) }
 
 module _ (right : ℕ → Form) (cell : ℕ → Column → Option ℕ) (cells start : ℕ) (w : List ℕ) where
   -- the run with so many stack cells
   abbrev runs : ℕ → Offered
   runs room = runFrom right cell room cells w (begun start)
 
-  pub run-depth-same : (much room : ℕ) → HadStack (runs much) → final (runs much) .height ≤ room → runs room ≡ runs much
+  within : (much room : ℕ) → ((e : State) → runs much ≡ stopped FullStack e → room ≤ much) → final (runs much) .height ≤ room → runs room ≡ runs much
   unfolding begun
-  run-depth-same much room had low =
+  within much room had low =
       let r : Walked right cell much cells w (begun start) (runs much) = ran right cell much cells w (begun start) (omega arith) in
       let height = ap (λ (s : State). s .height) (halt-final (r .halt)) in
       let listed = walk-lists (r .walk) (omega arith) in
       walk-runs (walk-within listed (omega arith) (r .walk)) (omega arith) (halt-within (r .halt) had)
 
+  -- the same way with any other stack
+  pub run-depth-same : (much room : ℕ) → HadStack (runs much) → final (runs much) .height ≤ room → runs room ≡ runs much
+  run-depth-same much room had low = within much room (λ e f. absurd (had e f)) low
+
+  -- and however it ended, with one that is not larger
+  pub run-depth-down : (much room : ℕ) → room ≤ much → final (runs much) .height ≤ room → runs room ≡ runs much
+  run-depth-down much room less low = within much room (λ e f. less) low
+
+  -- but not so far with one that is lower than it got
   pub run-depth-short : (much room : ℕ)
-      → HadStack (runs much)
       → 1 ≤ room
       → room < final (runs much) .height
-      → (e : State) × (runs room ≡ stopped FullStack e)
-  run-depth-short much room had some-room low = go (runs room) refl
-    where
-      -- else both went the same way with more stack than either, and so to one height
-      apart : HadStack (runs room) → ⊥
-      apart other =
-          let here : final (runs room) .height ≤ room = run-steps right cell room cells start w .height-fits some-room in
-          let far : final (runs much) .height ≤ final (runs much) .height + room = omega arith in
-          let one = run-depth-same much (final (runs much) .height + room) had far in
-          let two = run-depth-same room (final (runs much) .height + room) other (omega arith) in
-          let same : final (runs room) .height ≡ final (runs much) .height = ap (λ (o : Offered). final o .height) (sym two ∙ one) in
-          omega arith
-
-      go : (o : Offered) → runs room ≡ o → (e : State) × (runs room ≡ stopped FullStack e)
-      go (stopped FullStack s) f = (s, f)
-      go (taken s) f = absurd (apart (λ e k. let both : taken s ≡ stopped FullStack e = sym f ∙ k in let bad : _≡_ {A = ℕ} 0 1 = cc in omega arith))
-      go (stopped FullList s) f = absurd (apart (λ e k. let both : stopped FullList s ≡ stopped FullStack e = sym f ∙ k in let bad : _≡_ {A = ℕ} 0 1 = cc in omega arith))
-      go (stopped WantsEnd s) f = absurd (apart (λ e k. let both : stopped WantsEnd s ≡ stopped FullStack e = sym f ∙ k in let bad : _≡_ {A = ℕ} 0 1 = cc in omega arith))
-      go (stopped (WantsToken t) s) f = absurd (apart (λ e k. let both : stopped (WantsToken t) s ≡ stopped FullStack e = sym f ∙ k in let bad : _≡_ {A = ℕ} 0 1 = cc in omega arith))
-      go (stopped (WantsRow A) s) f = absurd (apart (λ e k. let both : stopped (WantsRow A) s ≡ stopped FullStack e = sym f ∙ k in let bad : _≡_ {A = ℕ} 0 1 = cc in omega arith))
+      → (e : State) × (runs room ≡ stopped FullStack e) × (e .moves < final (runs much) .moves)
+  unfolding begun
+  run-depth-short much room some-room low =
+      let r : Walked right cell much cells w (begun start) (runs much) = ran right cell much cells w (begun start) (omega arith) in
+      let height = ap (λ (s : State). s .height) (halt-final (r .halt)) in
+      let moved = ap (λ (s : State). s .moves) (halt-final (r .halt)) in
+      let cut : CutShort right cell room cells w (begun start) (r .last) = walk-cut (r .walk) (omega arith) (omega arith) in
+      (cut .last, walk-runs (cut .walk) (omega arith) (cut .halt), omega (arith, cut .sooner))
 
 module _ {fits : ℕ → ℕ → Bool} {right : ℕ → Form} {output : ℕ} where
-  -- the greatest height never falls
-  expands-higher : {room : ℕ} {ps : List ℕ} {α : Form} {s s′ : Course} {e : Upshot} → Expands fits right room output ps α s e s′ → s .height ≤ s′ .height
+  -- neither the greatest height nor the moves made ever fall
+  expands-on : {room : ℕ} {ps : List ℕ} {α : Form} {s s′ : Course} {e : Upshot}
+      → Expands fits right room output ps α s e s′
+      → (s .height ≤ s′ .height) × (s .moves ≤ s′ .moves)
   unfolding wrote applied
-  expands-higher finished = omega arith
-  expands-higher left-over = omega arith
-  expands-higher too-short = omega arith
-  expands-higher (misfit f) = omega arith
-  expands-higher (no-output h) = omega arith
-  expands-higher (no-stack f h) = omega arith
-  expands-higher (write h r) = expands-higher r
-  expands-higher (apply f h r) = omega (arith, expands-higher r)
+  expands-on finished = (omega arith, omega arith)
+  expands-on left-over = (omega arith, omega arith)
+  expands-on too-short = (omega arith, omega arith)
+  expands-on (misfit f) = (omega arith, omega arith)
+  expands-on (no-output h) = (omega arith, omega arith)
+  expands-on (no-stack f h) = (omega arith, omega arith)
+  expands-on (write h r) = let (higher, later) = expands-on r in (higher, omega arith)
+  expands-on (apply f h r) = let (higher, later) = expands-on r in (omega arith, omega arith)
 
+  -- an expansion needs as much stack as it gets high; the one that stops for want of stack stops so with less too
   expands-within : {much room : ℕ} {ps : List ℕ} {α : Form} {s s′ : Course} {e : Upshot}
-      → e ≢ upshots.FullStack
+      → (e ≡ upshots.FullStack → room ≤ much)
       → s′ .height ≤ room
       → Expands fits right much output ps α s e s′
       → Expands fits right room output ps α s e s′
@@ -101,11 +127,33 @@ module _ {fits : ℕ → ℕ → Bool} {right : ℕ → Form} {output : ℕ} whe
   expands-within n k too-short = too-short
   expands-within n k (misfit f) = misfit f
   expands-within n k (no-output h) = no-output h
-  expands-within n k (no-stack f h) = absurd (n refl)
+  expands-within n k (no-stack {α = α} f h) = no-stack {α = α} f (omega (arith, n refl))
   expands-within n k (write h r) = write h (expands-within n k r)
   expands-within {room = room} n k (apply {p = p} {α = α} f h r) =
-      let fits-in : length (right p ++ α) ≤ room = omega (arith, expands-higher r) in
+      let fits-in : length (right p ++ α) ≤ room = omega (arith, expands-on r .0) in
       apply f fits-in (expands-within n k r)
+
+  -- one that gets higher than the room stops for want of stack before it does
+  expands-cut : {much room : ℕ} {ps : List ℕ} {α : Form} {s s′ : Course} {e : Upshot}
+      → Expands fits right much output ps α s e s′
+      → s .height ≤ room
+      → room < s′ .height
+      → (c : Course) × Expands fits right room output ps α s upshots.FullStack c × (c .moves < s′ .moves)
+  unfolding wrote applied
+  expands-cut finished h k = absurd (omega arith)
+  expands-cut left-over h k = absurd (omega arith)
+  expands-cut too-short h k = absurd (omega arith)
+  expands-cut (misfit f) h k = absurd (omega arith)
+  expands-cut (no-output f) h k = absurd (omega arith)
+  expands-cut (no-stack f l) h k = absurd (omega arith)
+  expands-cut (write f r) h k = let (c, cut, sooner) = expands-cut r h k in (c, write f cut, sooner)
+  expands-cut {room = room} {s′ = s′} (apply {p = p} {A = A} {ps = ps} {α = α} {s = s} f l r) h k = go (decLe (length (right p ++ α)) room) (expands-cut r)
+    where
+      go : Dec (length (right p ++ α) ≤ room)
+          → (applied (right p ++ α) s .height ≤ room → room < s′ .height → (c : Course) × Expands fits right room output ps (right p ++ α) (applied (right p ++ α) s) upshots.FullStack c × (c .moves < s′ .moves))
+          → (c : Course) × Expands fits right room output (p ∷ ps) (Nonterminal A ∷ α) s upshots.FullStack c × (c .moves < s′ .moves)
+      go (yes n) again = let (c, cut, sooner) = again (omega arith) k in (c, apply f n cut, sooner)
+      go (no n) again = (s, no-stack {α = α} f (omega arith), omega (arith, expands-on r .1))
 
   -- what the relation comes to is computed
   expands-is : {room : ℕ} {ps : List ℕ} {α : Form} {s s′ : Course} {e : Upshot}
@@ -128,30 +176,24 @@ module _ (g : Grammar) (output : ℕ) (ps : List ℕ) where
   -- the start symbol is on the stack from the beginning
   pub expand-tall : (room : ℕ) → 1 ≤ expands room .progress .height
   unfolding opened
-  expand-tall room = omega (arith, expands-higher (whole g room output ps))
+  expand-tall room = omega (arith, expands-on (whole g room output ps) .0)
 
+  -- the same way with any other stack
   pub expand-depth-same : (much room : ℕ) → expands much .ending ≢ upshots.FullStack → expands much .progress .height ≤ room → expands room ≡ expands much
   unfolding ended
-  expand-depth-same much room had low = expands-is (expands-within had low (whole g much output ps))
+  expand-depth-same much room had low = expands-is (expands-within (λ f. absurd (had f)) low (whole g much output ps))
 
+  -- and however it ended, with one that is not larger
+  pub expand-depth-down : (much room : ℕ) → room ≤ much → expands much .progress .height ≤ room → expands room ≡ expands much
+  unfolding ended
+  expand-depth-down much room less low = expands-is (expands-within (λ f. less) low (whole g much output ps))
+
+  -- but not so far with one that is lower than it got
   pub expand-depth-short : (much room : ℕ)
-      → expands much .ending ≢ upshots.FullStack
       → 1 ≤ room
       → room < expands much .progress .height
-      → expands room .ending ≡ upshots.FullStack
-  expand-depth-short much room had some-room low = go (expands room .ending) refl
-    where
-      apart : expands room .ending ≢ upshots.FullStack → ⊥
-      apart other =
-          let here : expands room .progress .height ≤ room = omega (arith, expand-steps g room output ps .height) in
-          let far : expands much .progress .height ≤ expands much .progress .height + room = omega arith in
-          let one = expand-depth-same much (expands much .progress .height + room) had far in
-          let two = expand-depth-same room (expands much .progress .height + room) other (omega arith) in
-          let same : expands room .progress .height ≡ expands much .progress .height = ap (λ (x : Expansion). x .progress .height) (sym two ∙ one) in
-          omega arith
-
-      go : (e : Upshot) → expands room .ending ≡ e → expands room .ending ≡ upshots.FullStack
-      go upshots.FullStack f = f
-      go upshots.Finished f = absurd (apart (λ k. let both : upshots.Finished ≡ upshots.FullStack = sym f ∙ k in let bad : _≡_ {A = ℕ} 0 1 = cc in omega arith))
-      go upshots.Unfit f = absurd (apart (λ k. let both : upshots.Unfit ≡ upshots.FullStack = sym f ∙ k in let bad : _≡_ {A = ℕ} 0 1 = cc in omega arith))
-      go upshots.FullOutput f = absurd (apart (λ k. let both : upshots.FullOutput ≡ upshots.FullStack = sym f ∙ k in let bad : _≡_ {A = ℕ} 0 1 = cc in omega arith))
+      → (c : Course) × (expands room ≡ ended upshots.FullStack c) × (c .moves < expands much .progress .moves)
+  unfolding opened
+  expand-depth-short much room some-room low =
+      let (c, cut, sooner) = expands-cut (whole g much output ps) (omega arith) low in
+      (c, expands-is cut, sooner)

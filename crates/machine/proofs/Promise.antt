@@ -23,5 +23,5 @@ pub use Rattle.machine.proofs.ExpandDerivation.{fits-rule, rule-fits}
 pub use Rattle.machine.proofs.ExpandTheorems.{expand-steps, expand-sound, expand-complete, expand-exact}
 pub use Rattle.machine.proofs.ExpandTheorems.{expand-refuses, expand-place, expand-room}
 pub use Rattle.machine.proofs.ExpandRoom.{WantsRoom, wants-stack, wants-output, expand-stops}
-pub use Rattle.machine.proofs.Depth.{HadStack, run-depth-same, run-depth-short}
-pub use Rattle.machine.proofs.Depth.{expand-tall, expand-depth-same, expand-depth-short}
+pub use Rattle.machine.proofs.Depth.{run-depth-same, run-depth-down, run-depth-short}
+pub use Rattle.machine.proofs.Depth.{expand-tall, expand-depth-same, expand-depth-down, expand-depth-short}

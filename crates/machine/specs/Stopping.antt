@@ -2,6 +2,7 @@
 -- string needs.
 -- Document 01, "Running and expanding"; demand 3's sentence on room.
 use mathlib.Core.Path.{_≡_}
+use mathlib.Core.Logic.{_≢_}
 use mathlib.Core.List.{List, [], _∷_, _++_}
 use mathlib.Core.Option.{Option}
 use Prim.Native.Nat.{ℕ, _≤_, _<_}
@@ -31,6 +32,10 @@ pub data Short : Reason → Type 0 where
 pub data Decided : Offered → Type 0 where
   accepted : {s : State} → Decided (taken s)
   refused : {r : Reason} {s : State} → Syntax r → Decided (stopped r s)
+
+-- the outcome is no stop for want of stack
+abbrev pub HadStack : Offered → Type 0
+HadStack o = (e : State) → o ≢ stopped FullStack e
 
 -- the run of a grammar's machine from its start
 abbrev pub runOf : Grammar → (ℕ → Column → Option ℕ) → ℕ → ℕ → List ℕ → Offered
