@@ -19,10 +19,11 @@ use Rattle.table.specs.Table.{cellOf}
 use Rattle.machine.specs.Room.{peak, LongestList}
 use Rattle.machine.specs.Stopping.{RoomNeeded}
 use Rattle.machine.proofs.Promise.{room-needed}
+use Rattle.offer.specs.Resuming.{OfferResult}
 use Rattle.offer.specs.Strings.{ran}
 use Rattle.offer.specs.declared.Progress.{Progress}
 use Rattle.offer.specs.declared.Reply.{Reply}
-use Rattle.offer.proofs.Promise.{told-numbers, OfferResult}
+use Rattle.offer.proofs.Promise.{told-numbers}
 use Rattle.run.specs.Judged.{JudgedRun}
 use Rattle.run.specs.Running.{Admits}
 use Rattle.demands.specs.Demands.{Built, Ran, Expanded, MayBuild, MayRun, MayExpand, Premises, RunRoom, expanded}

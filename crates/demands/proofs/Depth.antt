@@ -35,8 +35,8 @@ use Rattle.expand.specs.Expanding as expanding
 use Rattle.expand.proofs.Promise.{told-height, told-moves, told-complete, told-with-room, expand-outcome-unique}
 use Rattle.demands.specs.Demands.{Ran, Expanded, MayRun, MayExpand, Premises, expanded}
 use Rattle.demands.specs.Depth.{RunDepth, ExpandDepth}
-use Rattle.demands.proofs.Kept.{Early, refusal-early, refuses-early, barred-early, before-steps, EndsRun, run-ends, run-begins}
-use Rattle.demands.proofs.Kept.{EndsExpansion, expansion-ends, expansion-before-steps}
+use Rattle.demands.proofs.Kept.{Early, refusal-early, refuses-early, barred-early, before-steps, run-ends, run-begins}
+use Rattle.demands.proofs.Kept.{expansion-ends, expansion-before-steps}
 use Rattle.demands.proofs.AnyTable.{ends-told}
 use Rattle.demands.proofs.RunRoom.{told-decided}
 use Rattle.demands.proofs.RunDemands.{done-had-room, runs-back}

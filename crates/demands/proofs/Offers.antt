@@ -33,13 +33,13 @@ use Rattle.machine.proofs.Promise.{Counted, Grown, gained, halt-final, offer-co
 use Rattle.stack.specs.Stack.{Spelled, spelledBy, stacked}
 use Rattle.stack.proofs.Promise.{symbols-spelled, cells-spelled, nonterminal-spelled, every-append, every-rest}
 use Rattle.stack.proofs.Promise.{length-spelled, length-stacked, spelled-stacked, length-over, over-over}
-use Rattle.offer.specs.Resuming.{progressOf, reported, clamped, standing, offeredTo, Offers, OfferedOn, OfferOutcome, refused, offered}
+use Rattle.offer.specs.Resuming.{OfferResult, progressOf, reported, clamped, standing, offeredTo, Offers, OfferedOn, OfferOutcome, refused, offered}
 use Rattle.offer.specs.Stops.{expected, answered, runAnswer, valuesOf, deepestIn, answerOf}
 use Rattle.offer.specs.Strings.{ran}
 use Rattle.offer.specs.declared.Progress.{Progress}
 use Rattle.offer.specs.declared.Reply.the-variants.{Taken, Refused}
 use Rattle.offer.specs.declared.Reply.{Reply}
-use Rattle.offer.proofs.Promise.{OfferResult, offer-outcome-unique}
+use Rattle.offer.proofs.Promise.{offer-outcome-unique}
 use Rattle.run.specs.Judged.{JudgedRun, RanOn, ran-on}
 use Rattle.run.specs.Judged as judged
 use Rattle.demands.specs.Offers.{startOn, atStart, OfferedInTurn, at-end, stops, goes-on, deepestOf, MakesRun}

@@ -1,5 +1,5 @@
--- How deep a call went: the depth that it tells is the greatest height of the definition's machine, and 0 where steps do
--- not begin.
+-- How deep a call went: the depth that it tells is the greatest height of the definition's machine, and 0 where steps
+-- do not begin.
 -- Document 02, W7.
 use mathlib.Core.Path.{_≡_}
 use mathlib.Core.List.{List}

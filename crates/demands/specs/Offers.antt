@@ -1,6 +1,6 @@
 -- A token string offered column by column to a run in progress, and what that has to do with a run on a judged book.
--- Document 01, "Running and expanding": the start symbol on the stack, each token, then the end mark. Document 02, W7: who
--- offers again keeps the larger of two depths.
+-- Document 01, "Running and expanding": the start symbol on the stack, each token, then the end mark. Document 02, W7:
+-- who offers again keeps the larger of two depths.
 use mathlib.Core.Path.{_≡_}
 use mathlib.Core.Logic.{_≢_}
 use mathlib.Core.List.{List, [], _∷_}

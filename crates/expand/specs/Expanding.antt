@@ -1,5 +1,5 @@
 -- What an expansion answers and leaves in the lent buffers, for every book, list and buffer.
--- Document 01, "Refusals and their numbers" and "Running and expanding".
+-- Document 01, "Refusals and their numbers" and "Running and expanding"; document 02, W7.
 use mathlib.Core.Path.{_≡_}
 use mathlib.Core.List.{List}
 use Prim.Native.Nat.{ℕ, _≤_, _<_}

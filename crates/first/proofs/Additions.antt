@@ -11,8 +11,9 @@ use lib.ListN.{length, getD, replicate}
 use lib.Seq.{getD-set-same, getD-set-other, set-out}
 use Rattle.grammar.specs.declared.Symbol.the-variants.{Nonterminal}
 use Rattle.grammar.specs.Grammar.{Form, Grammar, Member, Every, each, Rule, First, Known}
+use Rattle.grammar.specs.Next.{merged}
 use Rattle.grammar.proofs.Join.{End, Join}
-use Rattle.grammar.proofs.Sets.{merged, FirstOf, join-first, first-addition}
+use Rattle.grammar.proofs.Sets.{FirstOf, join-first, first-addition}
 use Rattle.sets.specs.Sets.{emptyString, only, united}
 use Rattle.sets.specs.Calls.{setAt, stored}
 use Rattle.sets.proofs.Promise.{member-none, or-cases}

@@ -10,8 +10,9 @@ use lib.Seq.{length-take-le, getD-take}
 use Rattle.grammar.specs.declared.Symbol.the-variants.{Nonterminal}
 use Rattle.grammar.specs.Grammar.{Form, Grammar, Column, token, endmark, Member, column, Every, nothing, each, Rule, First, Known}
 use Rattle.grammar.specs.Grammar.{known-token, known-nonterminal}
+use Rattle.grammar.specs.Next.{merged}
 use Rattle.grammar.proofs.Join.{Family, End, ended, Join, over, here, begins, past}
-use Rattle.grammar.proofs.Sets.{merged, FirstOf, first-of-closed, first-complete, first-join, first-not-end}
+use Rattle.grammar.proofs.Sets.{FirstOf, first-of-closed, first-complete, first-join, first-not-end}
 use Rattle.grammar.proofs.Sets as textbook
 use Rattle.sets.specs.Sets.{width, emptyString, member, only}
 use Rattle.sets.proofs.Promise.{only-fits}

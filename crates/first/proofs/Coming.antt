@@ -11,13 +11,14 @@ use lib.ListN.{getD}
 use Rattle.grammar.specs.declared.Symbol.the-variants.{Nonterminal}
 use Rattle.grammar.specs.Grammar.{Form, spelled, Grammar, Column, token, endmark, Member, column, empty, Every, nothing, each, Known, known-nonterminal, Rule, Sentential, First, Useful}
 use Rattle.grammar.specs.Machine.{Exact, Run, Stopped, Continues}
+use Rattle.grammar.specs.Next.{merged, ConsumesAll, OwnToken, own-token, Seen}
 use Rattle.grammar.proofs.Every.{every-right}
 use Rattle.grammar.proofs.Derivation.{derives-trans, derives-behind}
 use Rattle.grammar.proofs.Join.{End, ended, Join}
 use Rattle.grammar.proofs.Machine.{run-derives}
-use Rattle.grammar.proofs.Sets.{merged, FirstOf, first-not-end}
+use Rattle.grammar.proofs.Sets.{FirstOf, first-not-end}
 use Rattle.grammar.proofs.Useful.{sentential-known, useful-all}
-use Rattle.grammar.proofs.Next.{ConsumesAll, CanCome, OwnToken, own-token, Seen, seen-last, consumes-derives, can-come-next, next-at-stop}
+use Rattle.grammar.proofs.Next.{CanCome, seen-last, consumes-derives, can-come-next, next-at-stop}
 use Rattle.sets.specs.Sets.{width, endMark, emptyString, member, only, united, removed}
 use Rattle.sets.proofs.Promise.{only-fits, removed-fits, removed-keep, removed-cases, exactly-alike, exactly-none, exactly-united}
 use Rattle.reader.specs.Book.{Limits}

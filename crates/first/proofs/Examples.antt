@@ -8,7 +8,8 @@ use lib.ListN.{length}
 use Rattle.grammar.specs.declared.Symbol.the-variants.{Nonterminal}
 use Rattle.grammar.specs.Grammar.{Form, Every, nothing, each, Known, known-nonterminal, First}
 use Rattle.grammar.specs.House.{house}
-use Rattle.grammar.proofs.Sets.{merged, first-not-end}
+use Rattle.grammar.specs.Next.{merged}
+use Rattle.grammar.proofs.Sets.{first-not-end}
 use Rattle.grammar.proofs.House.{houseFirst, house-first-exact}
 use Rattle.sets.specs.Sets.{emptyString, member, only, united, added, removed, joined}
 use Rattle.answers.specs.Answers.{done}

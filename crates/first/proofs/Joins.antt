@@ -11,8 +11,8 @@ use lib.ListN.{getD}
 use Rattle.grammar.specs.declared.Symbol.the-variants.{Token, Nonterminal}
 use Rattle.grammar.specs.Grammar.{Form, Grammar, Column, token, endmark, Member, column, Every, nothing, each, Known, known-token}
 use Rattle.grammar.specs.Grammar.{known-nonterminal}
+use Rattle.grammar.specs.Next.{merged}
 use Rattle.grammar.proofs.Join.{Family, Join, over, here, begins, past}
-use Rattle.grammar.proofs.Sets.{merged}
 use Rattle.sets.specs.Sets.{emptyString, member, only}
 use Rattle.sets.proofs.Promise.{member-only, join-keep, join-skip, join-cases}
 use Rattle.reader.specs.Book.{Limits}

@@ -8,8 +8,9 @@ use lib.ListN.{getD}
 use Rattle.grammar.specs.declared.Symbol.the-variants.{Nonterminal}
 use Rattle.grammar.specs.Grammar.{Grammar, Column, token, endmark, Member, column, empty, nothing, each, known-nonterminal, WellFormed}
 use Rattle.grammar.specs.Grammar.{First, Follow}
+use Rattle.grammar.specs.Next.{merged}
 use Rattle.grammar.proofs.Join.{End, ended}
-use Rattle.grammar.proofs.Sets.{merged, FirstOf, FollowOf, first-not-end, follow-not-empty}
+use Rattle.grammar.proofs.Sets.{FirstOf, FollowOf, first-not-end, follow-not-empty}
 use Rattle.sets.specs.Sets.{emptyString, member, only}
 use Rattle.first.specs.Numbers.{placeOf, At}
 use Rattle.first.specs.Trail.{Inside, FirstSound}

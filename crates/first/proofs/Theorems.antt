@@ -10,7 +10,7 @@ use Rattle.grammar.specs.declared.Symbol.the-variants.{Nonterminal}
 use Rattle.grammar.specs.Grammar.{Form, Grammar, Column, Member, Every, Known, Rule, First, Useful}
 use Rattle.grammar.specs.Vanishing.{Vanishes}
 use Rattle.grammar.specs.Machine.{Exact, Continues}
-use Rattle.grammar.proofs.Next.{ConsumesAll}
+use Rattle.grammar.specs.Next.{ConsumesAll}
 use Rattle.sets.specs.Sets.{width, endMark, emptyString, only, united, joined, member}
 use Rattle.sets.specs.Calls.{setAt, stored, number}
 use Rattle.answers.specs.Limits.{mostSymbols}

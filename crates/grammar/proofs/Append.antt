@@ -4,9 +4,10 @@ use mathlib.Core.Logic.{_↔_, _⊎_, _≢_, inl, inr}
 use mathlib.Core.List.{_++_}
 use Prim.Native.Nat.{ℕ}
 use native.Mathlib.Omega.{arith}
-use Rattle.grammar.specs.Grammar.{Form, Grammar, Column, token, endmark, Member, column, empty, First, starts, vanishes}
+use Rattle.grammar.specs.Grammar.{Form, Grammar, Column, token, endmark, Member, column, empty, First}
+use Rattle.grammar.specs.Next.{merged}
 use Rattle.grammar.proofs.Join.{End, Join, Cases, own, beyond, join-in, join-out, join-cases, join-own, join-beyond}
-use Rattle.grammar.proofs.Sets.{FirstOf, merged, join-first, first-join, first-of-closed, first-not-end}
+use Rattle.grammar.proofs.Sets.{FirstOf, join-first, first-join, first-of-closed, first-not-end}
 
 -- what FIRST of both holds: FIRST of the first without the empty string and, if the first can vanish, FIRST of the second
 abbrev pub JoinedFirst : Grammar → (α β : Form) → Member → Type 0

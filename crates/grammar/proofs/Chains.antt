@@ -9,7 +9,7 @@ use native.Mathlib.Omega.{arith}
 use lib.ListN.{length, length-append}
 use Rattle.grammar.specs.declared.Symbol.{Symbol}
 use Rattle.grammar.specs.declared.Symbol.the-variants.{Token, Nonterminal}
-use Rattle.grammar.specs.Filled.{NoEmptyRight}
+use Rattle.grammar.specs.Filled.{NoEmptyRight, Leads, there, through}
 use Rattle.grammar.specs.Grammar.{Form, Grammar, Column, token, endmark, column, empty, Every, nothing, each, Rule, Step, replace, Derives, itself, step, First, starts, vanishes, Lookahead, first, follow, Claims, Cell, only, vacant, WellFormed}
 use Rattle.grammar.specs.Machine.{Exact}
 use Rattle.grammar.proofs.Every.{every-map}
@@ -17,12 +17,6 @@ use Rattle.grammar.proofs.Derivation.{derives-trans, derives-before, de
 use Rattle.grammar.proofs.Leftmost.{rule-same}
 use Rattle.grammar.proofs.Machine.{claims-cell}
 use Rattle.grammar.proofs.Distinct.{Distinct, none, apart, distinct-few}
-
--- Leads t x k: the symbol x brings the token t to the front in k productions, each from the cell of t; only the first symbol of a right
--- side matters, since nothing in front of it can vanish
-pub data Leads (g : Grammar) (cell : ℕ → Column → Option ℕ) (t : ℕ) : Symbol → ℕ → Type 0 where
-  there : Leads g cell t (Token t) 0
-  through : {p A k : ℕ} {x : Symbol} {β : Form} → cell A (token t) ≡ some p → Rule g p A (x ∷ β) → Leads g cell t x k → Leads g cell t (Nonterminal A) (suc k)
 
 module _ {g : Grammar} (full : NoEmptyRight g) where
   step-longer : {α β : Form} → Step g α β → length α ≤ length β

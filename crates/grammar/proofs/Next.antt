@@ -11,36 +11,17 @@ use Rattle.grammar.specs.declared.Symbol.the-variants.{Token, Nontermina
 use Rattle.grammar.specs.Grammar.{Form, spelled, Grammar, Column, token, endmark, column, empty, Rule, Derives, Sentential, Derivable, Complete, First, starts, vanishes, Lookahead, first, follow, Claims, Productive, Reachable}
 use Rattle.grammar.specs.Grammar as textbook
 use Rattle.grammar.specs.Machine.{front, Exact, Run, here, match, expand, Stopped, left-over, unmatched, vacant, Begins, Continues, may-come, may-end}
+use Rattle.grammar.specs.Next.{merged, Consumes, matched, used, ConsumesAll, none-yet, one-more, OwnToken, own-token, Seen, now-seen, later-seen}
 use Rattle.grammar.proofs.Derivation.{derives-trans, derives-before, derives-behind}
 use Rattle.grammar.proofs.Leftmost.{derives-leftmost, leftmost-derives, spelled-append, rule-same}
 use Rattle.grammar.proofs.Join.{End, Join, begins, past, join-in, join-out, join-cases, join-beyond}
-use Rattle.grammar.proofs.Sets.{FirstOf, merged, join-first, first-join, first-of-closed, first-not-end, pull-rule}
+use Rattle.grammar.proofs.Sets.{FirstOf, join-first, first-join, first-of-closed, first-not-end, pull-rule}
 use Rattle.grammar.proofs.Useful.{names-from, Ends, names-end}
 use Rattle.grammar.proofs.Machine.{run-from, run-leftmost, run-derives, run-through, blocked}
 use Rattle.grammar.proofs.Place.{behind-reachable}
 use Rattle.grammar.proofs.Unique.{sentential-expand}
 use Rattle.grammar.proofs.Starting.{Started, starting, start-run}
 use Rattle.grammar.proofs.Chains.{claimed-by}
-
-module _ (g : Grammar) (cell : ℕ → Column → Option ℕ) where
-  -- from the stack α the machine uses ps on the column of t and matches it, and comes to β
-  pub data Consumes (t : ℕ) : Form → List ℕ → Form → Type 0 where
-    matched : {α : Form} → Consumes t (Token t ∷ α) [] α
-    used : {p A : ℕ} {α β γ : Form} {ps : List ℕ} → cell A (token t) ≡ some p → Rule g p A γ → Consumes t (γ ++ α) ps β → Consumes t (Nonterminal A ∷ α) (p ∷ ps) β
-
-  -- so with each token of u, one after the other: it ends right after a match, or where it began
-  pub data ConsumesAll : Form → List ℕ → List ℕ → Form → Type 0 where
-    none-yet : {α : Form} → ConsumesAll α [] [] α
-    one-more : {t : ℕ} {α β γ : Form} {u ps qs : List ℕ} → Consumes t α ps β → ConsumesAll β u qs γ → ConsumesAll α (t ∷ u) (ps ++ qs) γ
-
--- a token of FIRST of A
-pub data OwnToken (g : Grammar) (A : ℕ) : Column → Type 0 where
-  own-token : {t : ℕ} → First g (Nonterminal A ∷ []) (column (token t)) → OwnToken g A (token t)
-
--- a token of FIRST of the left side of a production of the list
-pub data Seen (g : Grammar) : List ℕ → Column → Type 0 where
-  now-seen : {p A : ℕ} {γ : Form} {ps : List ℕ} {c : Column} → Rule g p A γ → OwnToken g A c → Seen g (p ∷ ps) c
-  later-seen : {p : ℕ} {ps : List ℕ} {c : Column} → Seen g ps c → Seen g (p ∷ ps) c
 
 -- what a stack can go on with: the tokens it begins with, and the end mark if it vanishes
 abbrev pub CanCome : Grammar → Form → Column → Type 0

@@ -8,6 +8,7 @@ use native.Mathlib.Omega.{arith}
 use Rattle.grammar.specs.declared.Symbol.the-variants.{Token, Nonterminal}
 use Rattle.grammar.specs.Grammar.{Form, Production, Grammar, Column, token, endmark, column, Every, nothing, each, Reachable, Useful, WellFormed, starts, vanishes}
 use Rattle.grammar.specs.Machine.{Exact, Continues}
+use Rattle.grammar.specs.Next.{matched, used, ConsumesAll, none-yet, one-more}
 use Rattle.grammar.proofs.Derivation.{derives-rule}
 use Rattle.grammar.proofs.Join.{here, begins, past}
 use Rattle.grammar.proofs.Sets.{FirstOf, FollowOf}
@@ -19,7 +20,7 @@ use Rattle.grammar.proofs.Worked.{Entry, In, firstSets, firstTest, foll
 use Rattle.grammar.proofs.WorkedCells.{workedCell, conflictTest, conflict-test-exact}
 use Rattle.grammar.proofs.WorkedUseful.{productives, usefuls, productives-sound, usefuls-sound, has, has-every}
 use Rattle.grammar.proofs.WorkedForm.{formTest, form-tested}
-use Rattle.grammar.proofs.Next.{matched, used, ConsumesAll, none-yet, one-more, CanCome, can-come-next}
+use Rattle.grammar.proofs.Next.{CanCome, can-come-next}
 
 abbrev production : ℕ → Form → Production
 production A β = record { left = A; right = β }

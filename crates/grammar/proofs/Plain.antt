@@ -9,10 +9,9 @@ use native.Mathlib.Omega.{arith}
 use lib.ListN.{length}
 use Rattle.grammar.specs.declared.Symbol.{Symbol}
 use Rattle.grammar.specs.declared.Symbol.the-variants.{Token, Nonterminal}
-use Rattle.grammar.specs.Filled.{NoEmptyRight}
+use Rattle.grammar.specs.Filled.{NoEmptyRight, Leads, there, through}
 use Rattle.grammar.specs.Grammar.{Form, Grammar, Column, token, endmark, column, Rule, replace, Derives, itself, step, starts, vanishes, Lookahead, first, follow, Claims, Conflict, Cell, only, vacant}
 use Rattle.grammar.specs.Plain.{Breaks, bare, named, again, Plain, LowestBreak}
-use Rattle.grammar.proofs.Chains.{Leads, there, through}
 
 module _ {g : Grammar} where
   unbroken : Plain g → (p : ℕ) → ¬ Breaks g p

@@ -5,15 +5,11 @@ use mathlib.Core.Logic.{_↔_}
 use mathlib.Core.List.{[], _∷_, _++_, append-assoc}
 use Prim.Native.Nat.{ℕ}
 use Rattle.grammar.specs.declared.Symbol.the-variants.{Token, Nonterminal}
-use Rattle.grammar.specs.Grammar.{Form, Grammar, Column, token, endmark, Member, column, empty, Rule, Step, replace, Derives, itself, step, Sentential, First, starts, vanishes, Follow, before, last, Lookahead, Claims, Reachable}
+use Rattle.grammar.specs.Grammar.{Form, Grammar, Column, token, endmark, column, empty, Rule, Step, replace, Derives, itself, step, Sentential, First, starts, vanishes, Follow, before, last, Lookahead, Claims, Reachable}
 use Rattle.grammar.specs.Grammar as textbook
+use Rattle.grammar.specs.Next.{merged}
 use Rattle.grammar.proofs.Derivation.{derives-trans, derives-before, derives-behind, derives-rule}
 use Rattle.grammar.proofs.Join.{Family, End, ended, Join, over, here, begins, past, Behind, first, later, Cases, own, beyond, Within, left, right, join-map, join-in, join-out, join-cases, join-own, join-beyond, behind-split, behind-at, behind-left, behind-right, behind-append}
-
--- in a family the end mark stands for the empty string
-abbrev pub merged : Column → Member
-merged (token t) = column (token t)
-merged endmark = empty
 
 module _ (g : Grammar) where
   -- FIRST of each nonterminal

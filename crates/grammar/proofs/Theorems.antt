@@ -14,6 +14,7 @@ use Rattle.grammar.specs.Grammar.{Member, column, empty, First, Leftmost
 use Rattle.grammar.specs.Machine.{front, Exact, Run, Accepts, Stopped, Halted, Longest, Continues}
 use Rattle.grammar.specs.Vanishing.{Vanishes}
 use Rattle.grammar.specs.Plain.{Breaks, Plain, LowestBreak}
+use Rattle.grammar.specs.Next.{merged, ConsumesAll, Seen}
 use Rattle.grammar.proofs.Leftmost.{leftmost-steps, steps-leftmost, derives-leftmost, leftmost-derives}
 use Rattle.grammar.proofs.Append as append
 use Rattle.grammar.proofs.Vanishing as vanishing
@@ -23,8 +24,7 @@ use Rattle.grammar.proofs.Useful.{useful-all}
 use Rattle.grammar.proofs.Machine.{run-from, run-leftmost, blocked}
 use Rattle.grammar.proofs.Place.{longest-read}
 use Rattle.grammar.proofs.Halting.{halts-from}
-use Rattle.grammar.proofs.Sets.{merged}
-use Rattle.grammar.proofs.Next.{ConsumesAll, Seen, next-first}
+use Rattle.grammar.proofs.Next.{next-first}
 use Rattle.grammar.proofs.Next as next
 -- a list derives one string only
 pub use Rattle.grammar.proofs.Leftmost.{list-string}

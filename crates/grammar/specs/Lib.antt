@@ -3,6 +3,7 @@ pub mod Grammar
 pub mod House
 pub mod Leading
 pub mod Machine
+pub mod Next
 pub mod Occurrence
 pub mod Vanishing
 pub mod Plain

@@ -8,7 +8,7 @@ use lib.ListN.{length}
 use Rattle.grammar.specs.declared.Symbol.the-variants.{Token, Nonterminal}
 use Rattle.grammar.specs.Grammar.{Form, Grammar, Column, token}
 use Rattle.grammar.specs.Machine.{front}
-use Rattle.grammar.proofs.Next.{Consumes, matched, used, ConsumesAll, none-yet, one-more}
+use Rattle.grammar.specs.Next.{Consumes, matched, used, ConsumesAll, none-yet, one-more}
 use Rattle.machine.specs.Machine.{State, Offered, taken, stopped, popped, replaced, offer, runFrom}
 use Rattle.machine.specs.declared.Reason.{Reason}
 use Rattle.machine.specs.Room.{rightOf}

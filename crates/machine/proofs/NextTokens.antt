@@ -11,8 +11,7 @@ use lib.Seq.{take-at, drop-at}
 use Rattle.grammar.specs.declared.Symbol.the-variants.{Nonterminal}
 use Rattle.grammar.specs.Grammar.{Grammar, Column, column, First, WellFormed, Useful}
 use Rattle.grammar.specs.Machine.{front, Exact, Run, Stopped, Continues}
-use Rattle.grammar.proofs.Sets.{merged}
-use Rattle.grammar.proofs.Next.{ConsumesAll, Seen}
+use Rattle.grammar.specs.Next.{merged, ConsumesAll, Seen}
 use Rattle.grammar.proofs.Theorems.{next-exact, next-at-stop, next-some, stopped-not-next}
 use Rattle.machine.specs.Machine.{State, Offered, stopped, begun}
 use Rattle.machine.specs.declared.Reason.{Reason}

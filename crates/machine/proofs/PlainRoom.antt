@@ -8,7 +8,7 @@ use Rattle.grammar.specs.declared.Symbol.{Symbol}
 use Rattle.grammar.specs.Grammar.{Form, Grammar, Column, Rule}
 use Rattle.grammar.specs.Machine.{Exact}
 use Rattle.grammar.specs.Plain.{Plain}
-use Rattle.grammar.proofs.Chains.{Leads}
+use Rattle.grammar.specs.Filled.{Leads}
 use Rattle.grammar.proofs.Theorems.{plain-filled, plain-leads}
 use Rattle.machine.specs.Stopping.{Decided, runOf}
 use Rattle.machine.specs.Machine.{final}

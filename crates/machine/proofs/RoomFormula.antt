@@ -9,10 +9,9 @@ use native.Mathlib.Omega.{arith}
 use lib.ListN.{length, length-append}
 use Rattle.grammar.specs.declared.Symbol.{Symbol}
 use Rattle.grammar.specs.declared.Symbol.the-variants.{Nonterminal}
-use Rattle.grammar.specs.Filled.{NoEmptyRight}
+use Rattle.grammar.specs.Filled.{NoEmptyRight, Leads, through}
 use Rattle.grammar.specs.Grammar.{Form, Grammar, Column, token, Rule}
 use Rattle.grammar.specs.Machine.{front, Exact}
-use Rattle.grammar.proofs.Chains.{Leads, through}
 use Rattle.grammar.proofs.Theorems.{end-vacant, leads-all}
 use Rattle.machine.specs.Machine.{State, Offered, begun, popped, replaced}
 use Rattle.machine.specs.Room.{rightOf}

@@ -11,8 +11,7 @@ use Rattle.grammar.specs.Grammar.{Form, Grammar, Column, column, Rule, Derivabl
 use Rattle.grammar.specs.Grammar.{WellFormed, Useful}
 use Rattle.grammar.specs.Machine.{front, Exact, Longest, Continues}
 use Rattle.grammar.specs.Plain.{Plain}
-use Rattle.grammar.proofs.Sets.{merged}
-use Rattle.grammar.proofs.Next.{Seen}
+use Rattle.grammar.specs.Next.{merged, Seen}
 use Rattle.grammar.proofs.Theorems.{leftmost-unique, exact-no-conflict, halts, leads-few}
 use Rattle.machine.specs.Machine.{State, Offered, taken, stopped, begun, runFrom}
 use Rattle.machine.specs.declared.Reason.{Reason}

@@ -5,14 +5,10 @@ use Prim.Native.Nat.{ℕ}
 use native.Mathlib.Omega.{arith}
 use Rattle.grammar.specs.Grammar.{Grammar}
 use Rattle.book.specs.declared.Reading.{Reading}
-use Rattle.offer.specs.Resuming.{OfferedOn, OfferOutcome, refused, offered}
+use Rattle.offer.specs.Resuming.{OfferResult, OfferedOn, OfferOutcome, refused, offered}
 use Rattle.offer.specs.Strings.{StringOutcome, no-stack, ended}
 use Rattle.offer.specs.declared.Progress.{Progress}
 use Rattle.offer.specs.declared.Reply.{Reply}
-
--- the reply, the stack and the list
-abbrev pub OfferResult : Type 0
-OfferResult = Reply × List ℕ × List ℕ
 
 -- an offer on a grammar allows one outcome
 offered-on-unique : {g : Grammar} {table : List ℕ} {column : ℕ} {at : Progress} {stack list : List ℕ} {r q : Reply} {s l t m : List ℕ}

@@ -21,6 +21,10 @@ use Rattle.offer.specs.declared.Progress.{Progress}
 use Rattle.offer.specs.declared.Reply.the-variants.{Taken, Stopped, Refused}
 use Rattle.offer.specs.declared.Reply.{Reply}
 
+-- the reply, the stack and the list
+abbrev pub OfferResult : Type 0
+OfferResult = Reply × List ℕ × List ℕ
+
 unfoldable pub progressOf : State → Progress
 progressOf s =
     record { height = length (s .stack); listed = length (s .listed); matched = s .matched; deepest = s .height }

@@ -1,5 +1,6 @@
 -- What a run on a judged book answers and leaves in the lent buffers, for every reading, table, token string and
--- buffer. Document 01, "Running and expanding". The refusals of table and tokens are the caller's to ask for.
+-- buffer. Document 01, "Running and expanding"; document 02, W7. The refusals of table and tokens are the caller's to
+-- ask for.
 use mathlib.Core.Path.{_≡_}
 use mathlib.Core.Logic.{_≢_}
 use mathlib.Core.List.{List}

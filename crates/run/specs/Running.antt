@@ -1,5 +1,5 @@
 -- What a run answers and leaves in the lent buffers, for every book, table, token string and buffer.
--- Document 01, "Refusals and their numbers" and "Running and expanding".
+-- Document 01, "Refusals and their numbers" and "Running and expanding"; document 02, W7.
 use mathlib.Core.Path.{_≡_}
 use mathlib.Core.List.{List, [], _∷_}
 use Prim.Native.Nat.{ℕ, _<_, _≤_}

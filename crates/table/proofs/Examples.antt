@@ -7,7 +7,7 @@ use lib.ListN.{length}
 use Rattle.grammar.specs.declared.Symbol.the-variants.{Nonterminal}
 use Rattle.grammar.specs.Grammar.{column, First, Follow}
 use Rattle.grammar.specs.House.{house}
-use Rattle.grammar.proofs.Sets.{merged, first-not-end, follow-not-empty}
+use Rattle.grammar.proofs.Sets.{first-not-end, follow-not-empty}
 use Rattle.grammar.proofs.Tests.{below}
 use Rattle.grammar.proofs.Worked.{firstTest, followTest}
 use Rattle.grammar.proofs.WorkedForm.{formTest}
