@@ -20,7 +20,7 @@ use Rattle.patterns.proofs.Promise.{accepted-length}
 use Rattle.pieces.specs.declared.Ending.{Ending}
 use Rattle.pieces.specs.declared.Ending.the-variants.{Whole, NoToken, NoRoom}
 use Rattle.pieces.specs.Cut.{Piece, piece, numbersOf, Cut, end-of-line, space-dropped, token-cut, no-token, no-room, answerOf}
-use Rattle.pieces.specs.Laid.{Laid, StandsIn, endBefore}
+use Rattle.pieces.specs.Laid.{LaidOut, StandsIn, endBefore}
 use Rattle.pieces.proofs.Promise.{cut-keeps-all, cut-ends, cut-matches, room-lacking}
 use Rattle.cut.specs.Calls.{CutOutcome, refused, too-many, no-cells, cut}
 use Rattle.cut.specs.Promised.{RefusedEarly, by-limit, by-pattern, by-states, by-room, ReachedLine, whole, without-token, without-room, WasCut}
@@ -164,7 +164,7 @@ module _ {patterns lengths line machine tokens : List ℕ} where
   -- done, the line is its pieces in order, with nothing but spaces before, between and behind them
   pub outcome-keeps-all : {a : Answer} {machine′ tokens′ : List ℕ} → CutOutcome patterns lengths line machine tokens a machine′ tokens′
       → a .number ≡ served
-      → (w : WasCut patterns lengths line machine tokens a machine′ tokens′) × Laid 0 (w .pieces) line
+      → (w : WasCut patterns lengths line machine tokens a machine′ tokens′) × LaidOut 0 (w .pieces) line
   outcome-keeps-all result e =
       let w = was-cut result (whole e) in
       let n = length (w .pieces) in

@@ -23,7 +23,7 @@ use Rattle.patterns.specs.Examples.{houseBytes, houseLengths}
 use Rattle.states.specs.Machine.{tables, rowsOf}
 use Rattle.pieces.specs.declared.Ending.{Ending}
 use Rattle.pieces.specs.Cut.{space, Piece, Cut}
-use Rattle.pieces.specs.Laid.{Laid, FirstByte, StandsIn, endBefore}
+use Rattle.pieces.specs.Laid.{LaidOut, FirstByte, StandsIn, endBefore}
 use Rattle.pieces.specs.Rows.{Walk, Says}
 use Rattle.cut.specs.Patterns.{pointStates, SomePoints, AfterSome, ManyAfter}
 use Rattle.cut.specs.Calls.{CutOutcome, CutResult}
@@ -133,7 +133,7 @@ module _ {patterns lengths line machine tokens : List ℕ} where
 
     -- done, the line is its pieces in order, with nothing but spaces before, between and behind them
     pub cut-keeps-all : a .number ≡ served
-        → (w : WasCut patterns lengths line machine tokens a machine′ tokens′) × Laid 0 (w .pieces) line
+        → (w : WasCut patterns lengths line machine tokens a machine′ tokens′) × LaidOut 0 (w .pieces) line
     cut-keeps-all whole = outcomes.outcome-keeps-all result whole
 
     -- a call that came to the line cut it: the tokens written are those of its pieces

@@ -23,15 +23,15 @@ use Rattle.patterns.specs.Calls.{Meanings, no-texts, text-means, many-pa
 use Rattle.patterns.specs.Calls.{JudgePatterns, accepted, refused as told-refused}
 
 -- the place and the number of the first bad text, or what all mean
-pub data Found : Type 0 where
-  bad : ℕ → ℕ → Found
-  meant : List Expression → Found
+pub data Scanned : Type 0 where
+  bad : ℕ → ℕ → Scanned
+  meant : List Expression → Scanned
 
-unfoldable pub behind : Expression → Found → Found
+unfoldable pub behind : Expression → Scanned → Scanned
 behind x (bad i k) = bad i (suc k)
 behind x (meant rs) = meant (x ∷ rs)
 
-unfoldable pub scan : List (List ℕ) → Found
+unfoldable pub scan : List (List ℕ) → Scanned
 scan [] = meant []
 scan (s ∷ texts) =
     elim (readPattern s) [
@@ -39,7 +39,7 @@ scan (s ∷ texts) =
       | means x ↦ elim (nullable x) [ true ↦ bad (length s) 0 | false ↦ behind x (scan texts) ]
     ]
 
-unfoldable pub foundAnswer : Found → Answer
+unfoldable pub foundAnswer : Scanned → Answer
 foundAnswer (bad i k) = refusal pattern i k
 foundAnswer (meant rs) = elim (ltb mostPositions (positions rs)) [ true ↦ refusal limit mostPositions 0 | false ↦ done 0 ]
 
@@ -51,11 +51,11 @@ judgedOf patterns lengths =
     ]
 
 -- what is found is so
-data FoundIn (texts : List (List ℕ)) : Found → Type 0 where
-  found-bad : {i k : ℕ} → FirstBad texts i k → FoundIn texts (bad i k)
-  found-meant : {rs : List Expression} → Meanings texts rs → AllGood texts → FoundIn texts (meant rs)
+data ScannedIn (texts : List (List ℕ)) : Scanned → Type 0 where
+  found-bad : {i k : ℕ} → FirstBad texts i k → ScannedIn texts (bad i k)
+  found-meant : {rs : List Expression} → Meanings texts rs → AllGood texts → ScannedIn texts (meant rs)
 
-found-first : {s : List ℕ} {texts : List (List ℕ)} {i : ℕ} → BadAt s i → FoundIn (s ∷ texts) (bad i 0)
+found-first : {s : List ℕ} {texts : List (List ℕ)} {i : ℕ} → BadAt s i → ScannedIn (s ∷ texts) (bad i 0)
 found-first {s} b = found-bad (record { text = s; at = refl; bad = b; lower = λ j (h : j < 0) t e. absurd (omega arith) })
 
 good-more : {s : List ℕ} (texts : List (List ℕ))
@@ -76,7 +76,7 @@ is-good {s} {x} means-x full =
 
 module _ {s : List ℕ} {texts : List (List ℕ)} {x : Expression}
     (means-x : readPattern s ≡ means x) (full : nullable x ≡ false) where
-  found-behind : {f : Found} → FoundIn texts f → FoundIn (s ∷ texts) (behind x f)
+  found-behind : {f : Scanned} → ScannedIn texts f → ScannedIn (s ∷ texts) (behind x f)
   unfolding behind
   found-behind (found-bad {i = i} {k = k} b) =
       found-bad (record { text = b .text; at = b .at; bad = b .bad; lower = good-more texts (is-good means-x full) k (b .lower) })
@@ -84,7 +84,7 @@ module _ {s : List ℕ} {texts : List (List ℕ)} {x : Expression}
       found-meant (text-means (read-exact s .0 means-x) m)
       (record { good = λ j t e. good-more texts (is-good means-x full) j (λ i h u f. all .good i u f) j (omega arith) t e })
 
-found : (texts : List (List ℕ)) → FoundIn texts (scan texts)
+found : (texts : List (List ℕ)) → ScannedIn texts (scan texts)
 unfolding scan
 found [] = found-meant no-texts (record { good = λ j t e. let bad : _≡_ {A = ℕ} 0 1 = cc in absurd (omega arith) })
 found (s ∷ texts) = go (readPattern s) refl (found texts)
@@ -92,18 +92,18 @@ found (s ∷ texts) = go (readPattern s) refl (found texts)
     by-null : (x : Expression) (t : Bool)
         → nullable x ≡ t
         → readPattern s ≡ means x
-        → FoundIn texts (scan texts)
-        → FoundIn (s ∷ texts) (elim t as (λ b. Found) [ true ↦ bad (length s) 0 | false ↦ behind x (scan texts) ])
+        → ScannedIn texts (scan texts)
+        → ScannedIn (s ∷ texts) (elim t as (λ b. Scanned) [ true ↦ bad (length s) 0 | false ↦ behind x (scan texts) ])
     by-null x true null e rest = found-first (empty (read-exact s .0 e) (null-matches x null))
     by-null x false full e rest = found-behind e full rest
 
     go : (o : Outcome)
         → readPattern s ≡ o
-        → FoundIn texts (scan texts)
-        → FoundIn (s ∷ texts)
-        (elim o as (λ p. Found) [
+        → ScannedIn texts (scan texts)
+        → ScannedIn (s ∷ texts)
+        (elim o as (λ p. Scanned) [
           | refused i ↦ bad i 0
-          | means x ↦ elim (nullable x) as (λ b. Found) [ true ↦ bad (length s) 0 | false ↦ behind x (scan texts) ]
+          | means x ↦ elim (nullable x) as (λ b. Scanned) [ true ↦ bad (length s) 0 | false ↦ behind x (scan texts) ]
         ])
     go (means x) e rest = by-null x (nullable x) refl e rest
     go (refused i) e rest = found-first (malformed (refused-exact s .0 e))
@@ -112,13 +112,13 @@ found (s ∷ texts) = go (readPattern s) refl (found texts)
 pub scan-meant : {texts : List (List ℕ)} {rs : List Expression}
     → scan texts ≡ meant rs
     → Meanings texts rs × AllGood texts
-scan-meant {texts} {rs} e = go (subst (FoundIn texts) e (found texts))
+scan-meant {texts} {rs} e = go (subst (ScannedIn texts) e (found texts))
   where
-    go : FoundIn texts (meant rs) → Meanings texts rs × AllGood texts
+    go : ScannedIn texts (meant rs) → Meanings texts rs × AllGood texts
     go (found-meant m all) = (m, all)
 
 module _ {patterns lengths : List ℕ} (few : length lengths < suc mostPatterns) where
-  found-told : {f : Found} → FoundIn (patternsOf patterns lengths) f → JudgePatterns patterns lengths (foundAnswer f)
+  found-told : {f : Scanned} → ScannedIn (patternsOf patterns lengths) f → JudgePatterns patterns lengths (foundAnswer f)
   unfolding foundAnswer
   found-told (found-bad b) = told-refused (bad-pattern (omega arith) b)
   found-told (found-meant {rs = rs} m all) = go (decLt mostPositions (positions rs))

@@ -9,18 +9,18 @@ use lib.Seq.{length-take-le}
 use Rattle.pieces.specs.declared.Ending.{Ending}
 use Rattle.pieces.specs.declared.Ending.the-variants.{Whole}
 use Rattle.pieces.specs.Cut.{space, Piece, piece, behind, TokenAt, Cut, end-of-line, space-dropped, token-cut, no-token, no-room}
-use Rattle.pieces.specs.Laid.{Laid, last-spaces, next-piece, Ends, nothing-left, no-token-there, no-room-left, CutStopped}
+use Rattle.pieces.specs.Laid.{LaidOut, last-spaces, next-piece, Ends, nothing-left, no-token-there, no-room-left, CutStopped}
 
 -- one space more in front
-laid-space : {place : ℕ} {pieces : List Piece} {w : List ℕ} → Laid (suc place) pieces w → Laid place pieces (space ∷ w)
+laid-space : {place : ℕ} {pieces : List Piece} {w : List ℕ} → LaidOut (suc place) pieces w → LaidOut place pieces (space ∷ w)
 laid-space (last-spaces n) = last-spaces (suc n)
 laid-space {place} (next-piece n p at rest) =
     let at′ : p .place ≡ place + suc n = omega (arith, at) in next-piece (suc n) p at′ rest
 
 -- one piece more in front
 laid-piece : (place k : ℕ) (bytes : List ℕ) {pieces : List Piece} {w : List ℕ}
-    → Laid (place + length bytes) pieces w
-    → Laid place (piece k place bytes ∷ pieces) (bytes ++ w)
+    → LaidOut (place + length bytes) pieces w
+    → LaidOut place (piece k place bytes ∷ pieces) (bytes ++ w)
 laid-piece place k bytes rest = next-piece 0 (piece k place bytes) (sym (add-zero place)) rest
 
 -- why it ends, with room and place told in another way
@@ -66,7 +66,7 @@ module _ {M : ℕ → List ℕ → Type 0} where
       let rest = cut-stops cut in
       let bytes = take n (b ∷ w) in
       let size : length bytes ≡ n = length-take-le n (b ∷ w) (t .within) in
-      let laid : Laid (place + length bytes) pieces (rest .before) = rw size (rest .laid) in
+      let laid : LaidOut (place + length bytes) pieces (rest .before) = rw size (rest .laid) in
       let split : b ∷ w ≡ (bytes ++ rest .before) ++ rest .left =
       sym (take-append-drop n (b ∷ w))
       ∙ ap (λ (v : List ℕ). bytes ++ v) (rest .split)
@@ -86,8 +86,8 @@ module _ {M : ℕ → List ℕ → Type 0} where
   -- a line cut to its end is its pieces and spaces
   pub cut-keeps-all : {room place : ℕ} {w : List ℕ} {pieces : List Piece}
       → Cut M room place w pieces Whole
-      → Laid place pieces w
+      → LaidOut place pieces w
   cut-keeps-all {place = place} {pieces = pieces} cut =
       let stopped = cut-stops cut in
       let all = stopped .split ∙ ap (λ (v : List ℕ). stopped .before ++ v) (whole-left (stopped .ends)) ∙ append-nil (stopped .before) in
-      subst (λ (v : List ℕ). Laid place pieces v) (sym all) (stopped .laid)
+      subst (λ (v : List ℕ). LaidOut place pieces v) (sym all) (stopped .laid)

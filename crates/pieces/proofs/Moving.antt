@@ -13,7 +13,7 @@ use Rattle.pieces.specs.declared.Match.the-variants.{Token, Nothing}
 use Rattle.pieces.specs.declared.Move.{Move}
 use Rattle.pieces.specs.declared.Move.the-variants.{Skip, Take, Stop}
 use Rattle.pieces.specs.Cut.{space, Piece, piece, TokenAt, NoTokenAt, Cut, end-of-line, space-dropped, token-cut, no-token, no-room}
-use Rattle.pieces.specs.Moves.{Starts, Matched, token, nothing, Moves, ends, skips, takes, finds-nothing, lacks-room}
+use Rattle.pieces.specs.Moves.{Starts, Matched, token, nothing, DoneAt, ends, skips, takes, finds-nothing, lacks-room}
 
 -- what is left of the line where a byte stands
 left-is : (line : List ℕ) (at : ℕ) → at < length line → drop at line ≡ getD line at 0 ∷ drop (suc at) line
@@ -41,22 +41,22 @@ module _ {M : ℕ → List ℕ → Type 0} where
   matched-nothing (nothing t) e = t
 
   module _ {line : List ℕ} {at : ℕ} (starts : Starts line at) {m : Match} (matched : Matched M (drop at line) at m) where
-    pub moves-nothing : {room : ℕ} → m ≡ Nothing → Moves M line at room (Stop (endings.NoToken at))
+    pub moves-nothing : {room : ℕ} → m ≡ Nothing → DoneAt M line at room (Stop (endings.NoToken at))
     moves-nothing e = finds-nothing starts (matched-nothing matched e)
 
-    pub moves-room : {room k end : ℕ} → m ≡ Token k end → room ≡ 0 → Moves M line at room (Stop (endings.NoRoom at))
+    pub moves-room : {room k end : ℕ} → m ≡ Token k end → room ≡ 0 → DoneAt M line at room (Stop (endings.NoRoom at))
     moves-room e full =
-        subst (λ (room : ℕ). Moves M line at room (Stop (endings.NoRoom at))) (sym full)
+        subst (λ (room : ℕ). DoneAt M line at room (Stop (endings.NoRoom at))) (sym full)
         (lacks-room starts (matched-token matched e .2))
 
-    pub moves-take : {room k end : ℕ} → m ≡ Token k end → room ≢ 0 → Moves M line at room (Take k end)
+    pub moves-take : {room k end : ℕ} → m ≡ Token k end → room ≢ 0 → DoneAt M line at room (Take k end)
     moves-take {room} {k} e some =
         let t = matched-token matched e in
-        subst (λ (end : ℕ). Moves M line at room (Take k end)) (sym (t .1)) (takes starts (t .2) (omega arith))
+        subst (λ (end : ℕ). DoneAt M line at room (Take k end)) (sym (t .1)) (takes starts (t .2) (omega arith))
 
   -- a stop ends the cut
   pub stop-cuts : {line : List ℕ} {at room : ℕ} {ending : Ending}
-      → Moves M line at room (Stop ending)
+      → DoneAt M line at room (Stop ending)
       → Cut M room at (drop at line) [] ending
   stop-cuts {line} {at} (ends past) = rw (drop-of-length-le line past) end-of-line
   stop-cuts {line} {at} (finds-nothing starts none) =
@@ -66,7 +66,7 @@ module _ {M : ℕ → List ℕ → Type 0} where
 
   -- a space is dropped
   pub skip-cuts : {line : List ℕ} {at room : ℕ} {rest : List Piece} {ending : Ending}
-      → Moves M line at room Skip
+      → DoneAt M line at room Skip
       → Cut M room (suc at) (drop (suc at) line) rest ending
       → Cut M room at (drop at line) rest ending
   skip-cuts {line} {at} (skips inside is-space) cut = rw (left-is line at inside, is-space) (space-dropped cut)
@@ -87,7 +87,7 @@ module _ {M : ℕ → List ℕ → Type 0} where
       (sym e) (λ t cut. token-cut no-space t cut) t cut
 
   pub take-cuts : {line : List ℕ} {at room k end : ℕ} {rest : List Piece} {ending : Ending}
-      → Moves M line at room (Take k end)
+      → DoneAt M line at room (Take k end)
       → Cut M (room - 1) end (drop end line) rest ending
       → Cut M room at (drop at line) (taken line at k end ∷ rest) ending
   take-cuts {line} {at} {room} {rest = rest} {ending} (takes {k = k} {n = n} starts t some) cut =
@@ -96,11 +96,11 @@ module _ {M : ℕ → List ℕ → Type 0} where
       subst (λ (i : ℕ). Cut M i at (drop at line) (taken line at k (at + n) ∷ rest) ending) more
       (rw size (cut-first (left-is line at (starts .inside)) (starts .no-space) t (rw drop-drop cut)))
 
-  pub skip-inside : {line : List ℕ} {at room : ℕ} → Moves M line at room Skip → at < length line
+  pub skip-inside : {line : List ℕ} {at room : ℕ} → DoneAt M line at room Skip → at < length line
   skip-inside (skips inside is-space) = inside
 
   pub take-inside : {line : List ℕ} {at room k end : ℕ}
-      → Moves M line at room (Take k end)
+      → DoneAt M line at room (Take k end)
       → (at < end) × (end ≤ length line) × (0 < room)
   take-inside {line} {at} (takes starts t some) =
       (omega (arith, t .some-byte), omega (arith, t .within, length-drop at line), some)

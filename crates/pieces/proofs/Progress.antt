@@ -13,7 +13,7 @@ use Rattle.pieces.specs.declared.Ending.{Ending}
 use Rattle.pieces.specs.declared.Move.the-variants.{Skip, Take, Stop}
 use Rattle.pieces.specs.Cut.{Piece, piece, behind, numbersOf, endsOf, Cut, answerOf}
 use Rattle.pieces.specs.Calls.{CutWithOutcome}
-use Rattle.pieces.specs.Moves.{Moves}
+use Rattle.pieces.specs.Moves.{DoneAt}
 use Rattle.pieces.specs.Rows.{Says}
 use Rattle.pieces.proofs.Moving.{stop-cuts, skip-cuts, taken, take-cuts, skip-inside, take-inside}
 use Rattle.pieces.proofs.Written.{over-length, over-next, over-taken}
@@ -77,7 +77,7 @@ module _ {M : ℕ → List ℕ → Type 0} {line tokens₀ ends₀ : List ℕ} w
     pub ends-same : length ends ≡ length ends₀
     ends-same = ap length (p .places) ∙ over-length (take (length ends₀) (endsOf (p .pieces))) ends₀ (simp length-take (omega arith))
 
-    pub progress-skip : Moves M line at (length tokens₀ - count) Skip → Progress M line tokens₀ ends₀ (at + 1) count tokens ends
+    pub progress-skip : DoneAt M line at (length tokens₀ - count) Skip → Progress M line tokens₀ ends₀ (at + 1) count tokens ends
     progress-skip moves =
         record {
           pieces = p .pieces;
@@ -90,7 +90,7 @@ module _ {M : ℕ → List ℕ → Type 0} {line tokens₀ ends₀ : List ℕ} w
         }
 
     pub progress-take : {k end : ℕ}
-        → Moves M line at (length tokens₀ - count) (Take k end)
+        → DoneAt M line at (length tokens₀ - count) (Take k end)
         → Progress M line tokens₀ ends₀ end (count + 1) (set tokens count k) (set ends count end)
     progress-take {k} {end} moves =
         let next = taken line at k end in
@@ -117,7 +117,7 @@ module _ {M : ℕ → List ℕ → Type 0} {line tokens₀ ends₀ : List ℕ} w
 -- the cut ends
 pub progress-stop : {machine line tokens₀ ends₀ tokens ends : List ℕ} {at count : ℕ} {ending : Ending} {answer : Answer}
     → Progress (Says machine) line tokens₀ ends₀ at count tokens ends
-    → Moves (Says machine) line at (length tokens₀ - count) (Stop ending)
+    → DoneAt (Says machine) line at (length tokens₀ - count) (Stop ending)
     → answer ≡ answerOf ending count
     → CutWithOutcome machine line tokens₀ ends₀ answer tokens ends
 progress-stop {ending = ending} p moves answered =

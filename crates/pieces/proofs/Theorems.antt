@@ -16,7 +16,7 @@ use Rattle.pieces.specs.declared.Ending.the-variants.{Whole, NoRoom}
 use Rattle.pieces.specs.Cut.{Piece, endsOf, TokenAt, NoTokenAt, Cut}
 use Rattle.pieces.specs.Calls.{CutWithOutcome}
 use Rattle.pieces.specs.Examples.{line, oneRow}
-use Rattle.pieces.specs.Laid.{Laid, CutStopped, StandsIn, endBefore}
+use Rattle.pieces.specs.Laid.{LaidOut, CutStopped, StandsIn, endBefore}
 use Rattle.pieces.specs.Meanings.{Agree, Picks, Only, OfParts, TokenKnown}
 use Rattle.pieces.specs.Rows.{Says, Closed}
 use Rattle.pieces.proofs.Beginning as beginning
@@ -49,7 +49,7 @@ module _ {M : ℕ → List ℕ → Type 0} where
   -- cut to its end, it is its pieces in order, with nothing but spaces before, between and behind them
   pub cut-keeps-all : {room place : ℕ} {w : List ℕ} {pieces : List Piece}
       → Cut M room place w pieces Whole
-      → Laid place pieces w
+      → LaidOut place pieces w
   cut-keeps-all cut = laying.cut-keeps-all cut
 
   -- in every case the pieces and spaces stand in front of the place where the cut ends, and there it is told why

@@ -10,12 +10,12 @@ use Rattle.pieces.specs.declared.Ending.the-variants.{Whole, NoToken, No
 use Rattle.pieces.specs.Cut.{space, Piece, behind, endsOf, TokenAt, NoTokenAt}
 
 -- from `place` on the line is its pieces in order, with nothing but spaces before, between and behind them
-pub data Laid : (place : ℕ) → List Piece → List ℕ → Type 0 where
-  last-spaces : {place : ℕ} (n : ℕ) → Laid place [] (replicate n space)
+pub data LaidOut : (place : ℕ) → List Piece → List ℕ → Type 0 where
+  last-spaces : {place : ℕ} (n : ℕ) → LaidOut place [] (replicate n space)
   next-piece : {place : ℕ} (n : ℕ) (p : Piece) {pieces : List Piece} {rest : List ℕ}
       → p .place ≡ place + n
-      → Laid (behind p) pieces rest
-      → Laid place (p ∷ pieces) (replicate n space ++ (p .bytes ++ rest))
+      → LaidOut (behind p) pieces rest
+      → LaidOut place (p ∷ pieces) (replicate n space ++ (p .bytes ++ rest))
 
 -- why a cut ends where w is left, at place q, with room for so many tokens more
 pub data Ends (M : ℕ → List ℕ → Type 0) : (room : ℕ) → (w : List ℕ) → (q : ℕ) → Ending → Type 0 where
@@ -29,7 +29,7 @@ pub record CutStopped (M : ℕ → List ℕ → Type 0) (room place : ℕ) (w : 
   pub before : List ℕ
   pub left : List ℕ
   pub split : w ≡ before ++ left
-  pub laid : Laid place pieces before
+  pub laid : LaidOut place pieces before
   pub fits : length pieces ≤ room
   pub ends : Ends M (room - length pieces) left (place + length before) ending
 

@@ -29,19 +29,19 @@ module _ (M : ℕ → List ℕ → Type 0) where
     nothing : NoTokenAt M w → Matched w from Nothing
 
   -- what is done at place `at` of the line with room for so many tokens
-  pub data Moves (line : List ℕ) (at : ℕ) : (room : ℕ) → Move → Type 0 where
-    ends : {room : ℕ} → length line ≤ at → Moves line at room (Stop Whole)
-    skips : {room : ℕ} → at < length line → getD line at 0 ≡ space → Moves line at room Skip
+  pub data DoneAt (line : List ℕ) (at : ℕ) : (room : ℕ) → Move → Type 0 where
+    ends : {room : ℕ} → length line ≤ at → DoneAt line at room (Stop Whole)
+    skips : {room : ℕ} → at < length line → getD line at 0 ≡ space → DoneAt line at room Skip
     takes : {room k n : ℕ}
         → Starts line at
         → TokenAt M (drop at line) k n
         → 0 < room
-        → Moves line at room (Take k (at + n))
+        → DoneAt line at room (Take k (at + n))
     finds-nothing : {room : ℕ}
         → Starts line at
         → NoTokenAt M (drop at line)
-        → Moves line at room (Stop (NoToken at))
+        → DoneAt line at room (Stop (NoToken at))
     lacks-room : {k n : ℕ}
         → Starts line at
         → TokenAt M (drop at line) k n
-        → Moves line at 0 (Stop (NoRoom at))
+        → DoneAt line at 0 (Stop (NoRoom at))

@@ -6,7 +6,7 @@ ghost use Rattle.sets.specs.Calls.{noSet};
 ghost use Rattle.answers.specs.Answers as answers;
 ghost use Rattle.pieces.specs.Calls.{CutWithOutcome};
 ghost use Rattle.pieces.specs.Cut.{answerOf};
-ghost use Rattle.pieces.specs.Moves.{Moves};
+ghost use Rattle.pieces.specs.Moves.{DoneAt};
 ghost use Rattle.pieces.specs.Rows.{rowsIn, Says};
 use crate::Ending;
 use crate::Match;
@@ -26,7 +26,7 @@ const SPACE: u8 = 32;
 // What is done at a place with room for so many tokens.
 fn move_at(machine: &[u16], rows: usize, line: &[u8], at: usize, room: usize) -> Move
     requires { ⌜ rows ≡ rowsIn (now machine) ⌝ }
-    ensures { λ r. ⌜ Moves (Says (now (machine .entry))) (now (line .entry)) at room r ⌝ }
+    ensures { λ r. ⌜ DoneAt (Says (now (machine .entry))) (now (line .entry)) at room r ⌝ }
 {
     if line.len() <= at {
         return Move::Stop(Ending::Whole);

@@ -4,7 +4,7 @@ use Prim.Native.Nat.{_-_, _≤_, _<_}
 use native.Mathlib.Omega.{arith}
 use lib.ListN.{length}
 use Rattle.pieces.specs.declared.Move.{Move}
-use Rattle.pieces.specs.Moves.{Moves}
+use Rattle.pieces.specs.Moves.{DoneAt}
 use Rattle.pieces.specs.Rows.{Says}
 use Rattle.pieces.proofs.Moving.{skip-inside, take-inside}
 use Rattle.pieces.proofs.Progress.{Progress, tokens-length, ends-same, progress-none, progress-skip, progress-take, progress-stop}
@@ -36,11 +36,11 @@ moved : (c : tie.After-move-at Inv-loop μ-loop) {m : Move}
     → c .move-at .result ≡ m
     → let turn = c .before in
     let args = turn .before .before .before .before .before .before .args in
-    Moves (Says (args .machine .now)) (args .line .now) (turn .loop .at) (length (args .tokens .now) - turn .loop .count) m
+    DoneAt (Says (args .machine .now)) (args .line .now) (turn .loop .at) (length (args .tokens .now) - turn .loop .count) m
 moved c e =
     let turn = c .before in
     let args = turn .before .before .before .before .before .before .args in
-    subst (Moves (Says (args .machine .now)) (args .line .now) (turn .loop .at) (length (args .tokens .now) - turn .loop .count)) e
+    subst (DoneAt (Says (args .machine .now)) (args .line .now) (turn .loop .at) (length (args .tokens .now) - turn .loop .count)) e
     (c .move-at .ensures)
 
 enum-told : tie.Need-enum-told Inv-loop μ-loop

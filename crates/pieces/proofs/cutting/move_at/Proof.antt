@@ -1,4 +1,4 @@
--- `cutting::move_at` meets its contract: one case of `Moves` for each answer.
+-- `cutting::move_at` meets its contract: one case of `DoneAt` for each answer.
 use native.Mathlib.Omega.{arith}
 use borrow.Author.Needs.{needs}
 use Rattle.pieces.specs.Moves.{Starts, ends, skips}
