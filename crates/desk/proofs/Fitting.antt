@@ -57,16 +57,16 @@ use Rattle.expand.specs.Expanding as expanding
 use Rattle.expand.proofs.Promise.{ToldBy, told-by, finished, misfitting, out-of-stack, out-of-output}
 use Rattle.desk.proofs.ReadBack.{FitsWords}
 
-done-fits : (n : ℕ) → n < 2 ^ 64 → FitsWords (done n)
+pub done-fits : (n : ℕ) → n < 2 ^ 64 → FitsWords (done n)
 unfolding done
 done-fits n h = record { place = omega arith; detail = omega arith; steps = h; expected = omega arith; depth = omega arith }
 
-refusal-fits : (number : ℕ) {place detail : ℕ} → place < 2 ^ 64 → detail < 2 ^ 64 → FitsWords (refusal number place detail)
+pub refusal-fits : (number : ℕ) {place detail : ℕ} → place < 2 ^ 64 → detail < 2 ^ 64 → FitsWords (refusal number place detail)
 unfolding refusal
 refusal-fits number h k = record { place = h; detail = k; steps = omega arith; expected = omega arith; depth = omega arith }
 
 -- no table has more than 64 × 63 cells
-size-bounded : {g : Grammar} → Limits g → size g ≤ 4032
+pub size-bounded : {g : Grammar} → Limits g → size g ≤ 4032
 size-bounded {g} l =
     let columns : g .tokens + 1 ≤ 63 = omega (arith, l .tokens-fit) in
     mul-le-mul (l .nonterminals-fit) columns

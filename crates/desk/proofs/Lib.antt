@@ -4,4 +4,5 @@ pub mod Calls
 pub mod ReadBack
 pub mod Fitting
 pub mod Theorems
+pub mod PlainCalls
 pub mod Examples

@@ -5,25 +5,24 @@ use mathlib.Core.List.{List}
 use Prim.Native.Nat.{ℕ, _+_, _*_, _≤_}
 use native.Mathlib.Omega.{arith}
 use lib.ListN.{length, take}
-use Rattle.grammar.specs.Grammar.{Grammar, Column, column}
+use Rattle.grammar.specs.Grammar.{Grammar}
 use Rattle.grammar.specs.Machine.{Continues}
 use Rattle.grammar.specs.Plain.{Plain}
 use Rattle.grammar.proofs.Theorems.{plain-no-conflict}
+use Rattle.sets.specs.Calls.{number}
 use Rattle.answers.specs.declared.Answer.{Answer}
 use Rattle.answers.specs.Answers.{done, refusal}
 use Rattle.answers.specs.Buffers.{over}
 use Rattle.answers.specs.Refusals.{room, conflict, syntax}
 use Rattle.book.specs.Judging.{Serves}
 use Rattle.book.proofs.Promise.{refuses-number, refuses-not-serves, serves-unique}
+use Rattle.first.specs.Numbers.{IsSet}
 use Rattle.follow.specs.Calls.{SetsRoom, no-first, no-follow}
 use Rattle.table.specs.Calls.{BuildOutcome}
 use Rattle.table.specs.Calls as calls
-use Rattle.table.specs.Table.{FirstConflict, BuiltWithoutConflict, cellOf}
+use Rattle.table.specs.Table.{FirstConflict, BuiltWithoutConflict}
 use Rattle.table.proofs.Promise.{first-is-conflict}
 use Rattle.machine.specs.Machine.{final}
-use Rattle.machine.specs.declared.Reason.{Reason}
-use Rattle.machine.proofs.Promise.{Wanted}
-use Rattle.offer.specs.Stops.{expected}
 use Rattle.offer.specs.Strings.{ran}
 use Rattle.run.specs.Running.{RunOutcome}
 use Rattle.run.proofs.Promise.{Result}
@@ -33,7 +32,7 @@ use Rattle.profile.specs.Plain.{PlainOutcome, PlainRunOutcome, refused, 
 use Rattle.profile.specs.Plain as plain
 use Rattle.profile.proofs.Unique as unique
 use Rattle.profile.proofs.Unique.{break-other, on-built}
-use Rattle.profile.proofs.Runs.{lists-few, stop-asks, plain-run-roomy}
+use Rattle.profile.proofs.Runs.{lists-few, stop-hints, plain-run-roomy}
 -- the books H, I, J and Q, and runs on Q
 pub use Rattle.profile.proofs.Examples.{house-unfit, useless-refused, nested-unfit, plain-book-fits}
 pub use Rattle.profile.proofs.Examples.{plain-example, plain-runs-given}
@@ -108,14 +107,11 @@ module _ {book table tokens stack list : List ℕ} {r : Ran}
     plain-run-few =
         lists-few h p stack list (run-begins book table tokens stack list r (plain-run-is-run outcome (h .built) p) h)
 
-    -- where it stops by syntax, the reason of the expected set asks for just what can come after the tokens matched
+    -- where it stops by syntax, the expected set is just what can come after the tokens matched
     pub plain-run-hints : r .answer .number ≡ syntax
-        → (reason : Reason) × (r .answer .expected ≡ expected (h .built .grammar) table reason)
-        × ((c : Column)
-        → Continues (h .built .grammar) (take (r .answer .place) tokens) (column c)
-        ↔ Wanted (cellOf (h .built .grammar) table) reason c)
+        → IsSet (number (r .answer .expected)) (Continues (h .built .grammar) (take (r .answer .place) tokens))
     plain-run-hints =
-        stop-asks h p stack list (run-begins book table tokens stack list r (plain-run-is-run outcome (h .built) p) h)
+        stop-hints h p stack list (run-begins book table tokens stack list r (plain-run-is-run outcome (h .built) p) h)
 
 -- building such a book is never refused for a conflict
 pub plain-never-conflicts : {book first follow table : List ℕ} {a : Answer} {f w t : List ℕ} {g : Grammar}

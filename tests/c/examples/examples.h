@@ -12,6 +12,7 @@ void check_trees(void);
 void check_formula(void);
 void check_all_patterns(void);
 void check_cut_lines(void);
+void check_profile(void);
 
 struct grammar;
 
