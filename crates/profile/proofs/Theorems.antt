@@ -1,5 +1,5 @@
 -- What the plain profile promises, one page: each theorem under the sentence that it proves. Request W14.
-use mathlib.Core.Path.{_≡_, refl, subst}
+use mathlib.Core.Path.{_≡_, refl, ap, subst}
 use mathlib.Core.Logic.{_↔_, _≢_}
 use mathlib.Core.List.{List}
 use Prim.Native.Nat.{ℕ, _+_, _*_, _≤_}
@@ -17,10 +17,10 @@ use Rattle.answers.specs.Refusals.{room, conflict, syntax}
 use Rattle.book.specs.Judging.{Serves}
 use Rattle.book.proofs.Promise.{refuses-number, refuses-not-serves, serves-unique}
 use Rattle.first.specs.Numbers.{IsSet}
-use Rattle.follow.specs.Calls.{SetsRoom, no-first, no-follow}
+use Rattle.follow.specs.Calls.{SetsFit, no-first, no-follow}
 use Rattle.table.specs.Calls.{BuildOutcome}
 use Rattle.table.specs.Calls as calls
-use Rattle.table.specs.Table.{FirstConflict, BuiltWithoutConflict}
+use Rattle.table.specs.Table.{size, FirstConflict, BuiltWithoutConflict}
 use Rattle.table.proofs.Promise.{first-is-conflict}
 use Rattle.machine.specs.Machine.{final}
 use Rattle.offer.specs.Strings.{ran}
@@ -127,3 +127,24 @@ plain-never-conflicts (calls.no-table t h k) s p e = omega arith
 plain-never-conflicts {g = g} (calls.conflict {i = i} {p = m} {q = n} t h k first) s p e =
     plain-no-conflict p (first-is-conflict (subst (λ (x : Grammar). FirstConflict x i m n) (serves-unique t s) first))
 plain-never-conflicts (calls.served t h k x y z) s p e = omega arith
+
+-- and with room for the sets and the table it is done
+pub plain-builds : {book first follow table : List ℕ} {a : Answer} {f w t : List ℕ} {g : Grammar}
+    → BuildOutcome book first follow table a f w t
+    → Serves book g
+    → Plain g
+    → SetsFit g first follow
+    → size g ≤ length table
+    → a ≡ done 0
+plain-builds (calls.refused r) s p fit roomy = absurd (refuses-not-serves r s)
+plain-builds (calls.no-room t (no-first h)) s p fit roomy =
+    absurd (omega (arith, fit .first-fits, ap (λ (x : Grammar). x .nonterminals) (serves-unique t s)))
+plain-builds (calls.no-room t (no-follow h k)) s p fit roomy =
+    absurd (omega (arith, fit .follow-fits, ap (λ (x : Grammar). x .nonterminals) (serves-unique t s)))
+plain-builds (calls.no-table t h k) s p fit roomy =
+    absurd (omega (arith, ap (λ (x : Grammar). size x) (serves-unique t s)))
+plain-builds {g = g} (calls.conflict {i = i} {p = m} {q = n} t h k first) s p fit roomy =
+    absurd
+    (plain-no-conflict p
+    (first-is-conflict (subst (λ (x : Grammar). FirstConflict x i m n) (serves-unique t s) first)))
+plain-builds (calls.served t h k x y z) s p fit roomy = refl
