@@ -52,6 +52,15 @@ static const uint8_t json_book[] = {
     'P', 'R', 5, 0,
 };
 
+/* S -> a B, S -> b B, B -> c, B -> d S, which is plain. */
+static const uint8_t plain_book[] = {
+    'G', 'R', 4, 2, 0, 4,
+    'P', 'R', 0, 2, 0, N(1),
+    'P', 'R', 0, 2, 1, N(1),
+    'P', 'R', 1, 1, 2,
+    'P', 'R', 1, 2, 3, N(0),
+};
+
 static size_t pick(size_t low, size_t high)
 {
     static uint64_t state = 88172645463325252;
@@ -129,6 +138,16 @@ static uint8_t *make_json_value(uint8_t *at, size_t length)
 static void make_json_string(uint8_t *at, size_t length)
 {
     make_json_value(at, length);
+}
+
+/* a or b by chance, then d, and so on to a last c; the length is even. */
+static void make_plain_string(uint8_t *at, size_t length)
+{
+    const uint8_t *end = at + length;
+    while (at < end) {
+        at = put(at, (uint8_t)pick(0, 1));
+        at = put(at, at + 1 < end ? 3 : 2);
+    }
 }
 
 /* Makes the table and the strings of a workload, and their lists with the plain run. */
@@ -213,6 +232,8 @@ static struct workload *make_book(const char *name, const uint8_t *book, size_t 
 #define BOOK work->book, work->book_length
 #define RUN_ARGUMENTS BOOK, work->table, work->table_length, work->strings[i], work->length, stack, work->stack, \
                       list, sizeof list, answer, sizeof answer
+#define PLAIN_RUN_ARGUMENTS BOOK, work->strings[i], work->length, stack, work->stack, list, sizeof list, \
+                            answer, sizeof answer
 #define EXPAND_ARGUMENTS BOOK, work->lists[i], work->listed[i], stack, work->stack, tokens, sizeof tokens, \
                          answer, sizeof answer
 #define SETS_ARGUMENTS BOOK, first, 64, follow, 64, answer, sizeof answer
@@ -221,6 +242,8 @@ static struct workload *make_book(const char *name, const uint8_t *book, size_t 
 
 static void run_desk(void) { EACH_STRING(desk_run(RUN_ARGUMENTS)); }
 static void run_plain(void) { EACH_STRING(plain_run(RUN_ARGUMENTS)); }
+static void plain_run_desk(void) { EACH_STRING(desk_plain_run(PLAIN_RUN_ARGUMENTS)); }
+static void plain_run_plain(void) { EACH_STRING(plain_profile_run(PLAIN_RUN_ARGUMENTS)); }
 static void expand_desk(void) { EACH_STRING(desk_expand(EXPAND_ARGUMENTS)); }
 static void expand_plain(void) { EACH_STRING(plain_expand(EXPAND_ARGUMENTS)); }
 static void judge_desk(void) { EACH_TIME(desk_judge(BOOK, answer, sizeof answer)); }
@@ -292,6 +315,17 @@ static void print_string_figures(struct workload *workload)
     free(workload);
 }
 
+/* A run on a plain book alone, with desk_run on the built table as the third. */
+static void print_plain_figures(struct workload *workload)
+{
+    bool calls = workload->length == SHORT_STRING;
+    double units = (double)(STRINGS * (calls ? 1 : workload->length) * workload->times);
+    work = workload;
+    print_figure(&(struct figure){ "plain run", work->name, calls ? "call" : "token", units, plain_run_desk,
+                                   plain_run_plain, run_desk, "desk_run" });
+    free(workload);
+}
+
 static void print_book_figures(struct workload *workload)
 {
     print_work("judge", workload, "call", 1, judge_desk, judge_plain, NULL);
@@ -325,6 +359,10 @@ int main(int argc, char **argv)
                                        SHORT_STRING, HOUSE_PARSER));
     print_string_figures(make_workload("json, 6 tokens", json_book, sizeof json_book, make_json_string,
                                        SHORT_STRING, JSON_PARSER));
+    print_plain_figures(make_workload("plain, 4000 tokens", plain_book, sizeof plain_book, make_plain_string,
+                                      LONG_STRING, NULL));
+    print_plain_figures(make_workload("plain, 6 tokens", plain_book, sizeof plain_book, make_plain_string,
+                                      SHORT_STRING, NULL));
     print_book_figures(make_book("house", house_book, sizeof house_book, 10000));
     print_book_figures(make_book("json", json_book, sizeof json_book, 5000));
     make_largest(largest, false);

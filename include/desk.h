@@ -92,7 +92,8 @@ enum {
     DESK_PATTERN = 14,
     DESK_NO_TOKEN = 15,
     DESK_STATES = 16,
-    DESK_DIFFERS = 17
+    DESK_DIFFERS = 17,
+    DESK_PROFILE = 21
 };
 
 /* The details of DESK_ROOM: which buffer is too small. */
@@ -200,6 +201,33 @@ uint32_t desk_expand(const uint8_t *book, size_t book_len, const uint8_t *list, 
      DESK_USELESS  a nonterminal occurs in no derivation of a token string from the start: place is the lowest such
                    nonterminal, which is 0 if the start derives no token string at all. */
 uint32_t desk_judge(const uint8_t *book, size_t book_len, uint8_t *answer, size_t answer_len);
+
+/* Tests whether a book is plain: every right side starts with a token, and no two productions of one nonterminal start
+   with the same one. Nothing but the answer is changed.
+
+   Refusals, in this order:
+     the refusals of desk_judge;
+     DESK_PROFILE  a right side is empty, or starts with a nonterminal, or with the token that a lower production of the
+                   same nonterminal starts with: place is the lowest such production. */
+uint32_t desk_plain(const uint8_t *book, size_t book_len, uint8_t *answer, size_t answer_len);
+
+/* Runs a token string on a plain book alone: no table is lent, and none is kept.
+
+   Refusals, in this order; up to and including the last of this list nothing but the answer changes:
+     the refusals of desk_plain;
+     DESK_LIMIT   more than 4,096 tokens: place 4,096;
+     DESK_TOKEN   a token is T or above, wherever it stands: place is the index of the first one;
+     DESK_ROOM    the stack has no cell: detail DESK_ROOM_STACK, place 0.
+
+   Then steps are made as in desk_run on the table that desk_build makes of the book, which a plain book always has: with
+   equal room the answer, the stack and the list are the same, and all that is said there holds. Where the run stops
+   with DESK_SYNTAX nothing was listed since the last token matched, so the expected set is just what can come next.
+
+   Room: a run over n tokens lists at most n productions. n list cells and 1 + 15 x n stack cells, DESK_LIST_ROOM(1, n)
+   and DESK_STACK_ROOM(1, n), are always enough for n tokens; the second is at most 61,441. */
+uint32_t desk_plain_run(const uint8_t *book, size_t book_len, const uint8_t *tokens, size_t tokens_len,
+                        uint8_t *stack, size_t stack_len, uint8_t *list, size_t list_len,
+                        uint8_t *answer, size_t answer_len);
 
 /* Works out FIRST and FOLLOW of every nonterminal.
 

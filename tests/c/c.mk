@@ -5,13 +5,15 @@ BISON ?= $(shell command -v bison)
 C_OUT := target/c
 C_FLAGS := -std=c11 -O2 -Wall -Wextra -Wpedantic -Iinclude -Itests/c -Ibench
 C_EXAMPLES := tests/c/lent.c $(addprefix tests/c/examples/,main.c check.c books.c calls.c refused.c sets.c checks.c \
-              runs.c expansions.c rooms.c trees.c formula.c patterns.c cuts.c machines.c sheets.c)
+              runs.c expansions.c rooms.c trees.c formula.c patterns.c cuts.c machines.c sheets.c profile.c)
 C_DIFFERENTIAL := tests/c/lent.c tests/c/plain.c tests/c/cases.c $(addprefix tests/c/differential/,pick.c shape.c \
                   inputs.c strings.c needs.c compare.c laws.c depths.c counts.c)
 C_LINES := tests/c/lent.c tests/c/plain_lines.c tests/c/cases.c tests/c/differential/pick.c $(addprefix tests/c/lines/,\
            trees.c inputs.c compare.c)
 C_SHEETS := tests/c/lent.c tests/c/plain.c tests/c/plain_sheets.c tests/c/cases.c $(addprefix tests/c/differential/,\
             pick.c shape.c inputs.c) $(addprefix tests/c/sheets/,inputs.c compare.c)
+C_PROFILES := tests/c/lent.c tests/c/plain.c tests/c/cases.c tests/c/profiles/compare.c \
+              $(addprefix tests/c/differential/,pick.c shape.c inputs.c strings.c needs.c)
 C_HEADERS := include/desk.h bench/source.h bench/timing.h c/answers.h $(wildcard tests/c/*.h tests/c/*/*.h)
 C_COMPILE = $(CC) $(C_FLAGS) $(1) -o $@ $(filter %.c,$^) $(LIB)
 
@@ -30,6 +32,7 @@ endif
 
 c-test: $(addprefix $(C_OUT)/,examples differential lines sheets-cases examples-checked differential-checked \
         lines-checked sheets-cases-checked restore line sheets stack)
+c-test: $(addprefix $(C_OUT)/,profiles profiles-checked)
 	$(C_OUT)/examples
 	$(C_OUT)/differential
 	$(C_OUT)/lines
@@ -38,6 +41,8 @@ c-test: $(addprefix $(C_OUT)/,examples differential lines sheets-cases examples-
 	$(C_OUT)/differential-checked 100000
 	$(C_OUT)/lines-checked 40000
 	$(C_OUT)/sheets-cases-checked 100000
+	$(C_OUT)/profiles
+	$(C_OUT)/profiles-checked 40000
 	printf '\0\1\2\1\3\1' > $(C_OUT)/order
 	$(C_OUT)/restore books/house.book - $(C_OUT)/order | diff - tests/c/restore.stdout
 	printf '\0\377\377\377\377\377\1\377\377\377\377\377\2\377\3\377\377\377\4\5' > $(C_OUT)/table
@@ -100,6 +105,7 @@ $(C_OUT)/examples $(C_OUT)/examples-checked: $(C_EXAMPLES)
 $(C_OUT)/differential $(C_OUT)/differential-checked: $(C_DIFFERENTIAL)
 $(C_OUT)/lines $(C_OUT)/lines-checked: $(C_LINES)
 $(C_OUT)/sheets-cases $(C_OUT)/sheets-cases-checked: $(C_SHEETS)
+$(C_OUT)/profiles $(C_OUT)/profiles-checked: $(C_PROFILES)
 $(C_OUT)/restore: c/restore.c
 $(C_OUT)/sheets: c/sheets.c
 $(C_OUT)/line: c/line.c
@@ -114,10 +120,10 @@ $(C_OUT)/%.lex.c: bench/%.l | $(C_OUT)
 $(C_OUT)/%.tab.c: bench/%.y bench/source.h | $(C_OUT)
 	$(BISON) -Wall -o $@ $<
 
-$(addprefix $(C_OUT)/,examples differential lines sheets-cases restore line sheets stack): $(C_HEADERS) $(LIB) | $(C_OUT)
+$(addprefix $(C_OUT)/,examples differential lines profiles sheets-cases restore line sheets stack): $(C_HEADERS) $(LIB) | $(C_OUT)
 	$(call C_COMPILE,)
 
-$(addprefix $(C_OUT)/,examples-checked differential-checked lines-checked sheets-cases-checked): $(C_HEADERS) $(LIB) \
+$(addprefix $(C_OUT)/,examples-checked differential-checked lines-checked profiles-checked sheets-cases-checked): $(C_HEADERS) $(LIB) \
         $(C_OUT)/sanitize
 	$(call C_COMPILE,$$(cat $(C_OUT)/sanitize))
 

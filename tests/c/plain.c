@@ -2,6 +2,7 @@
 
 #include "plain/book.h"
 #include "plain/check.h"
+#include "plain/profile.h"
 #include "plain/sets.h"
 #include "plain/steps.h"
 
@@ -157,6 +158,36 @@ uint32_t plain_first_of(const uint8_t *book, size_t book_len, const uint8_t *sym
         find_first(&grammar, first);
         set[0] = first_of_string(first, symbols, symbols_len);
         count[0] = leading_vanishing(first, symbols, symbols_len);
+    }
+    return give(&result, answer);
+}
+
+uint32_t plain_profile(const uint8_t *book, size_t book_len, uint8_t *answer, size_t answer_len)
+{
+    struct grammar grammar;
+    struct answer result = { 0 };
+    if (answer_len < ANSWER_SIZE)
+        return ROOM;
+    if (judge(book, book_len, &grammar, &result))
+        is_plain(&grammar, &result);
+    return give(&result, answer);
+}
+
+uint32_t plain_profile_run(const uint8_t *book, size_t book_len, const uint8_t *tokens, size_t tokens_len,
+                           uint8_t *stack, size_t stack_len, uint8_t *list, size_t list_len,
+                           uint8_t *answer, size_t answer_len)
+{
+    struct grammar grammar;
+    struct answer result = { 0 };
+    if (answer_len < ANSWER_SIZE)
+        return ROOM;
+    if (judge(book, book_len, &grammar, &result)
+        && is_plain(&grammar, &result)
+        && tokens_fit(&grammar, tokens, tokens_len, &result)
+        && stack_has_cell(stack_len, &result)) {
+        profile_steps(&grammar, tokens, tokens_len, stack, smaller(stack_len, MOST_CELLS),
+                      list, smaller(list_len, MOST_CELLS), &result);
+        memset(stack, 0, stack_len);
     }
     return give(&result, answer);
 }

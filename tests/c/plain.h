@@ -28,4 +28,10 @@ uint32_t plain_first_of(const uint8_t *book, size_t book_len, const uint8_t *sym
                         uint64_t *set, size_t set_len, uint64_t *count, size_t count_len,
                         uint8_t *answer, size_t answer_len);
 
+/* And desk_plain and desk_plain_run. */
+uint32_t plain_profile(const uint8_t *book, size_t book_len, uint8_t *answer, size_t answer_len);
+uint32_t plain_profile_run(const uint8_t *book, size_t book_len, const uint8_t *tokens, size_t tokens_len,
+                           uint8_t *stack, size_t stack_len, uint8_t *list, size_t list_len,
+                           uint8_t *answer, size_t answer_len);
+
 #endif

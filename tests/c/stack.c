@@ -79,6 +79,17 @@ static void call_run(void)
                       list, sizeof list, answer, sizeof answer);
 }
 
+static void call_plain(void)
+{
+    number = desk_plain(book, book_length, answer, sizeof answer);
+}
+
+static void call_plain_run(void)
+{
+    number = desk_plain_run(book, book_length, tokens, tokens_length, stack, sizeof stack, list, sizeof list,
+                            answer, sizeof answer);
+}
+
 /* Eight nested groups, the most that may be open. */
 static void call_patterns(void)
 {
@@ -151,6 +162,8 @@ static const struct function lookahead = { "desk_lookahead", call_lookahead, 535
 static const struct function first_of = { "desk_first_of", call_first_of, 4100 };
 static const struct function run = { "desk_run", call_run, 4400 };
 static const struct function expand = { "desk_expand", call_expand, 4600 };
+static const struct function plain = { "desk_plain", call_plain, 3420 };
+static const struct function plain_run = { "desk_plain_run", call_plain_run, 8720 };
 static const struct function patterns = { "desk_patterns", call_patterns, 18300 };
 static const struct function cut = { "desk_cut", call_cut, 32800 };
 static const struct function cut_nested = { "desk_cut", call_cut_nested, 38700 };
@@ -312,6 +325,43 @@ static void print_sheet_depths(const char *input)
     print_depth(&read_sheet, input);
 }
 
+/* The largest plain book: two productions of sixteen symbols for each nonterminal, which start with tokens of their own. */
+static void set_largest_plain(void)
+{
+    const uint8_t header[] = { 'G', 'R', 62, 64, 0, 128 };
+    set_book(header, sizeof header);
+    book_length = sizeof book;
+    for (size_t p = 0; p < 128; p++) {
+        const uint8_t opening[] = { 'P', 'R', (uint8_t)(p / 2), DESK_MOST_SYMBOLS, (uint8_t)(p % 2) };
+        uint8_t *record = book + sizeof header + 20 * p;
+        memset(record, 61, 20);
+        memcpy(record, opening, sizeof opening);
+        if (p % 2 == 0 && p < 126)
+            record[5] = (uint8_t)N(p / 2 + 1);
+    }
+}
+
+static void print_profile_depths(void)
+{
+    static const uint8_t small[] = { 'G', 'R', 3, 2, 0, 3, 'P', 'R', 0, 2, 0, N(1), 'P', 'R', 1, 1, 1,
+                                     'P', 'R', 1, 2, 2, N(0) };
+    static const uint8_t taken[] = { 0, 2, 0, 2, 0, 1 }, refused[] = { 0, 0 };
+    set_book(small, sizeof small);
+    print_depth(&plain, "small book");
+    memcpy(tokens, taken, sizeof taken);
+    tokens_length = sizeof taken;
+    print_depth(&plain_run, "small book, 6 tokens");
+    memcpy(tokens, refused, sizeof refused);
+    tokens_length = sizeof refused;
+    print_depth(&plain_run, "small book, a syntax stop");
+    set_largest_plain();
+    print_depth(&plain, "largest plain book");
+    memset(tokens, 61, DESK_MOST_TOKENS);
+    tokens[0] = 1;
+    tokens_length = DESK_MOST_SYMBOLS;
+    print_depth(&plain_run, "largest plain book, 16 tokens");
+}
+
 static void print_line_depths(void)
 {
     print_depth(&patterns, "eight nested groups");
@@ -330,6 +380,7 @@ int main(void)
     print_book_depths("longest book");
     print_sheet_depths("longest book");
     print_run_depths();
+    print_profile_depths();
     print_line_depths();
     return exceeded == 0 ? 0 : 1;
 }

@@ -68,7 +68,7 @@ unfolding refusal
 refusal-fits number h k = record { place = h; detail = k; steps = omega arith; expected = omega arith; depth = omega arith }
 
 -- no table has more than 64 × 63 cells
-size-bounded : {g : Grammar} → Limits g → size g ≤ 4032
+pub size-bounded : {g : Grammar} → Limits g → size g ≤ 4032
 size-bounded {g} l =
     let columns : g .tokens + 1 ≤ 63 = omega (arith, l .tokens-fit) in
     mul-le-mul (l .nonterminals-fit) columns

@@ -6,4 +6,5 @@ pub mod Fitting
 pub mod Depth
 pub mod SheetCalls
 pub mod Theorems
+pub mod PlainCalls
 pub mod Examples

@@ -3,12 +3,14 @@
 // else, and nothing changes.
 ghost use Rattle.desk.specs.Desk.{JudgeCall, SetsCall, BuildCall, RunCall, ExpandCall, LookaheadCall, FirstCall};
 ghost use Rattle.desk.specs.Desk.{PatternsCall, CutCall, CutWithCall, CheckCall};
+ghost use Rattle.desk.specs.Plain.{PlainCall, PlainRunCall};
 use crate::words::ANSWER_SIZE;
 use crate::words::write_answer;
 use answers::refusals::ROOM;
 use book::judging::judge;
 use expand::expand;
 use pieces::cutting::cut_with;
+use profile::plain::plain_run;
 use run::running::run;
 
 mod sheets;
@@ -97,6 +99,47 @@ pub extern "C" fn desk_check_table(book: &[u8], table: &[u8], answer: &mut [u8])
     let checked = checker::check(book, table);
     write_answer(answer, checked);
     checked.number
+}
+
+// The refusal 1 to 6 of a book, or 21 where it is not plain, or done.
+#[no_mangle]
+pub extern "C" fn desk_plain(book: &[u8], answer: &mut [u8]) -> u32
+    ensures { λ r. ⌜ PlainCall (now (book .entry)) (now (answer .entry)) r (now (answer .exit)) ⌝ }
+{
+    if answer.len() < ANSWER_SIZE {
+        return ROOM;
+    }
+    let tested = profile::plain::plain(book);
+    write_answer(answer, tested);
+    tested.number
+}
+
+// A token string run on a plain book alone.
+#[no_mangle]
+pub extern "C" fn desk_plain_run(
+    book: &[u8],
+    tokens: &[u8],
+    stack: &mut [u8],
+    list: &mut [u8],
+    answer: &mut [u8],
+) -> u32
+    ensures { λ r. ⌜ PlainRunCall
+        (now (book .entry))
+        (now (tokens .entry))
+        (now (stack .entry))
+        (now (list .entry))
+        (now (answer .entry))
+        r
+        (now (stack .exit))
+        (now (list .exit))
+        (now (answer .exit)) ⌝ }
+{
+    if answer.len() < ANSWER_SIZE {
+        return ROOM;
+    }
+    let ended = plain_run(book, tokens, stack, list);
+    write_answer(answer, ended);
+    ended.number
 }
 
 // The refusal 4 or 14 of patterns lent as their bytes and lengths, or done.

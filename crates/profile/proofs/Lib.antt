@@ -3,6 +3,7 @@ pub mod Breaking
 pub mod Entering
 pub mod Outcomes
 pub mod Unique
+pub mod Hints
 pub mod Runs
 pub mod Examples
 pub mod Theorems

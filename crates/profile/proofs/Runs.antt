@@ -1,13 +1,14 @@
 -- What a run on a plain book lists and holds, and what can come where it stops.
-use mathlib.Core.Path.{_≡_, refl, sym, ap, subst}
-use mathlib.Core.Logic.{_↔_, _≢_, _⊎_, inl, inr}
+use mathlib.Core.Path.{_≡_, refl, sym, ap, subst, subst₂}
+use mathlib.Core.Logic.{_≢_}
 use mathlib.Core.List.{List}
 use Prim.Native.Nat.{ℕ, _+_, _*_, _≤_, _<_}
 use native.Mathlib.Omega.{arith}
 use lib.ListN.{length, take}
-use Rattle.grammar.specs.Grammar.{Form, Grammar, Column, column, Rule}
+use Rattle.grammar.specs.Grammar.{Form, Grammar, Rule}
 use Rattle.grammar.specs.Machine.{Continues}
 use Rattle.grammar.specs.Plain.{Plain, LowestBreak}
+use Rattle.sets.specs.Calls.{number}
 use Rattle.sets.specs.declared.Set.{Set}
 use Rattle.answers.specs.declared.Answer.{Answer}
 use Rattle.answers.specs.Answers.{done, refusal, stop, atDepth}
@@ -15,12 +16,13 @@ use Rattle.answers.specs.Buffers.{over, counted}
 use Rattle.answers.specs.Refusals.{room, syntax}
 use Rattle.book.specs.Judging.{Serves}
 use Rattle.book.proofs.Promise.{serves-limits, serves-well-formed, serves-unique, refuses-number}
-use Rattle.table.specs.Table.{BuiltWithoutConflict, cellOf}
+use Rattle.first.specs.Numbers.{IsSet}
+use Rattle.table.specs.Table.{BuiltWithoutConflict}
 use Rattle.table.proofs.Promise.{built-exact}
 use Rattle.machine.specs.Machine.{State, Offered, stopped, final}
 use Rattle.machine.specs.declared.Reason.{Reason}
 use Rattle.machine.specs.Stopping.{Syntax, Decided}
-use Rattle.machine.proofs.Promise.{run-plain-few, run-plain-enough, run-plain-next, Wanted}
+use Rattle.machine.proofs.Promise.{run-plain-few, run-plain-enough, run-plain-next, run-next-some}
 use Rattle.offer.specs.Stops.{expected, answered, runAnswer}
 use Rattle.offer.specs.Strings.{ran}
 use Rattle.offer.proofs.Promise.{Told, told, served, short-of-list, short-of-stack, blocked, told-room}
@@ -29,6 +31,7 @@ use Rattle.run.specs.Running as running
 use Rattle.demands.specs.Demands.{Ran, Premises}
 use Rattle.demands.proofs.Promise.{premises-exact, RunBegins, stackless, begins, ends-told, ends-steps, short-undecided}
 use Rattle.profile.specs.Plain.{PlainRunOutcome, refused, unfit, runs}
+use Rattle.profile.proofs.Hints.{hint-is}
 
 -- the reason of a syntax stop, and its expected set
 told-reason : {e : Reason → Set} {o : Offered} {a : Answer} → Told e o a → a .number ≡ syntax
@@ -55,24 +58,23 @@ module _ {book table tokens : List ℕ} (h : Premises book table tokens) (plain 
       go (begins k e) =
           (final (ran (h .built .grammar) table tokens stack list) .listed, run-plain-few (premises-exact h) plain (counted stack) (counted list) tokens, e .written, ends-steps e)
 
-  -- where it stops by syntax, the reason that gives the expected set asks for what can come after the tokens matched
-  pub stop-asks : r .answer .number ≡ syntax
-      → (reason : Reason) × (r .answer .expected ≡ expected (h .built .grammar) table reason)
-      × ((c : Column) → Continues (h .built .grammar) (take (r .answer .place) tokens) (column c) ↔ Wanted (cellOf (h .built .grammar) table) reason c)
+  -- where it stops by syntax, the expected set is what can come after the tokens matched
+  pub stop-hints : r .answer .number ≡ syntax
+      → IsSet (number (r .answer .expected)) (Continues (h .built .grammar) (take (r .answer .place) tokens))
   unfolding ran refusal
-  stop-asks n = go begun
+  stop-hints n = go begun
     where
       go : RunBegins (h .built .grammar) table tokens stack list r
-          → (reason : Reason) × (r .answer .expected ≡ expected (h .built .grammar) table reason)
-          × ((c : Column) → Continues (h .built .grammar) (take (r .answer .place) tokens) (column c) ↔ Wanted (cellOf (h .built .grammar) table) reason c)
+          → IsSet (number (r .answer .expected)) (Continues (h .built .grammar) (take (r .answer .place) tokens))
       go (stackless e a b c) = absurd (omega (arith, ap (λ (x : Answer). x .number) a))
       go (begins k e) =
-          let (reason, s, why, stopped-at, place, set) = told-reason (ends-told e) n in (
-            reason,
-            set,
-            λ c. subst (λ (k : ℕ). Continues (h .built .grammar) (take k tokens) (column c) ↔ Wanted (cellOf (h .built .grammar) table) reason c) (sym place)
-                (run-plain-next (premises-exact h) (serves-well-formed (h .built .serves)) (h .built .serves .useful .useful) plain (counted stack) (counted list) tokens stopped-at why c),
-          )
+          let (reason, s, why, stopped-at, place, set) = told-reason (ends-told e) n in
+          let well = serves-well-formed (h .built .serves) in
+          let useful = h .built .serves .useful .useful in
+          subst₂ (λ (x : Set) (k : ℕ). IsSet (number x) (Continues (h .built .grammar) (take k tokens))) (sym set) (sym place)
+          (hint-is (serves-limits (h .built .serves) .tokens-fit) well table (take (s .matched) tokens) why
+          (run-plain-next (premises-exact h) well useful plain (counted stack) (counted list) tokens stopped-at why)
+          (run-next-some (premises-exact h) well useful (counted stack) (counted list) tokens stopped-at why))
 
 -- with a list cell for each token and 1 + 15 stack cells a token no run is refused for room
 barred-roomy : {g : Grammar} {table tokens stack : List ℕ} {a : Answer} → 1 ≤ length stack → Barred g table tokens stack a → a .number ≢ room

@@ -1,29 +1,28 @@
 -- What the plain profile promises, one page: each theorem under the sentence that it proves. Request W14.
-use mathlib.Core.Path.{_≡_, refl, subst}
+use mathlib.Core.Path.{_≡_, refl, ap, subst}
 use mathlib.Core.Logic.{_↔_, _≢_}
 use mathlib.Core.List.{List}
 use Prim.Native.Nat.{ℕ, _+_, _*_, _≤_}
 use native.Mathlib.Omega.{arith}
 use lib.ListN.{length, take}
-use Rattle.grammar.specs.Grammar.{Grammar, Column, column}
+use Rattle.grammar.specs.Grammar.{Grammar}
 use Rattle.grammar.specs.Machine.{Continues}
 use Rattle.grammar.specs.Plain.{Plain}
 use Rattle.grammar.proofs.Theorems.{plain-no-conflict}
+use Rattle.sets.specs.Calls.{number}
 use Rattle.answers.specs.declared.Answer.{Answer}
 use Rattle.answers.specs.Answers.{done, refusal}
 use Rattle.answers.specs.Buffers.{over}
 use Rattle.answers.specs.Refusals.{room, conflict, syntax}
 use Rattle.book.specs.Judging.{Serves}
 use Rattle.book.proofs.Promise.{refuses-number, refuses-not-serves, serves-unique}
-use Rattle.follow.specs.Calls.{SetsRoom, no-first, no-follow}
+use Rattle.first.specs.Numbers.{IsSet}
+use Rattle.follow.specs.Calls.{SetsFit, no-first, no-follow}
 use Rattle.table.specs.Calls.{BuildOutcome}
 use Rattle.table.specs.Calls as calls
-use Rattle.table.specs.Table.{FirstConflict, BuiltWithoutConflict, cellOf}
+use Rattle.table.specs.Table.{size, FirstConflict, BuiltWithoutConflict}
 use Rattle.table.proofs.Promise.{first-is-conflict}
 use Rattle.machine.specs.Machine.{final}
-use Rattle.machine.specs.declared.Reason.{Reason}
-use Rattle.machine.proofs.Promise.{Wanted}
-use Rattle.offer.specs.Stops.{expected}
 use Rattle.offer.specs.Strings.{ran}
 use Rattle.run.specs.Running.{RunOutcome}
 use Rattle.run.proofs.Promise.{Result}
@@ -33,7 +32,7 @@ use Rattle.profile.specs.Plain.{PlainOutcome, PlainRunOutcome, refused, 
 use Rattle.profile.specs.Plain as plain
 use Rattle.profile.proofs.Unique as unique
 use Rattle.profile.proofs.Unique.{break-other, on-built}
-use Rattle.profile.proofs.Runs.{lists-few, stop-asks, plain-run-roomy}
+use Rattle.profile.proofs.Runs.{lists-few, stop-hints, plain-run-roomy}
 -- the books H, I, J and Q, and runs on Q
 pub use Rattle.profile.proofs.Examples.{house-unfit, useless-refused, nested-unfit, plain-book-fits}
 pub use Rattle.profile.proofs.Examples.{plain-example, plain-runs-given}
@@ -108,14 +107,11 @@ module _ {book table tokens stack list : List ℕ} {r : Ran}
     plain-run-few =
         lists-few h p stack list (run-begins book table tokens stack list r (plain-run-is-run outcome (h .built) p) h)
 
-    -- where it stops by syntax, the reason of the expected set asks for just what can come after the tokens matched
+    -- where it stops by syntax, the expected set is just what can come after the tokens matched
     pub plain-run-hints : r .answer .number ≡ syntax
-        → (reason : Reason) × (r .answer .expected ≡ expected (h .built .grammar) table reason)
-        × ((c : Column)
-        → Continues (h .built .grammar) (take (r .answer .place) tokens) (column c)
-        ↔ Wanted (cellOf (h .built .grammar) table) reason c)
+        → IsSet (number (r .answer .expected)) (Continues (h .built .grammar) (take (r .answer .place) tokens))
     plain-run-hints =
-        stop-asks h p stack list (run-begins book table tokens stack list r (plain-run-is-run outcome (h .built) p) h)
+        stop-hints h p stack list (run-begins book table tokens stack list r (plain-run-is-run outcome (h .built) p) h)
 
 -- building such a book is never refused for a conflict
 pub plain-never-conflicts : {book first follow table : List ℕ} {a : Answer} {f w t : List ℕ} {g : Grammar}
@@ -131,3 +127,24 @@ plain-never-conflicts (calls.no-table t h k) s p e = omega arith
 plain-never-conflicts {g = g} (calls.conflict {i = i} {p = m} {q = n} t h k first) s p e =
     plain-no-conflict p (first-is-conflict (subst (λ (x : Grammar). FirstConflict x i m n) (serves-unique t s) first))
 plain-never-conflicts (calls.served t h k x y z) s p e = omega arith
+
+-- and with room for the sets and the table it is done
+pub plain-builds : {book first follow table : List ℕ} {a : Answer} {f w t : List ℕ} {g : Grammar}
+    → BuildOutcome book first follow table a f w t
+    → Serves book g
+    → Plain g
+    → SetsFit g first follow
+    → size g ≤ length table
+    → a ≡ done 0
+plain-builds (calls.refused r) s p fit roomy = absurd (refuses-not-serves r s)
+plain-builds (calls.no-room t (no-first h)) s p fit roomy =
+    absurd (omega (arith, fit .first-fits, ap (λ (x : Grammar). x .nonterminals) (serves-unique t s)))
+plain-builds (calls.no-room t (no-follow h k)) s p fit roomy =
+    absurd (omega (arith, fit .follow-fits, ap (λ (x : Grammar). x .nonterminals) (serves-unique t s)))
+plain-builds (calls.no-table t h k) s p fit roomy =
+    absurd (omega (arith, ap (λ (x : Grammar). size x) (serves-unique t s)))
+plain-builds {g = g} (calls.conflict {i = i} {p = m} {q = n} t h k first) s p fit roomy =
+    absurd
+    (plain-no-conflict p
+    (first-is-conflict (subst (λ (x : Grammar). FirstConflict x i m n) (serves-unique t s) first)))
+plain-builds (calls.served t h k x y z) s p fit roomy = refl

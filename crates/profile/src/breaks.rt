@@ -38,8 +38,7 @@ fn shares(lefts: &[u8], heads: &[u8], p: u8) -> bool
     false
 }
 
-// Whether production p breaks the profile, where no lower one does. Of an empty right side the byte behind is not looked
-// at.
+// Whether production p breaks the profile, where no lower one does. Of an empty right side no byte is looked at.
 fn breaks(lefts: &[u8], lengths: &[u8], heads: &[u8], p: u8) -> bool
     ensures { λ r. ⌜ BreaksAt (now (lefts .entry)) (now (lengths .entry)) (now (heads .entry)) p r ⌝ }
 {

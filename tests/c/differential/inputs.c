@@ -6,7 +6,7 @@
 
 struct inputs in;
 
-static void write_book(const struct shape *shape)
+void write_book(const struct shape *shape)
 {
     const uint8_t header[] = { 'G', 'R', (uint8_t)shape->terminals, (uint8_t)shape->nonterminals,
                                (uint8_t)shape->start, (uint8_t)shape->productions };

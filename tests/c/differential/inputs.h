@@ -20,6 +20,9 @@ extern struct inputs in;
 /* How long derivations and runs mostly are. */
 enum { FEW_STEPS = 1500 };
 
+/* Writes a grammar as the case's book. */
+void write_book(const struct shape *shape);
+
 /* Makes a grammar and its book, with no table and no string yet. */
 void make_book(void);
 

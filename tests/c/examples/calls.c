@@ -131,6 +131,50 @@ void check_table(const char *name, struct slice book, struct slice table, struct
     try_answers(check_table_once, &c);
 }
 
+static void plain_once(const void *judge_case, size_t answer_size)
+{
+    const struct judge_case *c = judge_case;
+    struct lent answer = lend_bytes(answer_size);
+    bool served = want_served(&answer, &c->wanted);
+    uint32_t number = desk_plain(lay_slice(BOOK_SLOT, c->book), c->book.length, lent_bytes(&answer), answer_size);
+    check_number(c->name, "plain number", number, served, &c->wanted);
+    check_slice(c->name, "plain book", BOOK_SLOT, c->book);
+    check_buffer(c->name, "plain answer", &answer);
+}
+
+void check_plain(const char *name, struct slice book, struct wanted wanted)
+{
+    try_answers(plain_once, &(struct judge_case){ name, book, wanted });
+}
+
+static void plain_run_once(const void *plain_run_case, size_t answer_size)
+{
+    const struct plain_run_case *c = plain_run_case;
+    struct lent stack = lend_bytes(c->stack), list = lend_bytes(c->list), answer = lend_bytes(answer_size);
+    bool served = want_served(&answer, &c->wanted);
+    if (served) {
+        want_depth(&answer, c->depth);
+        want_prefix(&list, c->listed);
+    }
+    if (served && c->depth > 0)
+        want_zeros(&stack);
+    uint32_t number = desk_plain_run(lay_slice(BOOK_SLOT, c->book), c->book.length,
+                                     lay_slice(STRING_SLOT, c->tokens), c->tokens.length,
+                                     lent_bytes(&stack), c->stack, lent_bytes(&list), c->list,
+                                     lent_bytes(&answer), answer_size);
+    check_number(c->name, "plain run number", number, served, &c->wanted);
+    check_slice(c->name, "plain run book", BOOK_SLOT, c->book);
+    check_slice(c->name, "plain run tokens", STRING_SLOT, c->tokens);
+    check_buffer(c->name, "plain run stack", &stack);
+    check_buffer(c->name, "plain run list", &list);
+    check_buffer(c->name, "plain run answer", &answer);
+}
+
+void check_plain_run(const struct plain_run_case *c)
+{
+    try_answers(plain_run_once, c);
+}
+
 static void want_sets(const struct grammar *grammar, const struct lent *first, const struct lent *follow)
 {
     want_words(first, grammar->first, nonterminals_of(grammar));

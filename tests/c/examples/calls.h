@@ -41,10 +41,24 @@ struct sets_case {
     struct wanted wanted;
 };
 
+/* A run on a plain book alone. */
+struct plain_run_case {
+    const char *name;
+    struct slice book;
+    struct slice tokens;
+    size_t stack;
+    size_t list;
+    struct wanted wanted;
+    struct slice listed;
+    uint64_t depth;
+};
+
 void check_run(const struct run_case *c);
 void check_expand(const struct expand_case *c);
 void check_judge(const char *name, struct slice book, struct wanted wanted);
 void check_table(const char *name, struct slice book, struct slice table, struct wanted wanted);
+void check_plain(const char *name, struct slice book, struct wanted wanted);
+void check_plain_run(const struct plain_run_case *c);
 void check_sets(const struct sets_case *c);
 void check_build(const struct sets_case *c);
 

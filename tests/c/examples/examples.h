@@ -14,6 +14,7 @@ void check_formula(void);
 void check_all_patterns(void);
 void check_cut_lines(void);
 void check_sheets(void);
+void check_profile(void);
 
 struct grammar;
 

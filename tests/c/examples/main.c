@@ -7,6 +7,7 @@ _Static_assert(DESK_SYMBOL == 5 && DESK_USELESS == 6 && DESK_ROOM == 7 && DESK_C
 _Static_assert(DESK_TABLE == 9 && DESK_TOKEN == 10 && DESK_SYNTAX == 11 && DESK_PRODUCTION == 12, "numbers");
 _Static_assert(DESK_FORM == 13 && DESK_PATTERN == 14 && DESK_NO_TOKEN == 15 && DESK_STATES == 16, "numbers");
 _Static_assert(DESK_DIFFERS == 17, "numbers");
+_Static_assert(DESK_PROFILE == 21, "numbers");
 _Static_assert(DESK_CUT_ROOM_MACHINE == 1 && DESK_CUT_ROOM_TOKENS == 2, "details");
 _Static_assert(DESK_ROOM_STACK == 1 && DESK_ROOM_LIST == 2 && DESK_ROOM_TOKENS == 3, "details");
 _Static_assert(DESK_ROOM_FIRST == 4 && DESK_ROOM_FOLLOW == 5 && DESK_ROOM_TABLE == 6, "details");
@@ -25,5 +26,6 @@ int main(void)
     check_all_patterns();
     check_cut_lines();
     check_sheets();
+    check_profile();
     return report();
 }

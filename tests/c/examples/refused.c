@@ -37,13 +37,16 @@ static const uint8_t backwards[] = {
     'P', 'R', 3, 1, N(2),
 };
 
-/* Checks that all seven functions refuse a book alike, whatever else is wrong, and change nothing but the answer. */
+/* Checks that all nine functions on books refuse one alike, whatever else is wrong, and change nothing but the answer. */
 static void check_refused(const char *name, struct slice book, uint32_t number, uint64_t place)
 {
     struct wanted wanted = { number, place, 0, 0, 0 };
     struct grammar bad = { .name = name, .book = book, .table = BYTES(254) };
     struct grammar bare = { .name = name, .book = book };
     check_judge(name, book, wanted);
+    check_plain(name, book, wanted);
+    check_plain_run(&(struct plain_run_case){ name, book, BYTES(254), 5, 5, wanted, NONE, 0 });
+    check_plain_run(&(struct plain_run_case){ name, book, NONE, 0, 0, wanted, NONE, 0 });
     check_run(&(struct run_case){ name, &bad, BYTES(254), 5, 5, wanted, NONE, false });
     check_run(&(struct run_case){ name, &bare, NONE, 0, 0, wanted, NONE, false });
     check_expand(&(struct expand_case){ name, &bad, { zeros, MANY_CELLS }, 5, 5, wanted, NONE, false });
