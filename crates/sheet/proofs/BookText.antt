@@ -2,7 +2,7 @@
 use mathlib.Core.Path.{_≡_, refl, sym, ap, _∙_, subst}
 use mathlib.Core.Bool.{Bool, true, false, cond}
 use mathlib.Core.List.{List, [], _∷_, _++_, append-assoc}
-use Prim.Native.Nat.{ℕ, zero, suc, _+_, _-_, _*_, _≤_, _<_}
+use Prim.Native.Nat.{ℕ, zero, suc, _+_, _-_, _*_, _/_, _%_, _≤_, _<_}
 use native.Mathlib.Omega.{arith}
 use native.Mathlib.Nat.{sub-zero, add-zero, zero-add}
 use borrow.Author.Tests.{lt-ltb, le-ltb}
@@ -10,7 +10,7 @@ use lib.Dec.{ltb}
 use lib.ListN.{length, getD, drop}
 use Rattle.grammar.specs.declared.Symbol.the-variants.{Token, Nonterminal}
 use Rattle.grammar.specs.Grammar.{Form, Production}
-use Rattle.text.specs.Text.{decimal, Put}
+use Rattle.text.specs.Text.{decimal, lastDigits, digit, Put}
 use Rattle.text.proofs.Promise.{put-then, Completes, completes-start, completes-more, completes-all}
 use Rattle.reader.specs.Fields.{symbolOfByte, formIn, leftAt, lengthAt, rightAt, placeAfter}
 use Rattle.reader.proofs.Promise.{form-next, form-past}
@@ -185,3 +185,28 @@ pub book-put : {before one after : List ℕ} {i next count : ℕ} (book : List �
 unfolding bookText
 book-put {one = one} {after = after} {i = i} {next = next} book p same q =
     put-then (headText book) (recordsText book (getD book 5 0) 6) p (subst (λ (n : ℕ). Put one i (recordsText book n 6) after next) same q)
+
+-- numbers of one digit and of two
+pub one-digit : (n : ℕ) → n < 10 → decimal n ≡ (48 + n) ∷ []
+unfolding decimal lastDigits digit
+one-digit n low =
+    let last : n % 10 ≡ n = omega arith in
+    rw (lt-ltb n 10 low, last, lt-ltb n 10 low)
+
+pub two-digits : (n : ℕ) → 10 ≤ n → n < 100 → decimal n ≡ (48 + n / 10) ∷ (48 + n % 10) ∷ []
+unfolding decimal lastDigits digit
+two-digits zero high low = absurd (omega arith)
+two-digits (suc m) high low =
+    let n : ℕ = suc m in
+    let tens : n / 10 < 10 = omega arith in
+    let units : n % 10 < 10 = omega arith in
+    let first : n / 10 % 10 ≡ n / 10 = omega arith in
+    rw (le-ltb n 10 high, lt-ltb (n / 10) 10 tens, first, lt-ltb (n / 10) 10 tens, lt-ltb (n % 10) 10 units)
+
+pub value-put : {before one after : List ℕ} {at i next : ℕ} (n : ℕ)
+    → 10 ≤ n
+    → n < 100
+    → Put before at ((48 + n / 10) ∷ []) one i
+    → Put one i ((48 + n % 10) ∷ []) after next
+    → Put before at (decimal n) after next
+value-put n high low p q = rw (two-digits n high low) (put-then ((48 + n / 10) ∷ []) ((48 + n % 10) ∷ []) p q)

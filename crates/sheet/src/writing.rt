@@ -50,13 +50,27 @@ fn number_of(byte: u8) -> u64
     }
 }
 
+// A number in decimal: most of a sheet's have one digit or two.
+fn put_value(out: &mut [u8], at: usize, n: u64) -> usize
+    ensures { λ r. ⌜ Put (now (out .entry)) at (decimal n) (now (out .exit)) r ⌝ }
+{
+    if n < 10 {
+        put(out, at, b'0' + n as u8)
+    } else if n < 100 {
+        let tens = put(out, at, b'0' + (n / 10) as u8);
+        put(out, tens, b'0' + (n % 10) as u8)
+    } else {
+        decimal(out, at, n)
+    }
+}
+
 // A space, the letter and the number of the symbol that a byte stands for.
 fn put_symbol(out: &mut [u8], at: usize, byte: u8) -> usize
     ensures { λ r. ⌜ Put (now (out .entry)) at (symbolText (symbolOfByte byte)) (now (out .exit)) r ⌝ }
 {
     let spaced = put(out, at, b' ');
     let lettered = put(out, spaced, letter_of(byte));
-    decimal(out, lettered, number_of(byte))
+    put_value(out, lettered, number_of(byte))
 }
 
 // The symbols of the record at a place, so many of them.
@@ -80,7 +94,7 @@ fn put_line(out: &mut [u8], at: usize, book: &[u8], place: usize) -> usize
     ensures { λ r. ⌜ Put (now (out .entry)) at (recordText (now (book .entry)) place) (now (out .exit)) r ⌝ }
 {
     let lettered = put(out, at, b'n');
-    let left = decimal(out, lettered, left_at(book, place) as u64);
+    let left = put_value(out, lettered, left_at(book, place) as u64);
     let spaced = put(out, left, b' ');
     let marked = put(out, spaced, b':');
     let listed = put_right(out, marked, book, place, length_at(book, place));

@@ -11,11 +11,11 @@ put-requires c κs = search needs
 left-at-requires : tie.Need-left-at-requires
 left-at-requires c κs = search needs
 
-cast-decimal : tie.Need-cast-decimal
-cast-decimal c = search needs
+cast-put-value : tie.Need-cast-put-value
+cast-put-value c = search needs
 
-decimal-requires : tie.Need-decimal-requires
-decimal-requires c κs = search needs
+put-value-requires : tie.Need-put-value-requires
+put-value-requires c κs = search needs
 
 put-requires-2 : tie.Need-put-requires-2
 put-requires-2 c κs = search needs
@@ -38,11 +38,11 @@ returns c =
     let at-right = at-put4 .before .before .before .before in
     let at-put3 = at-right .before .before .before .before .before in
     let at-put2 = at-put3 .before .before .before .before in
-    let at-decimal = at-put2 .before .before .before .before in
-    let at-put = at-decimal .before .before .before .before .before in
+    let at-value = at-put2 .before .before .before .before in
+    let at-put = at-value .before .before .before .before .before in
     let args = at-put .before .before .before .before .args in
     line-put (args .book .now) (args .place) (at-put .put .ensures)
-    (rw (at-decimal .before .left-at .ensures) at (at-decimal .decimal .ensures))
+    (rw (at-value .before .left-at .ensures) at (at-value .put-value .ensures))
     (at-put2 .put2 .ensures)
     (at-put3 .put3 .ensures)
     (rw (at-right .before .length-at .ensures) at (at-right .put-right .ensures))
@@ -57,8 +57,8 @@ put-line-spec =
     (tie.spec
     put-requires
     left-at-requires
-    cast-decimal
-    decimal-requires
+    cast-put-value
+    put-value-requires
     put-requires-2
     put-requires-3
     length-at-requires

@@ -17,17 +17,17 @@ put-requires-2 c κs = search needs
 number-of-requires : tie.Need-number-of-requires
 number-of-requires c κs = search needs
 
-decimal-requires : tie.Need-decimal-requires
-decimal-requires c κs = search needs
+put-value-requires : tie.Need-put-value-requires
+put-value-requires c κs = search needs
 
 returns : tie.Need-returns
 returns c =
-    let at-decimal = c .before .before in
-    let at-put2 = at-decimal .before .before .before .before .before in
+    let at-value = c .before .before in
+    let at-put2 = at-value .before .before .before .before .before in
     let at-put = at-put2 .before .before .before .before .before in
     symbol-put (at-put .before .before .before .args .byte) (at-put .put .ensures)
     (rw (at-put2 .before .letter-of .ensures) at (at-put2 .put2 .ensures))
-    (rw (at-decimal .before .number-of .ensures) at (at-decimal .decimal .ensures))
+    (rw (at-value .before .number-of .ensures) at (at-value .put-value .ensures))
 
 same-length : tie.Need-same-length
 same-length c = put-length (returns c)
@@ -40,6 +40,6 @@ put-symbol-spec =
     letter-of-requires
     put-requires-2
     number-of-requires
-    decimal-requires
+    put-value-requires
     same-length
     returns)
