@@ -2,3 +2,12 @@ pub mod Fitting
 pub mod Rowwise
 pub mod Checks
 pub mod Unique
+pub mod Held
+pub mod Told
+pub mod Expected
+pub mod Staged
+pub mod Turning
+pub mod Strings
+pub mod Loop
+pub mod Whole
+pub mod Served
