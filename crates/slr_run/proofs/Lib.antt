@@ -11,3 +11,9 @@ pub mod Strings
 pub mod Loop
 pub mod Whole
 pub mod Served
+pub mod BuiltFits
+pub mod Kept
+pub mod Meets
+pub mod Theorems
+pub mod Examples
+pub mod Promise
