@@ -8,6 +8,7 @@ use Rattle.grammar.specs.Grammar.{Grammar, Useful, WellFormed}
 use Rattle.grammar.specs.House.{house}
 use Rattle.reader.specs.Book.{reads, spells, marked, wanted, records, symbols, symbolOf, ending}
 use Rattle.book.specs.Examples.{houseBook}
+use Rattle.book.specs.Judging.{Serves}
 use Rattle.book.proofs.Promise.{serves-limits, serves-unique, house-serves}
 use Rattle.slr.specs.States.{NumberedStates}
 use Rattle.slr.specs.Actions.{ExactActions}
@@ -47,13 +48,17 @@ left-reads = refl
 left-useful : (A : ℕ) → A < leftGrammar .nonterminals → Useful leftGrammar A
 left-useful = worked-useful leftGrammar 3 leftPaths leftTable left-worked
 
--- the textbook's table is built from its book
+-- the textbook's book serves its grammar
+pub left-serves : Serves leftBook leftGrammar
+left-serves = record { read = left-reads; useful = record { useful = left-useful } }
+
+-- and the textbook's table is built from it
 pub left-built : SlrBuilt leftBook leftTable
 unfolding leftPaths
 left-built =
     record {
       grammar = leftGrammar;
-      serves = record { read = left-reads; useful = record { useful = left-useful } };
+      serves = left-serves;
       paths = leftPaths;
       numbered = left-numbered;
       few = lit≤ tt;

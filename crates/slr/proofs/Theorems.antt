@@ -35,7 +35,8 @@ pub use Rattle.slr.proofs.Example.{slr-example}
 -- the machine with room on small tables, built and not, ends as it should
 pub use Rattle.slr.proofs.Runs.{trials-pass}
 -- what a table built from a book says is exact, and a book has one such table at most; the textbook's book has, and H
-pub use Rattle.slr.proofs.Built.{slr-built-formed, slr-built-exact, slr-built-unique, left-built, house-built}
+pub use Rattle.slr.proofs.Built.{slr-built-formed, slr-built-exact, slr-built-unique}
+pub use Rattle.slr.proofs.Built.{left-serves, left-built, house-built}
 
 module _ {g : Grammar} where
   -- a rightmost derivation's list, read backwards, is the textbook's chain of rightmost steps

@@ -5,3 +5,5 @@ pub mod Stages
 pub mod Deciding
 pub mod Reducing
 pub mod Answering
+pub mod Demands
+pub mod Examples

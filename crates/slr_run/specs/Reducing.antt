@@ -1,10 +1,11 @@
 -- One column offered to a run, and a whole token string, as the code has it: what becomes of counts and buffers.
 -- Document 02, W12. Only contracts inside the crate cite what stands here.
 use mathlib.Core.Path.{_≡_}
+use mathlib.Core.Logic.{_≢_}
 use mathlib.Core.List.{List, [], _∷_}
 use Prim.Native.Nat.{ℕ, _+_, _≤_, _<_, max}
 use lib.ListN.{length, drop, set}
-use Rattle.grammar.specs.Grammar.{Column}
+use Rattle.grammar.specs.Grammar.{Column, endmark}
 use Rattle.grammar.specs.Machine.{front}
 use Rattle.answers.specs.Buffers.{over, counted}
 use Rattle.slr.specs.RoomMachine.{Setting, Progress, SlrOffered, taken, stopped, slrRunFrom, slrRun}
@@ -65,7 +66,7 @@ pub record Kept (at : Stage) (stack₀ list₀ stack list : List ℕ) : Type 0 w
   pub list-length : length list ≡ length list₀
 
 -- a column is offered: whatever string begins with it goes on from here as it went from where the run stood before
-pub record Offered (m : Setting) (rows T column : ℕ) (c : Column) (at₀ : Stage) (stack₀ list₀ : List ℕ)
+pub record Offered (m : Setting) (rows : ℕ) (c : Column) (at₀ : Stage) (stack₀ list₀ : List ℕ)
     (r : Reply) (stack list : List ℕ) : Type 0 where
   pub goes : (w : List ℕ)
       → front w ≡ c
@@ -74,7 +75,7 @@ pub record Offered (m : Setting) (rows T column : ℕ) (c : Column) (at₀ : Sta
   pub listed : stageOf r .listed ≤ counted list
   pub further : at₀ .listed ≤ stageOf r .listed
   pub kept : Kept (stageOf r) stack₀ list₀ stack list
-  pub gains : (at : Stage) → r ≡ Taken at → column < T → at .matched ≡ at₀ .matched + 1
+  pub gains : (at : Stage) → r ≡ Taken at → c ≢ endmark → at .matched ≡ at₀ .matched + 1
   pub few : stageOf r .matched ≤ at₀ .matched + 1
 
 -- the whole string is offered, before the stack is cleared

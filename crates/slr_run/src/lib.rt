@@ -1,5 +1,9 @@
 // Token strings run bottom-up on a book and a table of actions and moves: judged, checked, run, and answered.
+mod answering;
 mod checking;
+mod deciding;
+mod reducing;
+pub mod running;
 
 // The state on top, how many states are held and productions listed, how many tokens are matched, and the most states
 // held at any moment so far.
