@@ -44,12 +44,12 @@ fn reduction(
         × (p < outline .productions) ⌝ }
     ensures { λ r. ⌜ Reduction
         (settingBy
-            outline
-            (now (lefts .entry))
-            (now (lengths .entry))
-            (now (table .entry))
-            (counted (now (stack .entry)))
-            cells)
+        outline
+        (now (lefts .entry))
+        (now (lengths .entry))
+        (now (table .entry))
+        (counted (now (stack .entry)))
+        cells)
         (rowsOf outline (now (table .entry)))
         p
         (at .top)
@@ -92,12 +92,12 @@ pub(crate) fn decide(
         × (column ≤ outline .tokens) ⌝ }
     ensures { λ r. ⌜ Turns
         (settingBy
-            outline
-            (now (lefts .entry))
-            (now (lengths .entry))
-            (now (table .entry))
-            (counted (now (stack .entry)))
-            cells)
+        outline
+        (now (lefts .entry))
+        (now (lengths .entry))
+        (now (table .entry))
+        (counted (now (stack .entry)))
+        cells)
         (rowsOf outline (now (table .entry)))
         (columnAt (outline .tokens) column)
         (at .top)

@@ -73,12 +73,12 @@ pub(crate) fn reduce_all(
         × (at .matched < 2 ^ 63) ⌝ }
     ensures { λ r. ⌜ Offered
         (settingBy
-            outline
-            (now (lefts .entry))
-            (now (lengths .entry))
-            (now (table .entry))
-            (counted (now (stack .entry)))
-            (counted (now (list .entry))))
+        outline
+        (now (lefts .entry))
+        (now (lengths .entry))
+        (now (table .entry))
+        (counted (now (stack .entry)))
+        (counted (now (list .entry))))
         (rowsOf outline (now (table .entry)))
         (columnAt (outline .tokens) column)
         at

@@ -46,12 +46,12 @@ fn run_all(
         × ((i : ℕ) → i < length (now tokens) → getD (now tokens) i 0 < outline .tokens) ⌝ }
     ensures { λ r. ⌜ Ended
         (settingBy
-            outline
-            (now (lefts .entry))
-            (now (lengths .entry))
-            (now (table .entry))
-            (counted (now (stack .entry)))
-            (counted (now (list .entry))))
+        outline
+        (now (lefts .entry))
+        (now (lengths .entry))
+        (now (table .entry))
+        (counted (now (stack .entry)))
+        (counted (now (list .entry))))
         (now (tokens .entry))
         (now (stack .entry))
         (now (list .entry))
@@ -114,13 +114,7 @@ fn run_on(
 }
 
 // A token string run bottom-up on a book and a table of actions and moves.
-pub fn run(
-    book: &[u8],
-    table: &[u16],
-    tokens: &[u8],
-    stack: &mut [u8],
-    list: &mut [u8],
-) -> Answer
+pub fn run(book: &[u8], table: &[u16], tokens: &[u8], stack: &mut [u8], list: &mut [u8]) -> Answer
     ensures { λ r. ⌜ SlrRunOutcome
         (now (book .entry))
         (now (table .entry))
