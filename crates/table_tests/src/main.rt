@@ -1,9 +1,10 @@
 // Works out every book on standard input, each behind its length, low byte first: the answer to building it, its sets,
 // the lookahead of each production and FIRST of its right side, each with how many leading symbols can vanish, and its
-// table.
+// table with the check of it.
 use libc::STDIN_FILENO;
 
 mod books;
+mod checks;
 mod showing;
 
 fn main() {

@@ -1,4 +1,5 @@
-// What this program prints of a book: its sets, lookaheads, beginnings and table.
+// What this program prints of a book: its sets, lookaheads, beginnings, table and the check of it.
+use crate::checks::show_checks;
 use answers::Answer;
 use book::judging::judge;
 use libc::STDOUT_FILENO;
@@ -121,6 +122,17 @@ fn show_rows(cells: &[u8], rows: usize, columns: usize) {
     }
 }
 
+fn show_table_checks(book: &[u8], cells: &mut [u8], rows: usize, columns: usize) {
+    if rows <= 64 {
+        if columns <= 64 {
+            let size = rows * columns;
+            if size <= cells.len() {
+                show_checks(book, &mut cells[..size]);
+            }
+        }
+    }
+}
+
 pub(crate) fn show(book: &[u8]) {
     let mut first = [0u64; 64];
     let mut follow = [0u64; 64];
@@ -139,5 +151,6 @@ pub(crate) fn show(book: &[u8]) {
     }
     if built.number == 0 {
         show_rows(&cells, rows, columns);
+        show_table_checks(book, &mut cells, rows, columns);
     }
 }
