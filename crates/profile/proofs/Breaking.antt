@@ -1,10 +1,9 @@
 -- Whether a production breaks the profile, by the columns of an index, and the profile of a judged book.
-use mathlib.Core.Path.{_≡_, refl, sym, _∙_, subst}
+use mathlib.Core.Path.{_≡_, sym, _∙_, subst}
 use mathlib.Core.Logic.{_≢_}
 use mathlib.Core.Bool.{Bool, true, false}
 use mathlib.Core.List.{List}
-use Prim.Native.Nat.{ℕ, _+_, _≤_, _<_}
-use native.Mathlib.Decide.{decLt}
+use Prim.Native.Nat.{ℕ, _≤_, _<_}
 use native.Mathlib.Omega.{arith}
 use borrow.Author.Tests.{eqb-true, eq-eqb}
 use lib.Dec.{eqb}
@@ -20,12 +19,11 @@ use Rattle.answers.specs.Refusals.{profile}
 use Rattle.answers.specs.declared.Answer.{Answer}
 use Rattle.book.specs.declared.Reading.{Reading}
 use Rattle.book.specs.declared.columns.Outline.{Outline}
-use Rattle.book.specs.Columns.{outlined, outlineIn, grammarIn, Lefts, Lengths, Heads}
-use Rattle.book.specs.Judging.{Serves}
+use Rattle.book.specs.Columns.{outlined, outlineIn}
 use Rattle.book.proofs.Promise.{judged-done, judged-refused, reading-grammar}
 use Rattle.profile.specs.Breaking.{Alike, Shared, BreaksAt, Profiled}
-use Rattle.profile.specs.Plain.{PlainOutcome, refused, unfit, fits}
-use Rattle.profile.proofs.Starts.{leftIn, headIn, rule-inside, bare-breaks, named-breaks, shared-breaks, alone-keeps}
+use Rattle.profile.specs.Plain.{refused, unfit, fits}
+use Rattle.profile.proofs.Starts.{rule-inside, bare-breaks, named-breaks, shared-breaks, alone-keeps}
 
 module _ (lefts heads : List ℕ) (q p : ℕ) {a b : ℕ} (one : a ≡ getD lefts q 0) (other : b ≡ getD lefts p 0) where
   -- the left sides differ, or the first bytes decide

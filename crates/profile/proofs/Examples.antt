@@ -21,7 +21,6 @@ use Rattle.answers.specs.Answers.{done, refusal, stop, atDepth}
 use Rattle.answers.specs.Refusals.{profile, useless}
 use Rattle.reader.specs.Book.{spells, marked, wanted, records, symbols, symbolOf, ending}
 use Rattle.book.specs.Examples.{houseBook, uselessBook}
-use Rattle.book.specs.Judging.{Serves}
 use Rattle.book.proofs.Promise.{house-serves}
 use Rattle.book.proofs.Promise as judging
 use Rattle.table.specs.Examples.{nestedBook, nestedGrammar}
@@ -36,7 +35,7 @@ use Rattle.run.specs.Running.{Admits}
 use Rattle.run.proofs.Promise.{Result}
 use Rattle.demands.specs.Demands.{Premises}
 use Rattle.demands.specs.Examples.{answering}
-use Rattle.demands.proofs.Promise.{Tested, built-tested}
+use Rattle.demands.proofs.Promise.{built-tested}
 use Rattle.profile.specs.Examples.{plainBook, plainTable, PlainRun, Allowed, takenRun, stoppedRun, listlessRun, lowRun}
 use Rattle.profile.specs.Plain.{PlainOutcome, PlainRunOutcome, runs}
 use Rattle.profile.specs.Plain as plain

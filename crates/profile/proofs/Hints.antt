@@ -1,6 +1,5 @@
 -- The expected set of a syntax stop as a number: its members are the columns that the reason asks for.
-use mathlib.Core.Path.{_≡_, refl, sym, _∙_, subst}
-use mathlib.Core.Bool.{true}
+use mathlib.Core.Path.{_≡_, refl, sym, _∙_}
 use mathlib.Core.Logic.{_↔_, _⊎_, inl, inr}
 use mathlib.Core.List.{List, [], _∷_, _++_}
 use mathlib.Core.Option.{Option, some, none}
@@ -11,7 +10,7 @@ use borrow.Author.Tests.{lt-ltb, le-ltb}
 use lib.ListN.{getD}
 use Rattle.grammar.specs.declared.Symbol.the-variants.{Token}
 use Rattle.grammar.specs.Grammar.{Form, spelled, Grammar, Column, token, endmark, Member, column, empty, Every, each, Known, known-token, WellFormed}
-use Rattle.grammar.specs.Machine.{Continues, may-come, may-end}
+use Rattle.grammar.specs.Machine.{Continues, may-come}
 use Rattle.grammar.proofs.Every.{every-left, every-right}
 use Rattle.grammar.proofs.Leftmost.{spelled-append}
 use Rattle.grammar.proofs.Useful.{sentential-known}

@@ -1,13 +1,11 @@
 -- What is at hand on the way to a run on a plain book, and what the run comes to.
-use mathlib.Core.Path.{_≡_, refl, sym, _∙_, ap, subst}
+use mathlib.Core.Path.{_≡_, refl, sym, ap, subst}
 use mathlib.Core.Logic.{_≢_}
 use mathlib.Core.List.{List}
-use Prim.Native.Nat.{ℕ, _+_, _*_, _≤_, _<_}
-use native.Mathlib.Decide.{decLt}
+use Prim.Native.Nat.{ℕ, _+_, _*_, _≤_}
 use native.Mathlib.Omega.{arith}
-use lib.ListN.{length, take}
+use lib.ListN.{take}
 use Rattle.grammar.specs.Grammar.{Grammar}
-use Rattle.grammar.specs.Plain.{Plain}
 use Rattle.grammar.proofs.Theorems.{plain-no-conflict}
 use Rattle.answers.specs.Answers.{done, refusal}
 use Rattle.answers.specs.declared.Answer.{Answer}
@@ -16,9 +14,8 @@ use Rattle.book.specs.declared.columns.Outline.{Outline}
 use Rattle.book.specs.Columns.{outlined, outlineIn, grammarIn}
 use Rattle.book.specs.Judging.{indexOf, Serves, Judged, refuses, serves}
 use Rattle.book.proofs.Promise.{reading-grammar, serves-limits, refuses-number, refuses-not-serves, serves-unique}
-use Rattle.first.specs.Forms.{Given}
 use Rattle.first.proofs.Promise.{given-served}
-use Rattle.table.specs.Table.{size, TableOf, BuiltWithoutConflict}
+use Rattle.table.specs.Table.{TableOf, BuiltWithoutConflict}
 use Rattle.table.specs.Vacancy.{Vacancy}
 use Rattle.table.proofs.Promise.{given-size, taken-vacant, table-fits}
 use Rattle.run.specs.Judged.{RanOn, no-stack, ended, JudgedRun, refused, ran-on}

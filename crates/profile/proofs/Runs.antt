@@ -2,19 +2,18 @@
 use mathlib.Core.Path.{_≡_, refl, sym, ap, subst, subst₂}
 use mathlib.Core.Logic.{_≢_}
 use mathlib.Core.List.{List}
-use Prim.Native.Nat.{ℕ, _+_, _*_, _≤_, _<_}
+use Prim.Native.Nat.{ℕ, _+_, _*_, _≤_}
 use native.Mathlib.Omega.{arith}
 use lib.ListN.{length, take}
 use Rattle.grammar.specs.Grammar.{Form, Grammar, Rule}
 use Rattle.grammar.specs.Machine.{Continues}
-use Rattle.grammar.specs.Plain.{Plain, LowestBreak}
+use Rattle.grammar.specs.Plain.{Plain}
 use Rattle.sets.specs.Calls.{number}
 use Rattle.sets.specs.declared.Set.{Set}
 use Rattle.answers.specs.declared.Answer.{Answer}
 use Rattle.answers.specs.Answers.{done, refusal, stop, atDepth}
 use Rattle.answers.specs.Buffers.{over, counted}
 use Rattle.answers.specs.Refusals.{room, syntax}
-use Rattle.book.specs.Judging.{Serves}
 use Rattle.book.proofs.Promise.{serves-limits, serves-well-formed, serves-unique, refuses-number}
 use Rattle.first.specs.Numbers.{IsSet}
 use Rattle.table.specs.Table.{BuiltWithoutConflict}
@@ -23,7 +22,7 @@ use Rattle.machine.specs.Machine.{State, Offered, stopped, final}
 use Rattle.machine.specs.declared.Reason.{Reason}
 use Rattle.machine.specs.Stopping.{Syntax, Decided}
 use Rattle.machine.proofs.Promise.{run-plain-few, run-plain-enough, run-plain-next, run-next-some}
-use Rattle.offer.specs.Stops.{expected, answered, runAnswer}
+use Rattle.offer.specs.Stops.{expected, runAnswer}
 use Rattle.offer.specs.Strings.{ran}
 use Rattle.offer.proofs.Promise.{Told, told, served, short-of-list, short-of-stack, blocked, told-room}
 use Rattle.run.specs.Running.{Admits, Barred, RunOutcome}

@@ -1,5 +1,5 @@
 -- Any two outcomes that the promises of the crate allow of the same inputs are equal, the answer and every buffer.
-use mathlib.Core.Path.{_≡_, refl, sym, subst}
+use mathlib.Core.Path.{_≡_, refl, subst}
 use mathlib.Core.List.{List}
 use Prim.Native.Nat.{ℕ}
 use Rattle.grammar.specs.Grammar.{Grammar}
