@@ -21,6 +21,7 @@ use Rattle.follow.specs.Calls.{SetsOutcome, LookaheadOutcome}
 use Rattle.table.specs.Calls.{BuildOutcome}
 use Rattle.run.specs.Running.{RunOutcome}
 use Rattle.expand.specs.Expanding.{ExpandOutcome}
+use Rattle.slr_run.specs.Running.{SlrRunOutcome}
 
 -- a number in so many bytes, the lowest first
 unfoldable pub littleEndian : ℕ → ℕ → List ℕ
@@ -145,3 +146,11 @@ pub record FirstCall (book symbols cells counts answer
       Called {Buffers = List ℕ × List ℕ} (LentCell cells counts answer)
       (λ a after. SetOutcome (FirstOutcome book symbols) cells counts a (after .0) (after .1)) (cells, counts) answer
       number (cells′, counts′) answer′
+
+-- a token string run bottom-up on a book and a table of actions and moves
+pub record SlrRunCall (book table tokens stack list answer
+    : List ℕ) (number : ℕ) (stack′ list′ answer′ : List ℕ) : Type 0 where
+  pub call :
+      Called {Buffers = List ℕ × List ℕ} (Lent answer)
+      (λ a after. SlrRunOutcome book table tokens stack list a (after .0) (after .1)) (stack, list) answer number
+      (stack′, list′) answer′

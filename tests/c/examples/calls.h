@@ -3,7 +3,7 @@
 
 #include "books.h"
 
-/* Calls of the seven functions, each checked whole: the number, every byte of every lent buffer with its guards, and
+/* Calls of the functions, each checked whole: the number, every byte of every lent buffer with its guards, and
    the inputs, which stay as they were. Every call is made with answer buffers that are short, exact and longer, and
    with empty slices as pointers and as null. */
 
@@ -41,7 +41,22 @@ struct sets_case {
     struct wanted wanted;
 };
 
+/* A bottom-up run on a table of actions and moves, of so many cells; otherwise as a run. */
+struct slr_case {
+    const char *name;
+    struct slice book;
+    const uint16_t *table;
+    size_t cells;
+    struct slice tokens;
+    size_t stack;
+    size_t list;
+    struct wanted wanted;
+    struct slice listed;
+    uint64_t depth;
+};
+
 void check_run(const struct run_case *c);
+void check_slr_run(const struct slr_case *c);
 void check_expand(const struct expand_case *c);
 void check_judge(const char *name, struct slice book, struct wanted wanted);
 void check_sets(const struct sets_case *c);
