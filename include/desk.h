@@ -70,6 +70,12 @@ extern "C" {
 /* In a cell of a machine: no next state, or no token. */
 #define DESK_CUT_NONE 65535
 
+/* In a cell of a table of actions and moves: DESK_SLR_REDUCE + p reduces by production p. */
+#define DESK_MOST_SLR_CELLS 48896
+#define DESK_SLR_REDUCE 512
+#define DESK_SLR_ACCEPT 1023
+#define DESK_SLR_NONE 65535
+
 #define DESK_END_MARK (UINT64_C(1) << 62)
 #define DESK_EMPTY_STRING (UINT64_C(1) << 63)
 
@@ -154,6 +160,44 @@ enum {
 uint32_t desk_run(const uint8_t *book, size_t book_len, const uint8_t *table, size_t table_len,
                   const uint8_t *tokens, size_t tokens_len, uint8_t *stack, size_t stack_len,
                   uint8_t *list, size_t list_len, uint8_t *answer, size_t answer_len);
+
+/* Runs a token string bottom-up over a table of actions and moves of the book; so books that repeat to the left can be
+   served. `table` is aligned as uint16_t is. It has a row for each state, at most 256, and a row has T+1+N cells: token t
+   is column t, the end mark column T, nonterminal A column T+1+A; the cell of a state and a column is
+   state x (T+1+N) + column. Under a token a cell holds a state to shift to, or DESK_SLR_REDUCE + p; at the end mark
+   DESK_SLR_REDUCE + p, or DESK_SLR_ACCEPT; under a nonterminal the state that it moves to; DESK_SLR_NONE where there is
+   nothing.
+
+   Refusals, in this order; up to and including the last of this list nothing but the answer changes:
+     the refusals of desk_judge;
+     DESK_TABLE   the cells are no whole number of rows, no row, or more than 256: place is the length in cells; or a cell
+                  holds none of the above (a state that is no row, a production that is none of the book's, or something
+                  of another kind of column): place is the first such cell;
+     DESK_LIMIT   more than 4,096 tokens: place 4,096;
+     DESK_TOKEN   a token is T or above, wherever it stands: place is the index of the first one;
+     DESK_ROOM    the stack has no cell: detail DESK_ROOM_STACK, place 0.
+
+   Then state 0 is put on the stack, a byte for each state held, and steps begin. The state on top and the column of the
+   next token (the end mark if none is left) give a cell. Shift matches the token and pushes the state. A reduction by p
+   lists p, pops as many states as p's right side has symbols, and pushes the state that the one uncovered has under p's
+   left side. Accept ends the run, and is no step. In steps, place is the number of tokens matched:
+     DESK_SYNTAX  the cell is DESK_SLR_NONE; or a reduction would leave no state, or the state uncovered has no move:
+                  expected set is the filled token columns of the state on top, and the end mark if that column is filled;
+     DESK_ROOM    a reduction and the list is full: detail DESK_ROOM_LIST; else no stack cell is left for the state to be
+                  pushed: detail DESK_ROOM_STACK.
+
+   steps is always productions listed + tokens matched. Done, the list read backwards is a rightmost derivation of the
+   tokens if the table is built from the book without conflict, and then the only one; it is no list for desk_expand,
+   which takes leftmost ones. Once steps have begun, every cell of the stack is 0 after the call, listed cells stay, and
+   list cells beyond them are unchanged.
+
+   Room: at most 65,535 cells of the stack and of the list count, so 65,535 of each is as good as any. depth is the most
+   states held at any moment, state 0 counted.
+
+   Any table that passes DESK_TABLE is run, whoever made it. Every reduction takes a list cell, so that the call ends. */
+uint32_t desk_slr_run(const uint8_t *book, size_t book_len, const uint16_t *table, size_t table_len,
+                      const uint8_t *tokens, size_t tokens_len, uint8_t *stack, size_t stack_len,
+                      uint8_t *list, size_t list_len, uint8_t *answer, size_t answer_len);
 
 /* Expands a list of productions, taken as a leftmost derivation from the start symbol, into the tokens it derives.
 

@@ -5,7 +5,7 @@ BISON ?= $(shell command -v bison)
 C_OUT := target/c
 C_FLAGS := -std=c11 -O2 -Wall -Wextra -Wpedantic -Iinclude -Itests/c -Ibench
 C_EXAMPLES := tests/c/lent.c $(addprefix tests/c/examples/,main.c check.c books.c calls.c refused.c sets.c checks.c \
-              runs.c expansions.c rooms.c trees.c formula.c patterns.c cuts.c machines.c sheets.c profile.c)
+              runs.c slr.c expansions.c rooms.c trees.c formula.c patterns.c cuts.c machines.c sheets.c profile.c)
 C_DIFFERENTIAL := tests/c/lent.c tests/c/plain.c tests/c/cases.c $(addprefix tests/c/differential/,pick.c shape.c \
                   inputs.c strings.c needs.c compare.c laws.c depths.c counts.c)
 C_LINES := tests/c/lent.c tests/c/plain_lines.c tests/c/cases.c tests/c/differential/pick.c $(addprefix tests/c/lines/,\

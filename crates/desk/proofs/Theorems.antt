@@ -32,6 +32,9 @@ use Rattle.run.specs.Running.{RunOutcome}
 use Rattle.run.proofs.Promise.{run-outcome-unique}
 use Rattle.expand.specs.Expanding.{ExpandOutcome}
 use Rattle.expand.proofs.Promise.{expand-outcome-unique}
+use Rattle.slr_run.specs.Running.{SlrRunOutcome}
+use Rattle.slr_run.specs.Demands.{SlrMeets3}
+use Rattle.slr_run.proofs.Promise.{slr-run-outcome-unique, slr-run-meets3}
 use Rattle.sheet.specs.Calls.{WriteOutcome, ReadOutcome}
 use Rattle.demands.specs.Depth.{RunDepth, ExpandDepth}
 use Rattle.demands.specs.Formula.{RunWithinFormula}
@@ -43,7 +46,7 @@ use Rattle.demands.proofs.Promise.{run-depth-exactly, run-depth-least, run-dept
 use Rattle.demands.proofs.Promise.{expand-depth-exactly, expand-depth-least, expand-depth-enough}
 use Rattle.desk.specs.Desk.{littleEndian, answerBytes, answerSize, Lent, LentCell, JudgeOutcome, SetOutcome}
 use Rattle.desk.specs.Desk.{JudgeCall, PatternsCall, CutCall, CutWithCall, SetsCall, BuildCall, RunCall}
-use Rattle.desk.specs.Desk.{ExpandCall, LookaheadCall, FirstCall, WriteSheetCall, ReadSheetCall}
+use Rattle.desk.specs.Desk.{ExpandCall, LookaheadCall, FirstCall, WriteSheetCall, ReadSheetCall, SlrRunCall}
 use Rattle.desk.specs.Demands.{answerFrom}
 use Rattle.desk.proofs.Calls.{called-answer, called-unique, two-unique, three-unique, judge-outcome-unique}
 use Rattle.desk.specs.Desk.{Called, CheckCall, short, answered}
@@ -529,3 +532,31 @@ module _ {answer buffer : List ℕ} (lent : Lent answer) (given : Lent buffer) (
 pub answer-size : answerSize ≡ 40
 unfolding answerSize answerBytes littleEndian
 answer-size = refl
+
+-- a bottom-up run allows one outcome
+pub slr-run-call-unique : (book table tokens stack list answer : List ℕ) {n m : ℕ} {s t l k x y : List ℕ}
+    → SlrRunCall book table tokens stack list answer n s l x
+    → SlrRunCall book table tokens stack list answer m t k y
+    → (n ≡ m) × (s ≡ t) × (l ≡ k) × (x ≡ y)
+slr-run-call-unique book table tokens stack list answer c d =
+    two-unique (SlrRunOutcome book table tokens stack list)
+    (λ r q o p. slr-run-outcome-unique book table tokens stack list o p) (c .call) (d .call)
+
+-- and meets demand 3, its answer read back from the number returned and the words written
+pub desk-slr-run-meets3 : {answer : List ℕ}
+    → Lent answer
+    → {book table tokens stack list : List ℕ} {n : ℕ} {s l x : List ℕ}
+    → SlrRunCall book table tokens stack list answer n s l x
+    → SlrMeets3 book table tokens stack list (record { answer = answerFrom n x; stack = s; list = l })
+desk-slr-run-meets3 lent {book} {table} {tokens} {stack} {list} {n} {s} {l} c =
+    let told = called-answer lent (c .call) in
+    let read = answer-read told in
+    let meets =
+    slr-run-meets3 book table tokens stack list (record { answer = told .told; stack = s; list = l })
+    (told .outcome) in
+    record {
+      accepts = λ h m. meets .accepts h (sym (read .number) ∙ m);
+      only-one = meets .only-one;
+      served-or-room = λ h {ps} d. rw (read .number) (meets .served-or-room h d);
+      room-iff = λ h {ps} d. rw (read .number) (meets .room-iff h d);
+    }

@@ -22,6 +22,7 @@ use Rattle.table.specs.Calls.{BuildOutcome}
 use Rattle.checker.specs.Calls.{CheckOutcome}
 use Rattle.run.specs.Running.{RunOutcome}
 use Rattle.expand.specs.Expanding.{ExpandOutcome}
+use Rattle.slr_run.specs.Running.{SlrRunOutcome}
 use Rattle.sheet.specs.Calls.{WriteOutcome, ReadOutcome}
 
 -- a number in so many bytes, the lowest first
@@ -162,3 +163,11 @@ pub record WriteSheetCall (book sheet answer : List ℕ) (number : ℕ) (sheet�
 pub record ReadSheetCall (sheet book answer : List ℕ) (number : ℕ) (book′ answer′ : List ℕ) : Type 0 where
   pub call :
       Called {Buffers = List ℕ} (Lent answer) (ReadOutcome sheet book) book answer number book′ answer′
+
+-- a token string run bottom-up on a book and a table of actions and moves
+pub record SlrRunCall (book table tokens stack list answer
+    : List ℕ) (number : ℕ) (stack′ list′ answer′ : List ℕ) : Type 0 where
+  pub call :
+      Called {Buffers = List ℕ × List ℕ} (Lent answer)
+      (λ a after. SlrRunOutcome book table tokens stack list a (after .0) (after .1)) (stack, list) answer number
+      (stack′, list′) answer′

@@ -2,7 +2,7 @@
 // lent buffer; where that is too short, or the buffer for a set or for a number has no cell, the answer is 7 before all
 // else, and nothing changes.
 ghost use Rattle.desk.specs.Desk.{JudgeCall, SetsCall, BuildCall, RunCall, ExpandCall, LookaheadCall, FirstCall};
-ghost use Rattle.desk.specs.Desk.{PatternsCall, CutCall, CutWithCall, CheckCall};
+ghost use Rattle.desk.specs.Desk.{PatternsCall, CutCall, CutWithCall, CheckCall, SlrRunCall};
 ghost use Rattle.desk.specs.Plain.{PlainCall, PlainRunCall};
 use crate::words::ANSWER_SIZE;
 use crate::words::write_answer;
@@ -334,4 +334,34 @@ pub extern "C" fn desk_first_of(
     count[0] = leading;
     write_answer(answer, begun);
     begun.number
+}
+
+// A token string run bottom-up on a book and a table of actions and moves.
+#[no_mangle]
+pub extern "C" fn desk_slr_run(
+    book: &[u8],
+    table: &[u16],
+    tokens: &[u8],
+    stack: &mut [u8],
+    list: &mut [u8],
+    answer: &mut [u8],
+) -> u32
+    ensures { λ r. ⌜ SlrRunCall
+        (now (book .entry))
+        (now (table .entry))
+        (now (tokens .entry))
+        (now (stack .entry))
+        (now (list .entry))
+        (now (answer .entry))
+        r
+        (now (stack .exit))
+        (now (list .exit))
+        (now (answer .exit)) ⌝ }
+{
+    if answer.len() < ANSWER_SIZE {
+        return ROOM;
+    }
+    let reduced = slr_run::running::run(book, table, tokens, stack, list);
+    write_answer(answer, reduced);
+    reduced.number
 }

@@ -54,6 +54,37 @@ void check_run(const struct run_case *c)
     try_answers(run_once, c);
 }
 
+static void slr_once(const void *slr_case, size_t answer_size)
+{
+    const struct slr_case *c = slr_case;
+    struct slice table = { (const uint8_t *)c->table, c->cells * sizeof *c->table };
+    struct lent stack = lend_bytes(c->stack), list = lend_bytes(c->list), answer = lend_bytes(answer_size);
+    bool served = want_served(&answer, &c->wanted);
+    if (served) {
+        want_depth(&answer, c->depth);
+        want_prefix(&list, c->listed);
+    }
+    if (served && c->depth > 0)
+        want_zeros(&stack);
+    uint32_t number = desk_slr_run(lay_slice(BOOK_SLOT, c->book), c->book.length,
+                                   (const uint16_t *)(const void *)lay_slice(TABLE_SLOT, table), c->cells,
+                                   lay_slice(STRING_SLOT, c->tokens), c->tokens.length,
+                                   lent_bytes(&stack), c->stack, lent_bytes(&list), c->list,
+                                   lent_bytes(&answer), answer_size);
+    check_number(c->name, "bottom-up number", number, served, &c->wanted);
+    check_slice(c->name, "bottom-up book", BOOK_SLOT, c->book);
+    check_slice(c->name, "bottom-up table", TABLE_SLOT, table);
+    check_slice(c->name, "bottom-up tokens", STRING_SLOT, c->tokens);
+    check_buffer(c->name, "bottom-up stack", &stack);
+    check_buffer(c->name, "bottom-up list", &list);
+    check_buffer(c->name, "bottom-up answer", &answer);
+}
+
+void check_slr_run(const struct slr_case *c)
+{
+    try_answers(slr_once, c);
+}
+
 static void expand_once(const void *expand_case, size_t answer_size)
 {
     const struct expand_case *c = expand_case;

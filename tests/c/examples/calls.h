@@ -3,9 +3,9 @@
 
 #include "books.h"
 
-/* Calls of the eight functions on books, each checked whole: the number, every byte of every lent buffer with its
-   guards, and the inputs, which stay as they were. Every call is made with answer buffers that are short, exact and
-   longer, and with empty slices as pointers and as null. */
+/* Calls of the functions, each checked whole: the number, every byte of every lent buffer with its guards, and
+   the inputs, which stay as they were. Every call is made with answer buffers that are short, exact and longer, and
+   with empty slices as pointers and as null. */
 
 /* A run with the rooms it is lent, the answer, what the list begins with afterwards, and the depth: 0 where steps did
    not begin, and then the stack stays as it was. */
@@ -53,7 +53,22 @@ struct plain_run_case {
     uint64_t depth;
 };
 
+/* A bottom-up run on a table of actions and moves, of so many cells; otherwise as a run. */
+struct slr_case {
+    const char *name;
+    struct slice book;
+    const uint16_t *table;
+    size_t cells;
+    struct slice tokens;
+    size_t stack;
+    size_t list;
+    struct wanted wanted;
+    struct slice listed;
+    uint64_t depth;
+};
+
 void check_run(const struct run_case *c);
+void check_slr_run(const struct slr_case *c);
 void check_expand(const struct expand_case *c);
 void check_judge(const char *name, struct slice book, struct wanted wanted);
 void check_table(const char *name, struct slice book, struct slice table, struct wanted wanted);

@@ -7,6 +7,7 @@ void check_refused_books(void);
 void check_sets_and_tables(void);
 void check_tables(void);
 void check_runs(void);
+void check_slr_runs(void);
 void check_expansions(void);
 void check_rooms(void);
 void check_trees(void);

@@ -13,12 +13,16 @@ _Static_assert(DESK_ROOM_STACK == 1 && DESK_ROOM_LIST == 2 && DESK_ROOM_TOKENS =
 _Static_assert(DESK_ROOM_FIRST == 4 && DESK_ROOM_FOLLOW == 5 && DESK_ROOM_TABLE == 6, "details");
 _Static_assert(DESK_ANSWER_SIZE == 40 && DESK_MOST_CELLS == 65535 && DESK_MOST_TOKENS == 4096, "sizes");
 
+_Static_assert(DESK_SLR_REDUCE == 512 && DESK_SLR_ACCEPT == 1023 && DESK_SLR_NONE == 65535, "cells");
+_Static_assert(DESK_MOST_SLR_CELLS == 256 * (126 + 1 + 64), "cells");
+
 int main(void)
 {
     check_refused_books();
     check_sets_and_tables();
     check_tables();
     check_runs();
+    check_slr_runs();
     check_expansions();
     check_rooms();
     check_trees();
