@@ -1,6 +1,6 @@
 // The functions that C programs call. The number is returned, and place, detail, steps and expected set go into a lent
-// buffer; where that is too short, or the buffer for a set or for a number has no cell, the answer is 7 before all else,
-// and nothing changes.
+// buffer; where that is too short, or a buffer for a set or a number has no cell, the answer is 7 before all else, and
+// nothing changes.
 ghost use Rattle.desk.specs.Desk.{JudgeCall, SetsCall, BuildCall, RunCall, ExpandCall, LookaheadCall, FirstCall};
 ghost use Rattle.desk.specs.Desk.{PatternsCall, CutCall, CutWithCall};
 use crate::words::ANSWER_SIZE;
@@ -246,7 +246,7 @@ pub extern "C" fn desk_lookahead(
     looked.number
 }
 
-// FIRST of a symbol string, and how many of its leading symbols can vanish, each into the first cell of its lent buffer.
+// FIRST of a symbol string, and how many of its leading symbols can vanish, each into the first cell of its buffer.
 #[no_mangle]
 pub extern "C" fn desk_first_of(
     book: &[u8],
