@@ -303,7 +303,7 @@ pub extern "C" fn desk_lookahead(
     looked.number
 }
 
-// FIRST of a symbol string, and how many of its leading symbols can vanish, each into the first cell of its lent buffer.
+// FIRST of a symbol string, and how many of its leading symbols can vanish, each into the first cell of its buffer.
 #[no_mangle]
 pub extern "C" fn desk_first_of(
     book: &[u8],
