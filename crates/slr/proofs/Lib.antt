@@ -24,3 +24,4 @@ pub mod House
 pub mod Runs
 pub mod Built
 pub mod Theorems
+pub mod Promise

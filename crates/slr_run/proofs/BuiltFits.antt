@@ -15,8 +15,8 @@ use Rattle.slr.specs.States.{columnsOf, LeadsTo}
 use Rattle.slr.specs.Actions.{Action, Acts}
 use Rattle.slr.specs.Cells.{codeOf, ActionColumn, under-token, under-end, SlrHolds, only, unclaimed, SlrClaims, claims-action, claims-move}
 use Rattle.slr.specs.Built.{SlrBuilt}
-use Rattle.slr.proofs.States.{state-zero}
-use Rattle.slr.proofs.Built.{slr-built-formed}
+use Rattle.slr.proofs.Promise.{state-zero}
+use Rattle.slr.proofs.Promise.{slr-built-formed}
 use Rattle.slr_run.specs.Fitting.{rowsIn, NumberFits, empty, shifts, reduces, accepts, moves, SlrCellFits, SlrFits}
 
 module _ {g : Grammar} {paths : List Form} where

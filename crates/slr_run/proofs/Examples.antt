@@ -18,7 +18,7 @@ use Rattle.slr.specs.Examples.{leftGrammar, leftPaths, leftTable}
 use Rattle.slr.specs.Built.{SlrBuilt, leftBook}
 use Rattle.slr.specs.RoomMachine.{slrBegun, shifted, reduced, shifting, uncovering, acting, slrFacing, moving, slrOffer, slrRunFrom, leftIn, sizeIn}
 use Rattle.slr.specs.Ends.{slrFinal}
-use Rattle.slr.proofs.Theorems.{left-serves, left-numbered, left-table}
+use Rattle.slr.proofs.Promise.{left-serves, left-numbered, left-table}
 use Rattle.slr_run.specs.Running.{slrRan, slrFilledBelow, slrExpected, slrValues, slrAnswered, SlrAdmits}
 use Rattle.slr_run.specs.Running as running
 use Rattle.slr_run.specs.Demands.{SlrLeaves, MaySlrRun}

@@ -15,8 +15,8 @@ use Rattle.slr.specs.Actions.{ExactActions}
 use Rattle.slr.specs.Cells.{actionIn, moveIn}
 use Rattle.slr.specs.RoomMachine.{SlrOffered, settingOf}
 use Rattle.slr.specs.Ends.{slrFinal}
-use Rattle.slr.proofs.Held.{held-end}
-use Rattle.slr.proofs.Theorems.{slr-accepts-exactly, rightmost-unique, slr-room-accepts, slr-room-enough, slr-room-lacking, slr-run-spent, slr-built-formed, slr-built-exact}
+use Rattle.slr.proofs.Promise.{held-end}
+use Rattle.slr.proofs.Promise.{slr-accepts-exactly, rightmost-unique, slr-room-accepts, slr-room-enough, slr-room-lacking, slr-run-spent, slr-built-formed, slr-built-exact}
 use Rattle.slr_run.specs.Running.{slrRan, slrAnswered}
 use Rattle.slr_run.specs.Demands.{SlrLeaves, SlrPremises}
 use Rattle.slr_run.proofs.Kept.{EndsSlrRun, SlrBegins, stackless, begins, number-done, taken-done, room-number, numbers, answer-steps, answer-depth}

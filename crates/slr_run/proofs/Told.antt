@@ -15,7 +15,7 @@ use Rattle.book.specs.declared.columns.Outline.{Outline}
 use Rattle.slr.specs.Actions.{Action, shift, reduce, accept}
 use Rattle.slr.specs.Cells.{codeOf, actionOf, moveOf, actionIn, moveIn}
 use Rattle.slr.specs.RoomMachine.{Setting}
-use Rattle.slr.proofs.Codes.{coded-shift, coded-reduce, code-action}
+use Rattle.slr.proofs.Promise.{coded-shift, coded-reduce, code-action}
 use Rattle.slr_run.specs.Fitting.{NumberFits, empty, shifts, reduces, accepts, moves}
 use Rattle.slr_run.specs.Checking.{columnsIn, rowsOf}
 use Rattle.slr_run.specs.Stages.{numbersOf, settingBy, columnAt, numberAt, heldBy, Grounds, Held}

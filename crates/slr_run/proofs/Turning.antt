@@ -12,7 +12,7 @@ use Rattle.grammar.specs.Machine.{front}
 use Rattle.answers.specs.Buffers.{counted}
 use Rattle.slr.specs.Actions.{shift, accept}
 use Rattle.slr.specs.RoomMachine.{Setting, Progress, SlrOffered, taken, stopped, shifted, slrRunFrom}
-use Rattle.slr.proofs.RoomSteps.{run-empty, run-bare, run-no-move, run-accepts, run-shifts, run-shift-full, run-reduces, run-list-full, run-stack-full}
+use Rattle.slr.proofs.Promise.{run-empty, run-bare, run-no-move, run-accepts, run-shifts, run-shift-full, run-reduces, run-list-full, run-stack-full}
 use Rattle.slr_run.specs.Stages.{heldBy, stageIn, Held, stageOf, reasonIn}
 use Rattle.slr_run.specs.Deciding.{Turns}
 use Rattle.slr_run.specs.Reducing.{reducedTo, shiftedTo, finished, finishedStack, goesOn, continued, Kept, Offered}
