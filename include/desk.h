@@ -441,9 +441,10 @@ uint32_t desk_write_sheet(const uint8_t *book, size_t book_len, uint8_t *sheet, 
      DESK_FORM     the sheet has not the form of one, looked at over its whole length before any value: place is the
                    first byte with which no sheet can go on, or sheet_len where it only breaks off, as without a last
                    line feed;
+     one of these two, whichever comes first over the first P + 1 lines:
      DESK_LIMIT    T, N, the start or P is out of range: place is its first digit; or a line has a 17th symbol: place is
-     DESK_SYMBOL   its letter; or a left side is not below N, a token not below T, a nonterminal not below N: place is its
-                   first digit. Whichever of these comes first over the first P + 1 lines is told;
+                   its letter;
+     DESK_SYMBOL   a left side is not below N, a token not below T, a nonterminal not below N: place is its first digit;
      DESK_SHORT    fewer than P lines follow the first: place is sheet_len;
      DESK_EXTRA    more than P do: place is the first byte of the first one too many, whose values are not looked at;
      DESK_ROOM     the book has more bytes than were lent: place is how many it has, detail 0.

@@ -1,5 +1,5 @@
--- The answers of document 01, "Refusals and their numbers": number, place, detail, steps, expected set; and the depth of
--- document 02, W7. Fields not named are 0.
+-- The answers of document 01, "Refusals and their numbers": number, place, detail, steps, expected set; and the depth
+-- of document 02, W7. Fields not named are 0.
 use Prim.Native.Nat.{ℕ}
 use Rattle.sets.specs.declared.Set.{Set}
 pub use Rattle.sets.specs.Calls.{noSet}

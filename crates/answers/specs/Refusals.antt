@@ -1,5 +1,5 @@
--- The numbers of document 01's table of refusals and of document 02, W3 (14, 15, 16) and W8 (17); the details of refusal
--- 7, and behind them its details where a line is cut.
+-- The numbers of document 01's table of refusals and of document 02, W1 (13), W3 (14, 15, 16), W8 (17) and W14 (21);
+-- the details of refusal 7, and behind them its details where a line is cut.
 use Prim.Native.Nat.{ℕ}
 
 abbrev pub served : ℕ
@@ -56,7 +56,6 @@ states = 16
 abbrev pub differs : ℕ
 differs = 17
 
--- of document 02, W14
 abbrev pub profile : ℕ
 profile = 21
 

@@ -27,8 +27,8 @@ pub(crate) enum Move {
     Finish(Ending),
 }
 
-// How many cells of stack and list are in use, how many tokens are matched, and the most cells of the stack that were in
-// use at any moment so far.
+// How many cells of stack and list are in use, how many tokens are matched, and the most cells of the stack that were
+// in use at any moment so far.
 pub struct Progress {
     pub height: usize,
     pub listed: usize,

@@ -170,8 +170,8 @@ fn offer_on(
 }
 
 // One column offered to a run in progress, whatever the reading and the counts; every column from T on is the end
-// mark's. The reply tells the most stack cells held in this offer, those that it began with included. Where the book was
-// refused, that is the reply, and nothing changes.
+// mark's. The reply tells the most stack cells held in this offer, those that it began with included. Where the book
+// was refused, that is the reply, and nothing changes.
 pub fn offer(
     book: &[u8],
     reading: Reading,

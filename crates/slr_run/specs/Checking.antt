@@ -1,4 +1,5 @@
--- What is checked before steps, by the numbers of an outline: the table, the number of tokens, the tokens, a stack cell.
+-- What is checked before steps, by the numbers of an outline: the table, the number of tokens, the tokens, a stack
+-- cell.
 -- Document 02, W12. Only contracts inside the crate cite what stands here.
 use mathlib.Core.Path.{_≡_}
 use mathlib.Core.List.{List}

@@ -1,5 +1,5 @@
 -- Demand 3 of bottom-up runs, of one call: by what it was lent, and by what it leaves, whoever made the call.
--- Document 02, W12: "a bottom-up run of a string in the premises of demand 3", on a table built without conflict.
+-- Document 02, W12: "the run accepts exactly the derivable strings, room allowing as in demand 3".
 use mathlib.Core.Path.{_≡_}
 use mathlib.Core.Logic.{_↔_, _⊎_}
 use mathlib.Core.List.{List}
@@ -60,7 +60,8 @@ pub record SlrStepsAdd (book table tokens stack list : List ℕ) (r : SlrLeaves)
       → Serves book g
       → SlrAdmits g table tokens stack
       → r .answer .steps
-      ≡ length (slrFinal (slrRan g table tokens stack list) .listed) + slrFinal (slrRan g table tokens stack list) .matched
+      ≡ length (slrFinal (slrRan g table tokens stack list) .listed)
+      + slrFinal (slrRan g table tokens stack list) .matched
   pub listed : {g : Grammar}
       → Serves book g
       → SlrAdmits g table tokens stack

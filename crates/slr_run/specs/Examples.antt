@@ -1,4 +1,5 @@
--- The textbook's left-recursive grammar run: the calls with all that is lent, and the whole answer with all that is left.
+-- The textbook's left-recursive grammar run: the calls with all that is lent, and the whole answer with all that is
+-- left.
 -- Document 02, W12. Lent buffers hold 9s, so that a cell that is left alone shows.
 use mathlib.Core.Path.{_≡_}
 use mathlib.Core.List.{List, [], _∷_}

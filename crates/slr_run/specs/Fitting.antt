@@ -14,8 +14,8 @@ abbrev pub rowsIn : Grammar → List ℕ → ℕ
 rowsIn g table = length table / columnsOf g
 
 -- with T tokens, P productions and so many rows, a number fits under a column: it is empty; under a token a state to
--- shift to; under a token or the end mark a production to reduce by; at the end mark accept; under a nonterminal a state
--- to move to
+-- shift to; under a token or the end mark a production to reduce by; at the end mark accept; under a nonterminal a
+-- state to move to
 pub data NumberFits (T P rows column number : ℕ) : Type 0 where
   empty : number ≡ emptyCell → NumberFits T P rows column number
   shifts : column < T → number < rows → NumberFits T P rows column number

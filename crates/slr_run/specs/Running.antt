@@ -19,7 +19,8 @@ use Rattle.book.specs.Judging.{Refuses, Serves}
 use Rattle.offer.specs.Stops.{marking}
 use Rattle.run.specs.Running.{FirstStrange}
 use Rattle.slr.specs.Cells.{emptyCell, numberIn, actionIn, moveIn}
-use Rattle.slr.specs.RoomMachine.{SlrReason, full-list, full-stack, wants, SlrOffered, taken, stopped, settingOf, slrRun}
+use Rattle.slr.specs.RoomMachine.{SlrReason, full-list, full-stack, wants, SlrOffered, taken, stopped, settingOf}
+use Rattle.slr.specs.RoomMachine.{slrRun}
 use Rattle.slr.specs.Ends.{slrFinal}
 use Rattle.slr_run.specs.Fitting.{SlrFits, SlrMisfit}
 

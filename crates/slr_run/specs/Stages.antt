@@ -11,7 +11,8 @@ use Rattle.grammar.specs.Grammar.{Grammar, Column, token, endmark}
 use Rattle.answers.specs.Buffers.{counted}
 use Rattle.book.specs.declared.columns.Outline.{Outline}
 use Rattle.slr.specs.Cells.{emptyCell, mostStates, actionIn, moveIn}
-use Rattle.slr.specs.RoomMachine.{Setting, Progress, SlrReason, full-list, full-stack, wants, SlrOffered, taken, stopped}
+use Rattle.slr.specs.RoomMachine.{Setting, Progress, SlrReason, full-list, full-stack, wants, SlrOffered, taken}
+use Rattle.slr.specs.RoomMachine.{stopped}
 use Rattle.slr_run.specs.Checking.{columnsIn, rowsOf}
 use Rattle.slr_run.specs.Fitting.{NumberFits}
 use Rattle.slr_run.specs.declared.Cause.the-variants.{FullList, FullStack, Wants}

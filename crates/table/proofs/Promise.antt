@@ -12,7 +12,8 @@ pub use Rattle.table.proofs.TableFits.{table-fits, fitting-unique, cell
 pub use Rattle.table.proofs.Vacant.{vacancy-unique, taken-sized, taken-vacant}
 pub use Rattle.table.proofs.Answering.{given-size, given-most, cells-fit}
 pub use Rattle.table.proofs.Examples.{house-table-of, house-build, conflicted-house-serves}
-pub use Rattle.table.proofs.Examples.{conflicted-house-conflict, conflicted-house-build, nested-conflict, nested-build}
+pub use Rattle.table.proofs.Examples.{conflicted-house-conflict, conflicted-house-build, nested-conflict}
+pub use Rattle.table.proofs.Examples.{nested-build}
 pub use Rattle.table.proofs.Examples.{nested-serves}
 unfoldable pub use Rattle.table.proofs.Examples.{house-built}
 pub use Rattle.table.proofs.Worked.{useful-tested, first-tested, follow-tested, table-tested}
