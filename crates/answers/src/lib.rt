@@ -1,4 +1,6 @@
 // What every call answers: number, place, detail, steps, expected set and depth.
+#![tactic(auto)]
+
 ghost use Rattle.std.specs.Prelude.{◌≡◌};
 ghost use Rattle.answers.specs.Answers as answers;
 
@@ -11,7 +13,7 @@ pub mod refusals;
 
 // Number, place, detail, steps and expected set, as the paper's table of refusals has them, and the depth: the most
 // stack cells held at any moment, 0 where steps had not begun.
-#[derive(Drop)]
+#[derive(Clone, Copy)]
 pub struct Answer {
     pub number: u32,
     pub place: u64,

@@ -8,7 +8,7 @@ use crate::Reading;
 use reader::fields::{LEFT, LENGTH, SYMBOLS, byte_at, place_at};
 
 // T, N, the start symbol and P.
-#[derive(Drop)]
+#[derive(Clone, Copy)]
 pub struct Outline {
     pub tokens: u8,
     pub nonterminals: u8,

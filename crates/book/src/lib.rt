@@ -1,4 +1,6 @@
 // Judged books: any bytes in, a refusal 1 to 6 or an index of the book out.
+#![tactic(auto)]
+
 use answers::Answer;
 use answers::limits::MOST_PRODUCTIONS;
 
@@ -11,7 +13,7 @@ mod useful;
 pub const CELLS: usize = MOST_PRODUCTIONS as usize;
 
 // The answer to judging a book and, where that is done, T, N, start, P and the place of each record.
-#[derive(Drop)]
+#[derive(Clone, Copy)]
 pub struct Reading {
     pub answer: Answer,
     pub tokens: u8,

@@ -1,4 +1,6 @@
 // Judges books at the edges of document 01 and prints each one's name, answer and numbers, and H's productions.
+#![tactic(auto)]
+
 mod built;
 mod house;
 mod showing;

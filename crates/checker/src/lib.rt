@@ -1,4 +1,6 @@
 // Whether a table is the one that building gives, whoever made it; no table is made for that.
+#![tactic(auto)]
+
 ghost use Rattle.checker.specs.Calls.{CheckOutcome, CheckedWithFirst};
 ghost use Rattle.checker.specs.Checking.{Comparable};
 

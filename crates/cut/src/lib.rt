@@ -1,4 +1,6 @@
 // A line in, its tokens out, cut by patterns.
+#![tactic(auto)]
+
 ghost use Rattle.cut.specs.Calls.{CutOutcome};
 ghost use Rattle.cut.specs.Preparing.{Prepared};
 

@@ -1,6 +1,8 @@
 // The functions that C programs call. The number is returned, and place, detail, steps, expected set and depth go into
 // a lent buffer; where that is too short, or the buffer for a set or for a number has no cell, the answer is 7 before
 // all else, and nothing changes.
+#![tactic(auto)]
+
 ghost use Rattle.desk.specs.Desk.{JudgeCall, SetsCall, BuildCall, RunCall, ExpandCall, LookaheadCall, FirstCall};
 ghost use Rattle.desk.specs.Desk.{PatternsCall, CutCall, CutWithCall, CheckCall, SlrRunCall};
 ghost use Rattle.desk.specs.Plain.{PlainCall, PlainRunCall};

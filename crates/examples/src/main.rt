@@ -1,5 +1,7 @@
 // Every example of document 01 on the compiled code, a line each: the whole answer, then what is left in the lent
 // buffers. These hold 99s before each call, so that a cell that is left alone shows.
+#![tactic(auto)]
+
 mod builds;
 mod expansions;
 mod ladder;

@@ -1,4 +1,6 @@
 // A list of productions expanded to the tokens that it derives.
+#![tactic(auto)]
+
 ghost use Rattle.std.specs.Prelude.{◌≡◌, ◌+◌, ◌^◌, ◌≤◌, ◌<◌, length};
 ghost use Rattle.answers.specs.Answers.{at_depth};
 ghost use Rattle.book.specs.Columns.{outlined, Lefts, Lengths};
@@ -19,7 +21,7 @@ use stack::{clear, counts, greater, put_start, replace};
 mod turns;
 
 // What an expansion does next: a token is written, a production is used, or it ends.
-#[derive(Drop)]
+#[derive(Clone, Copy)]
 pub(crate) enum Turn {
     Write(u8),
     Apply(u8),
@@ -28,7 +30,7 @@ pub(crate) enum Turn {
 
 // An expansion that has ended, with the productions used, the tokens written, and the most stack cells in use at any
 // moment.
-#[derive(Drop)]
+#[derive(Clone, Copy)]
 pub(crate) struct Unfolding {
     pub upshot: Upshot,
     pub used: usize,

@@ -8,7 +8,7 @@ ghost use Rattle.first.specs.Trail.{symbol_set, Trailed, form_of};
 use sets::{EMPTY_STRING, Set, has, join, load, single};
 
 // A form's set with a set behind it, and how many symbols can vanish before the first that cannot.
-#[derive(Drop)]
+#[derive(Clone, Copy)]
 pub struct Trail {
     pub set: Set,
     pub vanishing: usize,

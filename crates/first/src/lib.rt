@@ -1,4 +1,6 @@
 // FIRST of each nonterminal of a book's grammar, and of a symbol string.
+#![tactic(auto)]
+
 ghost use Rattle.first.specs.Calls.{FirstWorkedOut, NoSet, FirstOutcome};
 
 use crate::checks::spelled;
@@ -16,7 +18,7 @@ mod first;
 pub mod forms;
 
 // An answer with its set, a lookahead or FIRST of a symbol string, and how many leading symbols can vanish.
-#[derive(Drop)]
+#[derive(Clone, Copy)]
 pub struct SetAnswer {
     pub answer: Answer,
     pub set: Set,

@@ -15,7 +15,7 @@ use reader::fields::{LEFT, LENGTH, SYMBOLS};
 use sets::{END_MARK, Set, join, load, single, store};
 
 // What lies before a symbol, and whether passing over the symbols from there on changed nothing.
-#[derive(Drop)]
+#[derive(Clone, Copy)]
 pub(crate) struct Passed {
     pub(crate) ahead: Set,
     pub(crate) settled: bool,

@@ -1,4 +1,6 @@
 // FOLLOW of each nonterminal of a book's grammar, and the lookahead of its productions.
+#![tactic(auto)]
+
 ghost use Rattle.std.specs.Prelude.{◌≡◌, replicate};
 ghost use Rattle.answers.specs.Limits.{most_nonterminals};
 ghost use Rattle.follow.specs.Calls.{SetsOutcome, LookaheadOutcome};

@@ -1,5 +1,7 @@
 // A symbol of a grammar: a token with its number, or a nonterminal with its number.
-#[derive(Drop)]
+#![tactic(auto)]
+
+#[derive(Clone, Copy)]
 pub enum Symbol {
     Token(u8),
     Nonterminal(u8),

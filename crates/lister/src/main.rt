@@ -1,4 +1,6 @@
 // Lists the book on standard input: its grammar, sets and table, or the refusal.
+#![tactic(auto)]
+
 ghost use Rattle.lister.specs.Showing.{Roomy, Shows};
 
 use answers::limits::LONGEST_BOOK;

@@ -5,7 +5,7 @@ ghost use Rattle.listing.specs.Writing.{header_in};
 use reader::fields::byte_at;
 
 // T, N, the start symbol and P.
-#[derive(Drop)]
+#[derive(Clone, Copy)]
 pub(crate) struct Header {
     pub tokens: u8,
     pub nonterminals: u8,

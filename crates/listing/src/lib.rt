@@ -1,4 +1,6 @@
 // The text of a book's listing: its grammar, sets and table, or the refusal.
+#![tactic(auto)]
+
 ghost use Rattle.std.specs.Prelude.{◌≤◌, length};
 ghost use Rattle.listing.specs.Calls.{Listed};
 ghost use Rattle.listing.specs.Writing.{ServedPut, Written};
@@ -24,7 +26,7 @@ const CELLS: usize = SETS * (MOST_TOKENS as usize + 1);
 pub const LONGEST_LISTING: usize = 19989;
 
 // An answer, and how many bytes of text were written.
-#[derive(Drop)]
+#[derive(Clone, Copy)]
 pub struct TextAnswer {
     pub answer: Answer,
     pub written: usize,

@@ -1,9 +1,11 @@
 // The machines that run and expand, with the room that they are lent: definitions and theorems, no functions. What code
 // and definitions both name is declared here.
+#![tactic(auto)]
+
 
 // Why a run stops: list or stack is too short, or syntax: it wants the end mark, that token, or a filled column of that
 // row.
-#[derive(Drop)]
+#[derive(Clone, Copy)]
 pub enum Reason {
     FullList,
     FullStack,
@@ -13,7 +15,7 @@ pub enum Reason {
 }
 
 // How an expansion ends: it is finished, the list does not fit, or stack or output is too short.
-#[derive(Drop)]
+#[derive(Clone, Copy)]
 pub enum Upshot {
     Finished,
     Unfit,

@@ -1,4 +1,6 @@
 // Where a set of points leads by a byte: the points that can come after its positions that read the byte.
+#![tactic(auto)]
+
 ghost use Rattle.std.specs.Prelude.{◌^◌, ◌<◌};
 ghost use Rattle.moves.specs.Growing.{Five, Grown, WordLeads};
 ghost use Rattle.moves.specs.Tables.{NextWords};

@@ -1,1 +1,3 @@
 // States numbered as they are found, whatever the states and their moves are: definitions and theorems, no functions.
+#![tactic(auto)]
+

@@ -1,4 +1,6 @@
 // The steps of a run: one column offered to a run in progress, or a whole token string from the start symbol on.
+#![tactic(auto)]
+
 use answers::Answer;
 use grammar::Symbol;
 use machine::Reason;
@@ -9,14 +11,14 @@ pub mod offering;
 pub mod strings;
 
 // A step: the symbol on top of the stack, and what it faces.
-#[derive(Drop)]
+#[derive(Clone, Copy)]
 pub(crate) struct Step {
     pub symbol: Symbol,
     pub ahead: Ahead,
 }
 
 // How an offer ends: the end mark is taken, the token on top is matched, or the run stops.
-#[derive(Drop)]
+#[derive(Clone, Copy)]
 pub(crate) enum Ending {
     Accept,
     Match,
@@ -24,7 +26,7 @@ pub(crate) enum Ending {
 }
 
 // What is done next: a production is used, or the offer ends.
-#[derive(Drop)]
+#[derive(Clone, Copy)]
 pub(crate) enum Move {
     Use(u8),
     Finish(Ending),
@@ -32,7 +34,7 @@ pub(crate) enum Move {
 
 // How many cells of stack and list are in use, how many tokens are matched, and the most cells of the stack that were
 // in use at any moment so far.
-#[derive(Drop)]
+#[derive(Clone, Copy)]
 pub struct Progress {
     pub height: usize,
     pub listed: usize,
@@ -42,7 +44,7 @@ pub struct Progress {
 
 // What became of an offer: what was offered is taken, the run stops, or the reading is of a book that was refused with
 // this answer.
-#[derive(Drop)]
+#[derive(Clone, Copy)]
 pub enum Reply {
     Taken(Progress),
     Stopped(Reason, Progress),

@@ -9,7 +9,7 @@ use answers::limits::POSITION_WORDS;
 use points::put;
 
 // Bytes from low to high that stand in a class and the place behind them, or the place refused.
-#[derive(Drop)]
+#[derive(Clone, Copy)]
 pub struct Span {
     pub good: bool,
     pub at: usize,
@@ -18,7 +18,7 @@ pub struct Span {
 }
 
 // The place behind what was read, or the place refused.
-#[derive(Drop)]
+#[derive(Clone, Copy)]
 pub struct Place {
     pub good: bool,
     pub at: usize,

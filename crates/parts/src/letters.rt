@@ -24,7 +24,7 @@ pub const BACKSLASH: u8 = 92;
 pub const DASH: u8 = 45;
 
 // A byte that was read and the place behind it, or the place refused.
-#[derive(Drop)]
+#[derive(Clone, Copy)]
 pub struct Letter {
     pub good: bool,
     pub at: usize,

@@ -1,1 +1,3 @@
 // The textbook of patterns: definitions and theorems, no functions.
+#![tactic(auto)]
+

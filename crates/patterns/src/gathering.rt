@@ -15,7 +15,7 @@ use positions::whole::pattern;
 
 // How far the patterns were judged: whether all were good so far, the number of the next one or of the bad one, where
 // its bytes start, the place refused, and the positions so far.
-#[derive(Drop)]
+#[derive(Clone, Copy)]
 pub struct Judged {
     pub good: bool,
     pub number: usize,

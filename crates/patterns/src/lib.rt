@@ -1,4 +1,6 @@
 // Patterns lent as one slice of bytes and their lengths: a refusal, or the tables of their positions.
+#![tactic(auto)]
+
 ghost use Rattle.patterns.specs.Calls.{ReadOutcome, JudgePatterns};
 ghost use Rattle.patterns.specs.Gathering.{TablesFit, FillOutcome};
 

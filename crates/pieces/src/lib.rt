@@ -1,9 +1,11 @@
 // A line cut into tokens with given machine cells.
+#![tactic(auto)]
+
 pub mod cutting;
 mod longest;
 
 // How a cut ends: at the end of the line, or at the place where a token would start.
-#[derive(Drop)]
+#[derive(Clone, Copy)]
 pub enum Ending {
     Whole,
     NoToken(u64),
@@ -11,14 +13,14 @@ pub enum Ending {
 }
 
 // What the longest match from a place is: a token and the place behind it.
-#[derive(Drop)]
+#[derive(Clone, Copy)]
 enum Match {
     Token(u8, usize),
     Nothing,
 }
 
 // What is done at a place of the line.
-#[derive(Drop)]
+#[derive(Clone, Copy)]
 enum Move {
     Skip,
     Take(u8, usize),

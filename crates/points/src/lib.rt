@@ -1,5 +1,7 @@
 // Sets of many words, kept flat in a slice: a set starts at word `at` of the slice and has `words` words, lowest first.
 // A word past the end of the slice counts as 0 and is not written.
+#![tactic(auto)]
+
 ghost use Rattle.std.specs.Prelude.{◌≡◌, ◌+◌, ◌-◌, ◌<◌, min, get_or, length};
 ghost use Rattle.points.specs.Points.{Has, Put, Unite, Same, None, Lowest};
 

@@ -1,4 +1,6 @@
 // Token strings run on a book and a table: judged, checked, run, and answered.
+#![tactic(auto)]
+
 use answers::Answer;
 
 mod answering;
@@ -7,7 +9,7 @@ pub mod checking;
 pub mod running;
 
 // The answer of a run, and how many tokens it matched.
-#[derive(Drop)]
+#[derive(Clone, Copy)]
 pub(crate) struct Account {
     pub answer: Answer,
     pub matched: usize,

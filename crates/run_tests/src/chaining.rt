@@ -6,7 +6,7 @@ use reader::fields::byte_at;
 use stack::{greater, put_start};
 
 // The last reply, and the most stack cells that any of the offers told of.
-#[derive(Drop)]
+#[derive(Clone, Copy)]
 pub(crate) struct Chain {
     pub reply: Reply,
     pub deepest: usize,

@@ -1,6 +1,8 @@
 // Runs every token string on standard input on the table of its book, and expands the list that it gives; a run on the
 // judged book and offers in turn are to say the same. A string stands behind the length of what belongs to it, low byte
 // first: the number of tokens, the tokens, the book.
+#![tactic(auto)]
+
 use libc::STDIN_FILENO;
 
 mod chaining;

@@ -1,11 +1,13 @@
 // Sets as numbers: bit k of a set's word says whether k is a member. A set goes by value, a family of sets is kept
 // flat.
+#![tactic(auto)]
+
 ghost use Rattle.std.specs.Prelude.{◌≡◌};
 ghost use Rattle.sets.specs.Sets.{member, column_place};
 ghost use Rattle.sets.specs.Calls.{number, None, Single, With, Without, Union, Join, Within, Apart, Same, Load};
 ghost use Rattle.sets.specs.Calls.{stored};
 
-#[derive(Drop)]
+#[derive(Clone, Copy)]
 pub struct Set {
     pub word: u64,
 }

@@ -15,7 +15,7 @@ use text::{Number, put, put_all};
 const SYMBOLS: usize = MOST_SYMBOLS as usize;
 
 // The place that is next in the sheet, and the one that is next in the book.
-#[derive(Drop)]
+#[derive(Clone, Copy)]
 pub(crate) struct Places {
     pub sheet: usize,
     pub book: usize,

@@ -6,7 +6,7 @@ ghost use Rattle.sheet.specs.Form as form;
 use text::is_digit;
 
 // Where a number stands: one of the first line's four, a left side, or a symbol of a right side.
-#[derive(Drop)]
+#[derive(Clone, Copy)]
 pub(crate) enum Slot {
     Tokens,
     Nonterminals,
@@ -18,7 +18,7 @@ pub(crate) enum Slot {
 
 // What may come next: a number's first digit, more digits, what follows a number, a further line, the colon, a
 // letter; or nothing at all.
-#[derive(Drop)]
+#[derive(Clone, Copy)]
 pub(crate) enum Phase {
     First(Slot),
     More(Slot),
@@ -30,7 +30,7 @@ pub(crate) enum Phase {
 }
 
 // The first byte that breaks the form, or the length, and whether the text has the form.
-#[derive(Drop)]
+#[derive(Clone, Copy)]
 pub(crate) struct Formed {
     pub at: usize,
     pub whole: bool,

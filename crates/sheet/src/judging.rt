@@ -10,7 +10,7 @@ use reader::fields::byte_at;
 use text::{Number, read_number};
 
 // The four numbers of the first line.
-#[derive(Drop)]
+#[derive(Clone, Copy)]
 pub(crate) struct Head {
     pub tokens: Number,
     pub nonterminals: Number,

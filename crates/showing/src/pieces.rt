@@ -5,7 +5,7 @@ ghost use Rattle.showing.specs.Pieces.{Cut, size_at};
 use reader::fields::byte_at;
 
 // Where a piece starts, and where it ends.
-#[derive(Drop)]
+#[derive(Clone, Copy)]
 pub struct Piece {
     pub from: usize,
     pub end: usize,

@@ -1,4 +1,6 @@
 // Token strings run bottom-up on a book and a table of actions and moves: judged, checked, run, and answered.
+#![tactic(auto)]
+
 mod answering;
 mod checking;
 mod deciding;
@@ -7,7 +9,7 @@ pub mod running;
 
 // The state on top, how many states are held and productions listed, how many tokens are matched, and the most states
 // held at any moment so far.
-#[derive(Drop)]
+#[derive(Clone, Copy)]
 pub(crate) struct Stage {
     pub top: u8,
     pub height: usize,
@@ -17,7 +19,7 @@ pub(crate) struct Stage {
 }
 
 // Why a run stops: list or stack is full, or syntax: it wants a filled column of the state on top.
-#[derive(Drop)]
+#[derive(Clone, Copy)]
 pub(crate) enum Cause {
     FullList,
     FullStack,
@@ -25,7 +27,7 @@ pub(crate) enum Cause {
 }
 
 // How the reductions of a column end: its token is shifted to a state, the end mark is accepted, or the run stops.
-#[derive(Drop)]
+#[derive(Clone, Copy)]
 pub(crate) enum Ending {
     Shift(u8),
     Accept,
@@ -34,14 +36,14 @@ pub(crate) enum Ending {
 
 // What is done next: a reduction by a production, which pushes a state above the one in that cell of the stack; or the
 // reductions end.
-#[derive(Drop)]
+#[derive(Clone, Copy)]
 pub(crate) enum Turn {
     Reduce(u8, u8, usize),
     Finish(Ending),
 }
 
 // What became of a column: it is taken, or the run stops.
-#[derive(Drop)]
+#[derive(Clone, Copy)]
 pub(crate) enum Reply {
     Taken(Stage),
     Stopped(Cause, Stage),

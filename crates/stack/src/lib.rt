@@ -1,4 +1,6 @@
 // What a run and an expansion share: the stack as bytes, how many cells of a lent buffer count, and what comes next.
+#![tactic(auto)]
+
 ghost use Rattle.std.specs.Prelude.{◌≡◌, ◌+◌, ◌%◌, ◌≤◌, min, max, length, drop, set};
 ghost use Rattle.std.proofs.lemmas.List.Edits.{sets};
 ghost use Rattle.grammar.specs.declared.Symbol.TheVariants.{Nonterminal};
@@ -13,7 +15,7 @@ use answers::limits::MOST_CELLS;
 use reader::fields::symbol_byte;
 
 // What comes next in a string of bytes: one of them, or the end.
-#[derive(Drop)]
+#[derive(Clone, Copy)]
 pub enum Ahead {
     Next(u8),
     End,

@@ -1,4 +1,6 @@
 // Any two tables in, the states of their machine numbered as they are found and the machine's rows out.
+#![tactic(auto)]
+
 ghost use Rattle.std.specs.Prelude.{◌≡◌};
 ghost use Rattle.states.specs.Making as making;
 
@@ -13,7 +15,7 @@ mod finding;
 mod seeking;
 
 // The answer, and how many states the machine has.
-#[derive(Drop)]
+#[derive(Clone, Copy)]
 pub struct MachineMade {
     pub answer: Answer,
     pub states: u64,

@@ -19,7 +19,7 @@ use sets::{END_MARK, Set, has, load};
 
 // The first cell known to have two claimants, in cell order, and its two lowest; past the last cell where none is
 // known.
-#[derive(Drop)]
+#[derive(Clone, Copy)]
 pub(crate) struct Contest {
     pub(crate) cell: usize,
     pub(crate) lowest: u32,

@@ -7,7 +7,7 @@ use crate::VACANT;
 use book::columns::{Outline, gather_lefts, is_of};
 
 // A table that fits, or the place of refusal 9: the length given, or the first cell that does not fit.
-#[derive(Drop)]
+#[derive(Clone, Copy)]
 pub enum Fitting {
     Fit,
     MisfitAt(usize),

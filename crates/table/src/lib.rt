@@ -1,4 +1,6 @@
 // The LL(1) table of a book: its cells, its first conflict, and building it.
+#![tactic(auto)]
+
 ghost use Rattle.table.specs.Calls.{BuildOutcome};
 ghost use Rattle.table.specs.Filling.{Fillable};
 

@@ -1,6 +1,8 @@
 // Works out every book on standard input, each behind its length, low byte first: the answer to building it, its sets,
 // the lookahead of each production and FIRST of its right side, each with how many leading symbols can vanish, and its
 // table with the check of it.
+#![tactic(auto)]
+
 use libc::STDIN_FILENO;
 
 mod books;

@@ -1,11 +1,13 @@
 // Texts and numbers written into a lent buffer, and numbers read from a text.
 // A place goes in and the next one comes back; what finds no room is not written.
+#![tactic(auto)]
+
 ghost use Rattle.std.specs.Prelude.{◌≡◌, [], ◌∷◌, ◌+◌, ◌-◌, ◌*◌, ◌≤◌, ◌<◌, min, get_or};
 ghost use Rattle.text.specs.Text.{digit, decimal, hexadecimal, Put};
 ghost use Rattle.text.specs.Reading.{is_digit, most_read, number_at};
 
 // A number that was read, and the place behind it.
-#[derive(Drop)]
+#[derive(Clone, Copy)]
 pub struct Number {
     pub value: u64,
     pub next: usize,

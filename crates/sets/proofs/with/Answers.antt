@@ -11,8 +11,7 @@ use Rattle.sets.specs.Calls.{number, With}
 use Rattle.sets.proofs.Members.{shifted_one}
 use Rattle.sets.proofs.Operations.{member_added}
 use Rattle.sets.proofs.Order.{added_fits}
-use Rattle.sets.proofs.with.Statement.{statement}
-use Rattle.sets.proofs.with.Tie as tie
+use Rattle.sets.proofs.with.Goals as goal
 
 word_is : (k x : ℕ) → k < width → bit_or x ((1 * 2 ^ k) % 2 ^ width) ≡ added k x
 unfolding added united only
@@ -27,18 +26,12 @@ made s bit below h =
           rw (word_is bit (number s) below, lt-ltb bit width below, and-true) (member_added k bit (number s));
     }
 
-shl-t6 : tie.Need-overflow-shl-t6
-shl-t6 c = search rules
+pub returns-then-bit-lt-WIDTH : goal.returns-then-bit-lt-WIDTH
+returns-then-bit-lt-WIDTH c = made c.args.s c.args.bit c.if-bit-lt-WIDTH.true (search rules)
 
-returns : tie.Need-returns
-returns c = made c.before.before.args.s c.before.before.args.bit c.before.if1.true (search rules)
-
-returns-2 : tie.Need-returns-2
-returns-2 c =
+pub returns-else-bit-lt-WIDTH : goal.returns-else-bit-lt-WIDTH
+returns-else-bit-lt-WIDTH c =
     record {
       fits = search rules;
-      members = λ k. simp (le-ltb c.before.args.bit width c.if1.false, and-false, or-false);
+      members = λ k. simp (le-ltb c.args.bit width c.if-bit-lt-WIDTH.false, and-false, or-false);
     }
-
-pub with_spec : {M : Type 1} → statement M
-with_spec = tie.close (tie.spec shl-t6 returns returns-2)

@@ -4,14 +4,10 @@ use lib.Dec.{eqb}
 use borrow.Author.Tests.{eqb-true, eq-eqb}
 use Rattle.sets.proofs.Equality.{and_disjoint, disjoint_and}
 use Rattle.sets.proofs.Answers.{decided}
-use Rattle.sets.proofs.apart.Statement.{statement}
-use Rattle.sets.proofs.apart.Tie as tie
+use Rattle.sets.proofs.apart.Goals as goal
 
-returns : tie.Need-returns
+pub returns : goal.returns
 returns c =
-    let x = c.before.before.args.x.word in
-    let y = c.before.before.args.y.word in
+    let x = c.args.x.word in
+    let y = c.args.y.word in
     decided (eqb (bit_and x y) 0) (λ e. and_disjoint x y (eqb-true (bit_and x y) 0 e)) (λ d. eq-eqb (bit_and x y) 0 (disjoint_and x y d))
-
-pub apart_spec : {M : Type 1} → statement M
-apart_spec = tie.close (tie.spec returns)

@@ -6,8 +6,7 @@ use Rattle.sets.specs.declared.Set.{Set}
 use Rattle.sets.specs.Sets.{width}
 use Rattle.sets.specs.Calls.{number, Union}
 use Rattle.sets.proofs.Members.{member_or}
-use Rattle.sets.proofs.union.Statement.{statement}
-use Rattle.sets.proofs.union.Tie as tie
+use Rattle.sets.proofs.union.Goals as goal
 
 made : (x y : Set) → number x < 2 ^ width → number y < 2 ^ width
     → Union x y (record { word = bit_or (number x) (number y) })
@@ -17,8 +16,5 @@ made x y hx hy =
       members = λ k. member_or k (number x) (number y);
     }
 
-returns : tie.Need-returns
-returns c = made c.before.before.args.x c.before.before.args.y (search rules) (search rules)
-
-pub union_spec : {M : Type 1} → statement M
-union_spec = tie.close (tie.spec returns)
+pub returns : goal.returns
+returns c = made c.args.x c.args.y (search rules) (search rules)

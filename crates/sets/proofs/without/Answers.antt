@@ -9,8 +9,7 @@ use Rattle.sets.specs.Sets.{width}
 use Rattle.sets.specs.Calls.{number, Without}
 use Rattle.sets.proofs.Members.{shifted_one, member_cleared, member_past}
 use Rattle.sets.proofs.Operations.{removed_absent}
-use Rattle.sets.proofs.without.Statement.{statement}
-use Rattle.sets.proofs.without.Tie as tie
+use Rattle.sets.proofs.without.Goals as goal
 
 made : (s : Set) (bit : ℕ) → bit < width → number s < 2 ^ width
     → Without s bit (record { word = bit_and (number s) ((2 ^ width - 1) - (1 * 2 ^ bit) % 2 ^ width) })
@@ -20,20 +19,14 @@ made s bit below h =
       members = λ k. rw (shifted_one width bit below) (member_cleared width k bit (number s) h below);
     }
 
-shl-t6 : tie.Need-overflow-shl-t6
-shl-t6 c = search rules
+pub returns-then-bit-lt-WIDTH : goal.returns-then-bit-lt-WIDTH
+returns-then-bit-lt-WIDTH c = made c.args.s c.args.bit c.if-bit-lt-WIDTH.true (search rules)
 
-returns : tie.Need-returns
-returns c = made c.before.before.args.s c.before.before.args.bit c.before.if1.true (search rules)
-
-returns-2 : tie.Need-returns-2
-returns-2 c =
-    let s = number c.before.args.s in
-    let bit = c.before.args.bit in
+pub returns-else-bit-lt-WIDTH : goal.returns-else-bit-lt-WIDTH
+returns-else-bit-lt-WIDTH c =
+    let s = number c.args.s in
+    let bit = c.args.bit in
     record {
       fits = search rules;
-      members = λ k. sym (removed_absent k bit s (member_past {w = width} bit s (search rules) c.if1.false));
+      members = λ k. sym (removed_absent k bit s (member_past {w = width} bit s (search rules) c.if-bit-lt-WIDTH.false));
     }
-
-pub without_spec : {M : Type 1} → statement M
-without_spec = tie.close (tie.spec shl-t6 returns returns-2)
