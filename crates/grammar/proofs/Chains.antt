@@ -53,12 +53,19 @@ claimed_by (vacant none_claims) e = let bad : ◌≡◌ {A = ℕ} 0 1 = cc in ab
 
 module _ {g : Grammar} {cell : ℕ → Column → Option ℕ} {t : ℕ} where
   -- the number of productions is determined, a cell holding one production
+  pub leads_alike : {x y : Symbol} {k j : ℕ} → x ≡ y → Leads g cell t x k → Leads g cell t y j → k ≡ j
+  leads_alike e there there = refl
+  leads_alike e there (through d s m) = cc
+  leads_alike e (through c r l) there = cc
+  leads_alike e (through {A = A} {x = x} {β = β} c r l) (through {p = q} {A = B} {k = j} {x = y} {β = γ} d s m) =
+      let row : B ≡ A = cc in
+      let held : cell A (token t) ≡ some q = rw row at d in
+      let form : y ∷ γ ≡ x ∷ β = one_right held c (subst (λ (o : ℕ). Rule g q o (y ∷ γ)) row s) r in
+      let same : x ≡ y = cc in
+      ap suc (leads_alike same l m)
+
   pub leads_same : {x : Symbol} {k j : ℕ} → Leads g cell t x k → Leads g cell t x j → k ≡ j
-  leads_same there there = refl
-  leads_same (through {x = x} c r l) (through {k = j} {x = y} d s m) =
-      let form = one_right d c s r in
-      let same : y ≡ x = cc in
-      ap suc (leads_same l (subst (λ (z : Symbol). Leads g cell t z j) same m))
+  leads_same l m = leads_alike refl l m
 
   leads_derives : {x : Symbol} {k : ℕ} → Leads g cell t x k → (δ : Form) × Derives g (x ∷ []) (Token t ∷ δ)
   leads_derives there = ([], itself)

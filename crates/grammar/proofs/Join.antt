@@ -55,6 +55,7 @@ module _ {F : Family} where
   join_cases (past h j) = past_cases h (join_cases j)
 
   pub join_own : {K : Column → Type 0} {α : Form} {t : ℕ} → Join F End α (token t) → Join F K α (token t)
+  join_own {K = K} {t = t} (over x) = elim x [ ]
   join_own here = here
   join_own (begins h) = begins h
   join_own (past h j) = past h (join_own j)

@@ -1,5 +1,5 @@
 -- Determinism: each production of a leftmost derivation claims its cell, so without conflict one string has one list.
-use mathlib.Core.Path.{◌≡◌, refl, ap, subst}
+use mathlib.Core.Path.{◌≡◌, refl, sym, ap, subst}
 use mathlib.Core.List.{List, [], ◌∷◌, ◌++◌, append_assoc}
 use Prim.Native.Nat.{ℕ}
 use native.Mathlib.Decide.{ℕ_discrete}
@@ -41,11 +41,24 @@ module _ {g : Grammar} where
       go (no d) = absurd (n (record { row = A; col = c; one = p; other = q; distinct = d; claims_one = h; claims_other = k }))
 
   module _ (n : ¬ Conflict g) where
-    pub unique_from : (x : Form) {α : Form} {ps qs w : List ℕ} → Sentential g (x ++ α) → Leftmost g α ps w → Leftmost g α qs w → ps ≡ qs
-    unique_from x s done done = refl
-    unique_from x s (shift {t = t} {α = α} d) (shift e) = unique_from (x ++ (Token t ∷ [])) (rw append_assoc s) d e
-    unique_from x s (expand {p = p} {A = A} {α = α} {β = β} {ps = ps} r d) (expand {p = q} {β = γ} {ps = qs} k e) =
-        let same : q ≡ p = claims_same n (leads_claims x α s k e) (leads_claims x α s r d) in
-        let right : γ ≡ β = (rule_same (subst (λ (o : ℕ). Rule g o A γ) same k) r).1 in
-        let rest : ps ≡ qs = unique_from x (sentential_expand x α s r) d (recast (ap (λ (y : Form). y ++ α) right) e) in
+    unique_alike : (x : Form) {α β : Form} {ps qs w : List ℕ} → α ≡ β → Sentential g (x ++ α) → Leftmost g α ps w → Leftmost g β qs w → ps ≡ qs
+    unique_alike x same s done done = refl
+    unique_alike x same s (shift {t = t} {α = α} d) (shift {t = u} {α = β} e) =
+        let rest : α ≡ β = cc in
+        unique_alike (x ++ (Token t ∷ [])) rest (rw append_assoc s) d e
+    unique_alike x same s done (expand k e) = cc
+    unique_alike x same s (expand r d) done = cc
+    unique_alike x same s (shift d) (expand k e) = cc
+    unique_alike x same s (expand r d) (shift e) = cc
+    unique_alike x same s (expand {p = p} {A = A} {α = α} {β = β} {ps = ps} r d) (expand {p = q} {A = B} {α = δ} {β = γ} {ps = qs} k e) =
+        let row : B ≡ A = cc in
+        let behind : α ≡ δ = cc in
+        let on : Rule g q A γ = subst (λ (o : ℕ). Rule g q o γ) row k in
+        let there : Leftmost g (γ ++ α) qs _ = rw behind e in
+        let number : q ≡ p = claims_same n (leads_claims x α s on there) (leads_claims x α s r d) in
+        let right : β ≡ γ = sym (rule_same (subst (λ (o : ℕ). Rule g o A γ) number on) r).1 in
+        let rest : ps ≡ qs = unique_alike x (cc) (sentential_expand x α s r) d e in
         cc
+
+    pub unique_from : (x : Form) {α : Form} {ps qs w : List ℕ} → Sentential g (x ++ α) → Leftmost g α ps w → Leftmost g α qs w → ps ≡ qs
+    unique_from x s d e = unique_alike x refl s d e
