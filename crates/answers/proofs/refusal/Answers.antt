@@ -1,0 +1,9 @@
+-- The answer with no expected set.
+use mathlib.Core.Path.{◌∙◌, ap}
+use Rattle.sets.proofs.Promise.{none_is, number_unique}
+use Rattle.answers.specs.Answers.{refusal, stop}
+use Rattle.answers.proofs.refusal.Goals as goal
+
+pub returns : goal.returns
+unfolding refusal stop
+returns c = c.stop.ensures ∙ ap (stop c.args.number c.args.place c.args.detail 0) (number_unique (none_is c.none.ensures))
