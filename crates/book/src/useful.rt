@@ -23,13 +23,13 @@ fn with_symbol(names: Set, s: Symbol) -> Set
 }
 
 // The nonterminals among the symbols of the record at `at`.
-fn names_at(book: &[u8], at: usize, length: usize) -> Set
-    requires* { do ⌜ at + 4 + length ≤ (← ⟦book.len()⟧) ⌝ }
-    ensures { Exactly width (number result) (NamedAt book.now at length) }
+fn names_at(book: &[u8], at: usize, count: usize) -> Set
+    requires { at + 4 + count ≤ length book.now }
+    ensures { Exactly width (number result) (NamedAt book.now at count) }
 {
     let mut names = none();
     let mut i: usize = 0;
-    while i < length {
+    while i < count {
         let place = at + SYMBOLS + i;
         names = with_symbol(names, symbol_of(book[place]));
         i += 1;

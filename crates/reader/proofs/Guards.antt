@@ -1,12 +1,12 @@
 -- Bytes judged one after another: a right byte leads to the next place, and the first that is missing or wrong decides.
 use mathlib.Core.Path.{◌≡◌, sym, ap, ◌∙◌}
-use mathlib.Core.Bool.{Bool, true, false, false≢true, not}
+use mathlib.Core.Bool.{Bool, true, false, false≢true}
 use mathlib.Core.List.{List}
 use Prim.Native.Nat.{ℕ, zero, suc, ◌+◌, ◌-◌, ◌≤◌, ◌<◌}
 use native.Mathlib.Omega.{arith}
 use lib.Dec.{leb, ltb, eqb}
 use lib.ListN.{length, get_or}
-use borrow.Author.Tests.{lt-ltb, le-ltb, le-leb, ltb-true, ltb-false, leb-true, eqb-true, eqb-false, not-true, not-false}
+use borrow.Author.Tests.{lt-ltb, le-ltb, le-leb, ltb-true, ltb-false, leb-true, eqb-true, eqb-false}
 use Rattle.answers.specs.Refusals.{symbol}
 use Rattle.reader.specs.declared.Verdict.{Verdict}
 use Rattle.reader.specs.declared.Verdict.TheVariants.{Next, Bad}
@@ -77,14 +77,14 @@ module _ (b : List ℕ) (low high at : ℕ) where
           (λ t. simp (checked_at, t, rw (within_at, t) at e))
           (λ t. simp (checked_at, t))
 
--- what a test that is turned round tells
-pub told_right : {r told : Bool} → r ≡ told → not r ≡ false → told ≡ true
-told_right {r} e so = sym e ∙ not-false r so
+-- what a test tells of what its value equals
+pub told_right : {r told : Bool} → r ≡ told → r ≡ true → told ≡ true
+told_right e so = sym e ∙ so
 
-pub told_wrong : {r told : Bool} → r ≡ told → not r ≡ true → told ≡ false
-told_wrong {r} e so = sym e ∙ not-true r so
+pub told_wrong : {r told : Bool} → r ≡ told → r ≡ false → told ≡ false
+told_wrong e so = sym e ∙ so
 
-pub told_inside : (b : List ℕ) (low high at : ℕ) {r : Bool} → r ≡ within_at b low high at → not r ≡ false → at < length b
+pub told_inside : (b : List ℕ) (low high at : ℕ) {r : Bool} → r ≡ within_at b low high at → r ≡ true → at < length b
 told_inside b low high at e so = byte_inside b low high at (told_right e so)
 
 module _ (b : List ℕ) (T N : ℕ) where

@@ -13,9 +13,5 @@ pub mod Longest
 pub mod Telling
 pub mod Cells
 pub mod Forms
-pub mod Walking
-pub mod Tools
-pub mod Carrying
-pub mod Asking
 pub mod Theorems
 pub mod Promise

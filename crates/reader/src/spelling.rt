@@ -94,11 +94,11 @@ fn cut_off(book: &[u8], v: Verdict) -> Verdict
 }
 
 // A right side of so many symbols from `at` on.
-fn right(book: &[u8], at: usize, t: u8, n: u8, length: u8) -> Verdict
-    requires* { do ⌜ at ≤ (← ⟦book.len()⟧) ⌝ }
-    ensures { result ≡ symbols_from book.now t n length (Next at) }
+fn right(book: &[u8], at: usize, t: u8, n: u8, count: u8) -> Verdict
+    requires { at ≤ length book.now }
+    ensures { result ≡ symbols_from book.now t n count (Next at) }
 {
-    let wanted = length as usize;
+    let wanted = count as usize;
     if wanted <= book.len() - at {
         symbols(book, at, at + wanted, t, n)
     } else {

@@ -1,0 +1,63 @@
+-- The six bytes in order: the first that is missing or wrong decides.
+use mathlib.Core.Path.{sym, ◌∙◌}
+use mathlib.Core.List.{List}
+use Prim.Native.Nat.{ℕ, suc, ◌+◌}
+use native.Mathlib.Omega.{arith}
+use borrow.Author.Rules.{rules}
+use Rattle.answers.specs.Limits.{most_productions}
+use Rattle.reader.specs.declared.Verdict.{Verdict}
+use Rattle.reader.specs.Positional.{within_at}
+use Rattle.reader.proofs.Guards.{told_right, told_wrong, told_inside}
+use Rattle.reader.proofs.Heads.{Reaches, on_second, on_tokens, on_nonterminals, on_start, on_productions, first_wrong, first_right, second_wrong, second_right, third_wrong, third_right, fourth_wrong, fourth_right, fifth_wrong, fifth_right, sixth_wrong, sixth_right}
+use Rattle.reader.proofs.spelling.header.Goals as goal
+
+pub returns-then-not-is_mark : goal.returns-then-not-is_mark
+returns-then-not-is_mark c =
+    c.refused.ensures ∙ sym (first_wrong (c.args.book.now) (c.args.at) (told_wrong c.is_mark.ensures c.if-not-is_mark.true))
+
+pub returns-then-not-is_mark-2 : goal.returns-then-not-is_mark-2
+returns-then-not-is_mark-2 c =
+    c.refused-then-not-is_mark-2.ensures ∙ sym (second_wrong (c.args.book.now) (c.args.at) (first_right (c.args.book.now) (c.args.at) (told_right c.is_mark.ensures c.if-not-is_mark.false)) (told_wrong c.is_mark-2.ensures c.if-not-is_mark-2.true))
+
+pub returns-then-not-is_within : goal.returns-then-not-is_within
+returns-then-not-is_within c =
+    c.refused-then-not-is_within.ensures ∙ sym (third_wrong (c.args.book.now) (c.args.at) (second_right (c.args.book.now) (c.args.at) (first_right (c.args.book.now) (c.args.at) (told_right c.is_mark.ensures c.if-not-is_mark.false))
+    (told_right c.is_mark-2.ensures c.if-not-is_mark-2.false)) (told_wrong c.is_within.ensures c.if-not-is_within.true))
+
+pub returns-then-not-is_within-2 : goal.returns-then-not-is_within-2
+returns-then-not-is_within-2 c =
+    c.refused-then-not-is_within-2.ensures ∙ sym (fourth_wrong (c.args.book.now) (c.args.at) (third_right (c.args.book.now) (c.args.at) (second_right (c.args.book.now) (c.args.at) (first_right (c.args.book.now) (c.args.at) (told_right c.is_mark.ensures c.if-not-is_mark.false))
+    (told_right c.is_mark-2.ensures c.if-not-is_mark-2.false))
+    (told_right c.is_within.ensures c.if-not-is_within.false)) (told_wrong c.is_within-2.ensures c.if-not-is_within-2.true))
+
+pub returns-then-not-is_within-3 : goal.returns-then-not-is_within-3
+returns-then-not-is_within-3 c =
+    let n = c.byte_at in
+    let within-n = within_at (c.args.book.now) 0 n.result (c.args.at + 4) in
+    c.refused-then-not-is_within-3.ensures
+    ∙ sym
+    (fifth_wrong (c.args.book.now) (c.args.at) (fourth_right (c.args.book.now) (c.args.at) (third_right (c.args.book.now) (c.args.at) (second_right (c.args.book.now) (c.args.at) (first_right (c.args.book.now) (c.args.at) (told_right c.is_mark.ensures c.if-not-is_mark.false))
+    (told_right c.is_mark-2.ensures c.if-not-is_mark-2.false))
+    (told_right c.is_within.ensures c.if-not-is_within.false))
+    (told_right c.is_within-2.ensures c.if-not-is_within-2.false))
+    (rw n.ensures at (told_wrong {told = within-n} c.is_within-3.ensures c.if-not-is_within-3.true)))
+
+pub returns-then-not-is_within-4 : goal.returns-then-not-is_within-4
+returns-then-not-is_within-4 c =
+    c.refused-then-not-is_within-4.ensures ∙ sym (sixth_wrong (c.args.book.now) (c.args.at) (fifth_right (c.args.book.now) (c.args.at) (fourth_right (c.args.book.now) (c.args.at) (third_right (c.args.book.now) (c.args.at) (second_right (c.args.book.now) (c.args.at) (first_right (c.args.book.now) (c.args.at) (told_right c.is_mark.ensures c.if-not-is_mark.false))
+    (told_right c.is_mark-2.ensures c.if-not-is_mark-2.false))
+    (told_right c.is_within.ensures c.if-not-is_within.false))
+    (told_right c.is_within-2.ensures c.if-not-is_within-2.false))
+    (rw c.byte_at.ensures at (told_right c.is_within-3.ensures c.if-not-is_within-3.false))) (told_wrong c.is_within-4.ensures c.if-not-is_within-4.true))
+
+pub overflow_add-result : goal.overflow_add-result
+overflow_add-result c =
+    omega (arith, told_inside (c.args.book.now) 1 (suc most_productions) (c.args.at + 5) c.is_within-4.ensures c.if-not-is_within-4.false)
+
+pub returns : goal.returns
+returns c =
+    sym (sixth_right (c.args.book.now) (c.args.at) (fifth_right (c.args.book.now) (c.args.at) (fourth_right (c.args.book.now) (c.args.at) (third_right (c.args.book.now) (c.args.at) (second_right (c.args.book.now) (c.args.at) (first_right (c.args.book.now) (c.args.at) (told_right c.is_mark.ensures c.if-not-is_mark.false))
+    (told_right c.is_mark-2.ensures c.if-not-is_mark-2.false))
+    (told_right c.is_within.ensures c.if-not-is_within.false))
+    (told_right c.is_within-2.ensures c.if-not-is_within-2.false))
+    (rw c.byte_at.ensures at (told_right c.is_within-3.ensures c.if-not-is_within-3.false))) (told_right c.is_within-4.ensures c.if-not-is_within-4.false))

@@ -1,0 +1,18 @@
+-- The invariant: the bytes that are left come to what the whole comes to.
+use mathlib.Core.Path.{◌≡◌, refl, sym, ◌∙◌}
+use Prim.Native.Nat.{◌-◌, ◌≤◌}
+use borrow.Author.Tests.{not-true, not-false}
+use borrow.Author.Rules.{rules}
+use Rattle.reader.specs.declared.Verdict.TheVariants.{Next}
+use Rattle.reader.specs.Positional.{symbols_from}
+use Rattle.reader.proofs.Joined.{told_symbol}
+use Rattle.reader.proofs.Turns.{symbols_over}
+use Rattle.reader.proofs.Guards.{symbols_go, symbols_stop}
+use Rattle.reader.proofs.spelling.symbols.Given as goal
+
+abbrev pub invariant-loop-at : goal.invariant-loop-at
+invariant-loop-at l =
+    (l.at ≤ l.last) × (symbols_from l.book l.t l.n (l.last - l.at) (Next l.at) ≡ symbols_from l.book l.t l.n (l.last - l.from) (Next l.from))
+
+abbrev pub decreases-loop-at : goal.decreases-loop-at
+decreases-loop-at l = l.last - l.at
