@@ -19,20 +19,20 @@ one_more p β s l h = omega (arith, length-append s.listed (p ∷ []))
 
 module _ {right : ℕ → Form} {cell : ℕ → Column → Option ℕ} {room cells : ℕ} where
   -- one walk after another
-  pub walk_append : {y z w : List ℕ} {e f s : State} → Walk right cell room cells y e w s → Walk right cell room cells z f y e → Walk right cell room cells z f w s
+  pub walk_append : {y : List ℕ} {e : State} {z : List ℕ} {f : State} {w : List ℕ} {s : State} → Walk right cell room cells y e w s → Walk right cell room cells z f y e → Walk right cell room cells z f w s
   walk_append here k = k
   walk_append (match e r) k = match e (walk_append r k)
   walk_append (expand e c h m r) k = expand e c h m (walk_append r k)
 
   -- a walk keeps to the list's cells
-  pub walk_lists : {z w : List ℕ} {e s : State} → Walk right cell room cells z e w s → length s.listed ≤ cells → length e.listed ≤ cells
+  pub walk_lists : {z : List ℕ} {e : State} {w : List ℕ} {s : State} → Walk right cell room cells z e w s → length s.listed ≤ cells → length e.listed ≤ cells
   unfolding popped replaced
   walk_lists here h = h
   walk_lists (match e r) h = walk_lists r h
   walk_lists (expand {p = p} {s = s} e c k m r) h = walk_lists r (omega (arith, length-append s.listed (p ∷ [])))
 
   -- a walk that halts gives the outcome
-  pub walk_runs : {z w : List ℕ} {e s : State} {o : Offered} → Walk right cell room cells z e w s → length s.listed ≤ cells → Halt right cell room cells (front z) e o → run_from right cell room cells w s ≡ o
+  pub walk_runs : {z : List ℕ} {e : State} {w : List ℕ} {s : State} {o : Offered} → Walk right cell room cells z e w s → length s.listed ≤ cells → Halt right cell room cells (front z) e o → run_from right cell room cells w s ≡ o
   unfolding popped replaced
   walk_runs {z} here h k = run_halt right cell room cells z h k
   walk_runs (match {w = w} {s = s} e r) h k = run_match right cell room cells w s e ∙ walk_runs r h k

@@ -47,24 +47,24 @@ grown_use p β {s} g = record { new = p ∷ g.new; lists = g.lists ∙ append_as
 
 module _ {right : ℕ → Form} {cell : ℕ → Column → Option ℕ} {room cells : ℕ} where
   -- a walk reads k tokens and matches them
-  pub walk_grown : {z w : List ℕ} {e s : State} → Walk right cell room cells z e w s → (k : ℕ) × (length w ≡ k + length z) × Grown s e k
+  pub walk_grown : {z : List ℕ} {e : State} {w : List ℕ} {s : State} → Walk right cell room cells z e w s → (k : ℕ) × (length w ≡ k + length z) × Grown s e k
   walk_grown {e = e} here = (0, omega arith, grown_none e)
   walk_grown (match {α = α} f r) = let (k, h, g) = walk_grown r in (suc k, omega arith, grown_match α g)
   walk_grown (expand {p = p} {α = α} f c l m r) = let (k, h, g) = walk_grown r in (k, h, grown_use p (right p ++ α) g)
 
-  walk_stack : {z w : List ℕ} {e s : State} → Walk right cell room cells z e w s → length s.stack ≤ s.height → length e.stack ≤ e.height
+  walk_stack : {z : List ℕ} {e : State} {w : List ℕ} {s : State} → Walk right cell room cells z e w s → length s.stack ≤ s.height → length e.stack ≤ e.height
   unfolding popped replaced
   walk_stack here h = h
   walk_stack (match f r) h = walk_stack r (omega (arith, ap length f))
   walk_stack (expand f c l m r) h = walk_stack r (omega arith)
 
-  walk_height : {z w : List ℕ} {e s : State} → Walk right cell room cells z e w s → s.height ≤ room → e.height ≤ room
+  walk_height : {z : List ℕ} {e : State} {w : List ℕ} {s : State} → Walk right cell room cells z e w s → s.height ≤ room → e.height ≤ room
   unfolding popped replaced
   walk_height here h = h
   walk_height (match f r) h = walk_height r h
   walk_height (expand f c l m r) h = walk_height r (omega arith)
 
-  pub walk_counted : {z w : List ℕ} {e s : State} → Walk right cell room cells z e w s → Counted room cells s → Counted room cells e
+  pub walk_counted : {z : List ℕ} {e : State} {w : List ℕ} {s : State} → Walk right cell room cells z e w s → Counted room cells s → Counted room cells e
   walk_counted {s = s} r c =
       let (k, h, g) = walk_grown r in
       record {

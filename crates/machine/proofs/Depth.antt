@@ -48,7 +48,7 @@ module _ {right : ℕ → Form} {cell : ℕ → Column → Option ℕ} {much roo
   halt_within (stack_full e f l m) n = stack_full e f l (omega (arith, n _ refl))
 
   -- so does one that would get higher than the room
-  walk_cut : {z w : List ℕ} {e s : State} → Walk right cell much cells z e w s → s.height ≤ room → room < e.height → CutShort right cell room cells w s e
+  walk_cut : {z : List ℕ} {e : State} {w : List ℕ} {s : State} → Walk right cell much cells z e w s → s.height ≤ room → room < e.height → CutShort right cell room cells w s e
   unfolding popped replaced
   walk_cut here h k = absurd (omega arith)
   walk_cut (match f r) h k =

@@ -9,14 +9,14 @@ use Rattle.grammar.specs.declared.Symbol.TheVariants.{Nonterminal}
 use Rattle.grammar.specs.Grammar.{Form, Grammar, Column, Rule}
 use Rattle.grammar.specs.Machine.{front, Run, Stopped, Halted}
 use Rattle.grammar.specs.Machine as textbook
-use Rattle.machine.specs.Machine.{State, Offered, stopped, begun, popped, replaced, run_from}
+use Rattle.machine.specs.Machine.{State, Offered, begun, popped, replaced, run_from}
 use Rattle.machine.specs.Room.{right_of}
 use Rattle.machine.proofs.Walk.{wanted_end, wanted_token, wanted_row, Decided, accepted, refused, Walk, here, match, expand, Halt, accepts, left_over, unmatched, vacant, list_full, stack_full, Walked}
 use Rattle.machine.proofs.Agreement.{walk_runs, ran}
 use Rattle.machine.proofs.Relation.{right_of_lem}
 
 module _ {right : ℕ → Form} {cell : ℕ → Column → Option ℕ} (room cells : ℕ) {less fewer : ℕ} (h : less ≤ room) (k : fewer ≤ cells) where
-  walk_more : {z w : List ℕ} {e s : State} → Walk right cell less fewer z e w s → Walk right cell room cells z e w s
+  walk_more : {z : List ℕ} {e : State} {w : List ℕ} {s : State} → Walk right cell less fewer z e w s → Walk right cell room cells z e w s
   walk_more here = here
   walk_more (match f r) = match f (walk_more r)
   walk_more (expand {s = s} f c l m r) = expand {s = s} f c (omega arith) (omega arith) (walk_more r)
@@ -37,22 +37,22 @@ run_more right cell less fewer room cells h k w s l q =
 
 -- so many list and stack cells are enough for what the textbook's machine does from α to β
 record Suffices (g : Grammar) (cell : ℕ → Column → Option ℕ) (z : List ℕ) (α : Form) (u : List ℕ) (β : Form) : Type 0 where
-  list_cells_lem : ℕ
-  stack_cells_lem : ℕ
-  walks : (room cells : ℕ) (s : State) → s.stack ≡ α → length s.listed + list_cells_lem ≤ cells → stack_cells_lem ≤ room → (e : State) × Walk (right_of g) cell room cells z e (u ++ z) s × (e.stack ≡ β)
+  list_cells : ℕ
+  stack_cells : ℕ
+  walks : (room cells : ℕ) (s : State) → s.stack ≡ α → length s.listed + list_cells ≤ cells → stack_cells ≤ room → (e : State) × Walk (right_of g) cell room cells z e (u ++ z) s × (e.stack ≡ β)
 
 -- the string is decided wherever there are so many list and stack cells
 pub record RoomEnough (g : Grammar) (cell : ℕ → Column → Option ℕ) (w : List ℕ) : Type 0 where
-  pub list_cells_lem : ℕ
-  pub stack_cells_lem : ℕ
-  pub decided : (room cells : ℕ) → list_cells_lem ≤ cells → stack_cells_lem ≤ room → Decided (run_from (right_of g) cell room cells w (begun g.start))
+  pub list_cells : ℕ
+  pub stack_cells : ℕ
+  pub decided : (room cells : ℕ) → list_cells ≤ cells → stack_cells ≤ room → Decided (run_from (right_of g) cell room cells w (begun g.start))
 
 module _ {g : Grammar} {cell : ℕ → Column → Option ℕ} where
   suffices_use : {z : List ℕ} (α : Form) {β γ : Form} {u : List ℕ} {p A : ℕ} → cell A (front (u ++ z)) ≡ some p → Rule g p A γ → Suffices g cell z (γ ++ α) u β → Suffices g cell z (Nonterminal A ∷ α) u β
   unfolding replaced
-  suffices_use {z} α {β} {γ} {u} {p} {A} c r n = record { list_cells_lem = suc n.list_cells_lem; stack_cells_lem = max n.stack_cells_lem (length (γ ++ α)); walks = walks }
+  suffices_use {z} α {β} {γ} {u} {p} {A} c r n = record { list_cells = suc n.list_cells; stack_cells = max n.stack_cells (length (γ ++ α)); walks = walks }
     where
-      walks : (room cells : ℕ) (s : State) → s.stack ≡ Nonterminal A ∷ α → length s.listed + suc n.list_cells_lem ≤ cells → max n.stack_cells_lem (length (γ ++ α)) ≤ room → (e : State) × Walk (right_of g) cell room cells z e (u ++ z) s × (e.stack ≡ β)
+      walks : (room cells : ℕ) (s : State) → s.stack ≡ Nonterminal A ∷ α → length s.listed + suc n.list_cells ≤ cells → max n.stack_cells (length (γ ++ α)) ≤ room → (e : State) × Walk (right_of g) cell room cells z e (u ++ z) s × (e.stack ≡ β)
       walks room cells s f h m =
           let form : right_of g p ++ α ≡ γ ++ α = ap (λ (x : Form). x ++ α) (right_of_lem r) in
           let (e, k, q) = n.walks room cells (replaced p (right_of g p ++ α) s) form (omega (arith, length-append s.listed (p ∷ []))) (omega arith) in
@@ -60,10 +60,10 @@ module _ {g : Grammar} {cell : ℕ → Column → Option ℕ} where
 
   run_suffices : {z : List ℕ} {α β : Form} {u ps : List ℕ} → Run g cell z α u ps β → Suffices g cell z α u β
   unfolding popped
-  run_suffices textbook.here = record { list_cells_lem = 0; stack_cells_lem = 0; walks = λ room cells s f h m. (s, here, f) }
+  run_suffices textbook.here = record { list_cells = 0; stack_cells = 0; walks = λ room cells s f h m. (s, here, f) }
   run_suffices (textbook.match {α = α} r) =
       let n = run_suffices r in
-      record { list_cells_lem = n.list_cells_lem; stack_cells_lem = n.stack_cells_lem; walks = λ room cells s f h m. let (e, k, q) = n.walks room cells (popped α s) refl h m in (e, match f k, q) }
+      record { list_cells = n.list_cells; stack_cells = n.stack_cells; walks = λ room cells s f h m. let (e, k, q) = n.walks room cells (popped α s) refl h m in (e, match f k, q) }
   run_suffices (textbook.expand {α = α} c r k) = suffices_use α c r (run_suffices k)
 
   stopped_halts : {room cells : ℕ} {z : List ℕ} {β : Form} → Stopped g cell β z → (e : State) → e.stack ≡ β → (o : Offered) × Halt (right_of g) cell room cells (front z) e o × Decided o
@@ -73,9 +73,9 @@ module _ {g : Grammar} {cell : ℕ → Column → Option ℕ} where
 
   decided_by : {w z u : List ℕ} {β : Form} → w ≡ u ++ z → Suffices g cell z (Nonterminal g.start ∷ []) u β → ((room cells : ℕ) (e : State) → e.stack ≡ β → (o : Offered) × Halt (right_of g) cell room cells (front z) e o × Decided o) → RoomEnough g cell w
   unfolding begun
-  decided_by {w} f n Halts-at = record { list_cells_lem = n.list_cells_lem; stack_cells_lem = n.stack_cells_lem; decided = decided }
+  decided_by {w} f n Halts-at = record { list_cells = n.list_cells; stack_cells = n.stack_cells; decided = decided }
     where
-      decided : (room cells : ℕ) → n.list_cells_lem ≤ cells → n.stack_cells_lem ≤ room → Decided (run_from (right_of g) cell room cells w (begun g.start))
+      decided : (room cells : ℕ) → n.list_cells ≤ cells → n.stack_cells ≤ room → Decided (run_from (right_of g) cell room cells w (begun g.start))
       decided room cells h m =
           let (e, k, q) = n.walks room cells (begun g.start) refl (omega arith) m in
           let (o, halt, d) = Halts-at room cells e q in

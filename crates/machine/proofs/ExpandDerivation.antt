@@ -12,7 +12,7 @@ use Rattle.machine.specs.Expansion.{Course, wrote, applied}
 use Rattle.machine.specs.declared.Upshot.{Upshot}
 use Rattle.machine.specs.declared.Upshot.TheVariants.{Finished}
 use Rattle.machine.specs.Room.{right_of, is_of, peak}
-use Rattle.machine.proofs.ExpandTrace.{Expands, finished, misfit, no_output, no_stack, write, apply}
+use Rattle.machine.proofs.ExpandTrace.{Expands, finished, left_over, too_short, misfit, no_output, no_stack, write, apply}
 use Rattle.machine.proofs.ExpandPeak.{Moved, moved}
 use Rattle.machine.proofs.Peak.{peak_form}
 
@@ -75,6 +75,8 @@ module _ {g : Grammar} where
     pub room_complete : {ps w : List ℕ} {α : Form} {s s' : Course} {e : Upshot} → Expands (is_of g) (right_of g) room output ps α s e s' → (d : Leftmost g α ps w) → peak d ≤ room → length s.written + length w ≤ output → e ≡ Finished
     unfolding wrote applied peak
     room_complete finished done h k = refl
+    room_complete left_over d h k = elim d [ ]
+    room_complete too_short d h k = elim d [ ]
     room_complete (misfit f) (expand l d) h k = absurd (misfit_no_rule f l)
     room_complete (no_output f) (shift d) h k = absurd (omega arith)
     room_complete (no_stack {α = α} f b) (expand l d) h k =

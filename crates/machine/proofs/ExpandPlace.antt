@@ -87,9 +87,12 @@ module _ {g : Grammar} where
 
   -- from that stack no derivation goes on with the first number of the rest, nor with the whole rest
   misfit_next : {α : Form} {p : ℕ} {rs qs v : List ℕ} → NoFit g α (p ∷ rs) → Leftmost g α (p ∷ qs) v → ⊥
+  misfit_next no_stack d = elim d [ ]
   misfit_next (no_rule f) (expand r d) = misfit_no_rule f r
 
   misfit_rest : {α : Form} {rs v : List ℕ} → NoFit g α rs → Leftmost g α rs v → ⊥
+  misfit_rest no_stack d = elim d [ ]
+  misfit_rest no_rest d = elim d [ ]
   misfit_rest (no_rule f) (expand r d) = misfit_no_rule f r
 
   module _ {ps : List ℕ} {α : Form} {s s' : Course} (k : Stuck g ps α s s') where

@@ -13,7 +13,7 @@ use Rattle.machine.specs.declared.Upshot.{Upshot}
 use Rattle.machine.specs.declared.Upshot.TheVariants.{FullStack, FullOutput}
 use Rattle.machine.specs.Room.{right_of, is_of}
 use Rattle.machine.specs.Stopping.{Midway, Lacks, lacks_stack, lacks_output}
-use Rattle.machine.proofs.ExpandTrace.{Expands, no_output, no_stack, write, apply, traced}
+use Rattle.machine.proofs.ExpandTrace.{Expands, finished, left_over, too_short, misfit, no_output, no_stack, write, apply, traced}
 use Rattle.machine.proofs.ExpandPasses.{Passes, stay, use_rule}
 use Rattle.machine.proofs.ExpandPasses as beginning
 use Rattle.machine.proofs.ExpandDerivation.{fits_rule}
@@ -67,6 +67,10 @@ module _ {g : Grammar} {cells output : ℕ} where
       → length s.written ≤ output
       → Stops g cells output ps α s s' e
   unfolding wrote applied
+  stops finished w h = elim w [ ]
+  stops left_over w h = elim w [ ]
+  stops too_short w h = elim w [ ]
+  stops (misfit f) w h = elim w [ ]
   stops (no_output full) w h = at_once (lacks_output (omega arith))
   stops (no_stack f short) w h = at_once (lacks_stack short)
   stops (write {t = t} {s = s} more r) w h =

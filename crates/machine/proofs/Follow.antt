@@ -49,7 +49,7 @@ module _ {g : Grammar} {cell : ℕ → Column → Option ℕ} (exact : Exact g c
       subst (λ (q : ℕ). Expands d A α q) same k
 
   -- the machine follows the derivation
-  pub follow : {room cells : ℕ} {z w : List ℕ} {e s : State} → Walk (right_of g) cell room cells z e w s → (x : Form) → Sentential g (x ++ s.stack) → {ps : List ℕ} (d : Leftmost g s.stack ps w) → Followed g z s e d
+  pub follow : {room cells : ℕ} {z : List ℕ} {e : State} {w : List ℕ} {s : State} → Walk (right_of g) cell room cells z e w s → (x : Form) → Sentential g (x ++ s.stack) → {ps : List ℕ} (d : Leftmost g s.stack ps w) → Followed g z s e d
   unfolding popped replaced
   follow here x t {ps} d = record { rest = ps; lists = refl; after = d; peaks = λ h. refl; read = x; ahead = t }
   follow (match {t = b} {α = α} {w = w} {s = s} f r) x t d =

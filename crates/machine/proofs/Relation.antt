@@ -52,7 +52,7 @@ module _ {g : Grammar} {cell : ℕ → Column → Option ℕ} where
           rw (← here, right_of_lem k.rule) k.rule
       go A c p (textbook.vacant none_claims) e = let bad : ◌≡◌ {A = ℕ} 0 1 = cc in absurd (omega arith)
 
-  chain_from : (x : List ℕ) {z : List ℕ} {α β : Form} {u ps : List ℕ} → Run g cell z α u ps β → LeftmostSteps g (spelled x ++ α) ps (spelled x ++ (spelled u ++ β))
+  chain_from : {z : List ℕ} (x : List ℕ) {α β : Form} {u ps : List ℕ} → Run g cell z α u ps β → LeftmostSteps g (spelled x ++ α) ps (spelled x ++ (spelled u ++ β))
   chain_from x textbook-machine.here = stay
   chain_from x (textbook-machine.match {t = t} r) = simp (spelled_append, append_assoc) at (chain_from (x ++ (t ∷ [])) r)
   chain_from x (textbook-machine.expand {α = α} c k r) = next (leftmost x α k) (chain_from x r)
@@ -71,7 +71,7 @@ module _ {g : Grammar} {cell : ℕ → Column → Option ℕ} where
 
   module _ (rows : Rows g cell) {room cells : ℕ} where
     -- each move of a walk is a move of the textbook's machine
-    pub walk_reads : {z w : List ℕ} {e s : State} → Walk (right_of g) cell room cells z e w s → Reads g cell w s z e
+    pub walk_reads : {z : List ℕ} {e : State} {w : List ℕ} {s : State} → Walk (right_of g) cell room cells z e w s → Reads g cell w s z e
     unfolding popped replaced
     walk_reads {e = e} here = record { read = []; new = []; string = refl; lists = sym (append-nil e.listed); matches = omega arith; run = textbook-machine.here }
     walk_reads {z} {e = e} (match {t = t} f r) =

@@ -29,7 +29,7 @@ data Ahead (g : Grammar) (cell : ℕ → Column → Option ℕ) (bound : ℕ) : 
 
 module _ {g : Grammar} {cell : ℕ → Column → Option ℕ} where
   -- a match leaves the bound for each later token
-  ahead_match : {bound t k : ℕ} {w : List ℕ} {s : State} → Ahead g cell bound (t ∷ w) s k → bound * length w ≤ k
+  ahead_match : {bound t : ℕ} {w : List ℕ} {s : State} {k : ℕ} → Ahead g cell bound (t ∷ w) s k → bound * length w ≤ k
   ahead_match {bound} {w = w} whatever = omega (arith, mul-suc bound (length w))
   ahead_match (led e l) = omega arith
 
@@ -44,7 +44,7 @@ module _ {g : Grammar} {cell : ℕ → Column → Option ℕ} where
 
   module _ (exact : Exact g cell) (full : NoEmptyRight g) {bound : ℕ} (few : (t : ℕ) (x : Symbol) (k : ℕ) → Leads g cell t x k → k ≤ bound) where
     -- so a production that is used is one of those ahead
-    ahead_use : {p A k : ℕ} {w : List ℕ} {s : State} {α : Form} → Ahead g cell bound w s k → s.stack ≡ Nonterminal A ∷ α → cell A (front w) ≡ some p
+    ahead_use : {p A : ℕ} {w : List ℕ} {s : State} {k : ℕ} {α : Form} → Ahead g cell bound w s k → s.stack ≡ Nonterminal A ∷ α → cell A (front w) ≡ some p
         → (j : ℕ) × (suc j ≤ k) × Ahead g cell bound w (replaced p (right_of g p ++ α) s) j
     ahead_use {w = []} whatever e c = absurd (end_vacant exact full c)
     ahead_use {A = A} {w = t ∷ w} {s = s} {α = α} whatever e c =
@@ -57,7 +57,7 @@ module _ {g : Grammar} {cell : ℕ → Column → Option ℕ} where
 
     module _ {room cells : ℕ} where
       -- what a walk lists and what is still ahead at its end is no more than what was ahead
-      walk_ahead : {z w : List ℕ} {e s : State} → Walk (right_of g) cell room cells z e w s → {k : ℕ} → Ahead g cell bound w s k
+      walk_ahead : {z : List ℕ} {e : State} {w : List ℕ} {s : State} → Walk (right_of g) cell room cells z e w s → {k : ℕ} → Ahead g cell bound w s k
           → (j : ℕ) × Ahead g cell bound z e j × (length e.listed + j ≤ length s.listed + k)
       unfolding popped replaced
       walk_ahead here {k} a = (k, a, omega arith)
@@ -75,7 +75,7 @@ module _ {g : Grammar} {cell : ℕ → Column → Option ℕ} where
     use_adds {p} {A} {c} {α = α} e f = omega (arith, ap length e, length-append (right_of g p) α, short p A (right_of g p) ((exact_rows exact).rows A c p f))
 
     -- the stack is at most 15 cells higher for each production listed
-    walk_low : {room cells : ℕ} {z w : List ℕ} {e s : State} → Walk (right_of g) cell room cells z e w s → length s.stack ≤ s.height → s.height ≤ 1 + 15 * length s.listed → e.height ≤ 1 + 15 * length e.listed
+    walk_low : {room cells : ℕ} {z : List ℕ} {e : State} {w : List ℕ} {s : State} → Walk (right_of g) cell room cells z e w s → length s.stack ≤ s.height → s.height ≤ 1 + 15 * length s.listed → e.height ≤ 1 + 15 * length e.listed
     unfolding popped replaced
     walk_low here h k = k
     walk_low (match f r) h k = walk_low r (omega (arith, ap length f)) k

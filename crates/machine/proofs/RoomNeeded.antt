@@ -16,18 +16,18 @@ use Rattle.machine.proofs.Count.{Counted, walk_grown, halt_final}
 use Rattle.machine.proofs.RunTheorems.{run_of, run_more, run_steps, run_halts}
 
 module _ {right : ℕ → Form} {cell : ℕ → Column → Option ℕ} {much many : ℕ} where
-  walk_higher : {z w : List ℕ} {e s : State} → Walk right cell much many z e w s → s.height ≤ e.height
+  walk_higher : {z : List ℕ} {e : State} {w : List ℕ} {s : State} → Walk right cell much many z e w s → s.height ≤ e.height
   unfolding popped replaced
   walk_higher here = omega arith
   walk_higher (match f r) = walk_higher r
   walk_higher (expand f c l m r) = omega (arith, walk_higher r)
 
-  walk_longer : {z w : List ℕ} {e s : State} → Walk right cell much many z e w s → length s.listed ≤ length e.listed
+  walk_longer : {z : List ℕ} {e : State} {w : List ℕ} {s : State} → Walk right cell much many z e w s → length s.listed ≤ length e.listed
   walk_longer {s = s} r = let (k, h, g) = walk_grown r in omega (arith, ap length g.lists, length-append s.listed g.new)
 
   module _ {room cells : ℕ} where
     -- a walk needs as many list cells as it lists, and as much stack as it gets high
-    pub walk_within : {z w : List ℕ} {e s : State} → length e.listed ≤ cells → e.height ≤ room → Walk right cell much many z e w s → Walk right cell room cells z e w s
+    pub walk_within : {z : List ℕ} {e : State} {w : List ℕ} {s : State} → length e.listed ≤ cells → e.height ≤ room → Walk right cell much many z e w s → Walk right cell room cells z e w s
     unfolding popped replaced
     walk_within h k here = here
     walk_within h k (match f r) = match f (walk_within h k r)
@@ -62,10 +62,10 @@ unfolding begun
 room_needed {g} {cell} exact w = record { outcome = outcome; decided = decided; tall = run_tall (right_of g) cell much many g.start w; reached = reached; needed = needed }
   where
     much : ℕ
-    much = (run_halts exact w).stack_cells_lem
+    much = (run_halts exact w).stack_cells
 
     many : ℕ
-    many = (run_halts exact w).list_cells_lem
+    many = (run_halts exact w).list_cells
 
     outcome : Offered
     outcome = run_of g cell much many w

@@ -2,7 +2,6 @@
 // and definitions both name is declared here.
 #![tactic(auto)]
 
-
 // Why a run stops: list or stack is too short, or syntax: it wants the end mark, that token, or a filled column of that
 // row.
 #[derive(Clone, Copy)]

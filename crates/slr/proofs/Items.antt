@@ -104,6 +104,6 @@ module _ (g : Grammar) where
   along_pulled [] (given e) = let bad : ◌≡◌ {A = ℕ} 0 1 = cc in absurd (omega arith)
   along_pulled (x ∷ γ) {p} {k} (given h) = go h.advances h.inside
     where
-      go : {i : Item} → Advances g i x (dotted p (suc k)) → Along g γ i → Pulled g (x ∷ γ) p k
-      go (over_symbol r e) within =
-          record { symbol = x; before = γ; path = refl; inside = within; advances = over_symbol r e }
+      go : {i : Item} {y : Symbol} → Advances g i y (dotted p (suc k)) → Along g γ i → Pulled g (y ∷ γ) p k
+      go (over_symbol {x = y} r e) within =
+          record { symbol = y; before = γ; path = refl; inside = within; advances = over_symbol r e }

@@ -7,4 +7,4 @@ pub use Rattle.text.proofs.DecimalDigits.{decimal_numeral, decimal_unique, decim
 pub use Rattle.text.proofs.DecimalDigits.{decimal_length_word}
 pub use Rattle.text.proofs.HexadecimalDigits.{hexadecimal_length, hexadecimal_digits, hexadecimal_value}
 pub use Rattle.text.proofs.HexadecimalDigits.{hexadecimal_unique}
-pub use Rattle.text.proofs.ReadingDigits.{digit_is, is_digit, number_written}
+pub use Rattle.text.proofs.ReadingDigits.{digit_is, is_digit_lem, number_written}

@@ -3,17 +3,16 @@ use mathlib.Core.Path.{◌≡◌, refl, sym, ap, ◌∙◌}
 use mathlib.Core.Bool.{Bool, true, false, ◌&&◌, true≢false}
 use mathlib.Core.List.{List, [], ◌∷◌, ◌++◌}
 use Prim.Native.Nat.{ℕ, suc, ◌+◌, ◌-◌, ◌*◌, ◌^◌, ◌≤◌, ◌<◌, min}
-use native.Mathlib.Nat.{pow-zero, pow-suc, zero-add}
+use native.Mathlib.Nat.{pow-zero, pow-suc}
 use native.Mathlib.Decide.{dec_lt}
 use native.Mathlib.Omega.{arith}
 use borrow.Author.Tests.{lt-ltb, le-leb, lt-leb, leb-true, ltb-true}
 use lib.Dec.{leb, ltb}
 use lib.ListN.{length, get_or, drop, get_or-eq_default, drop_of_length-le}
-use lib.Seq.{drop-cons, drop-append_seam}
+use lib.Seq.{drop-cons}
 use Rattle.text.specs.Text.{decimal}
 use Rattle.text.specs.Numeral.{DecimalDigit, Each, digit_value, value}
 use Rattle.text.specs.Reading.{is_digit, leading_digits, most_read, number_at}
-use Rattle.text.specs.declared.Number.{Number}
 use Rattle.text.proofs.Value.{digit_value_low}
 use Rattle.text.proofs.DecimalDigits.{decimal_value, decimal_digits}
 

@@ -1,6 +1,5 @@
 -- `text::digit` meets its contract: below ten and from ten on.
 use mathlib.Core.Path.{sym}
-use borrow.Author.Rules.{rules}
 use Rattle.text.proofs.Value.{digit_low, digit_high}
 use Rattle.text.proofs.digit.Goals as goal
 

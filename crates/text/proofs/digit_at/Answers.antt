@@ -1,5 +1,4 @@
 -- Past the end there is no digit.
-use borrow.Author.Rules.{rules}
 use native.Mathlib.Omega.{arith}
 use Rattle.text.proofs.ReadingDigits.{digit_past}
 use Rattle.text.proofs.digit_at.Goals as goal

@@ -1,10 +1,9 @@
-use borrow.Author.Rules.{rules}
 use mathlib.Core.Path.{◌≡◌}
 use mathlib.Core.List.{[], ◌∷◌}
-use Prim.Native.Nat.{ℕ, ◌-◌, ◌*◌, ◌/◌, ◌%◌, ◌^◌, ◌≤◌}
+use Prim.Native.Nat.{ℕ, ◌-◌, ◌*◌, ◌/◌, ◌%◌, ◌^◌}
 use native.Mathlib.Omega.{arith}
 use Rattle.text.specs.Text.{digit, hex_digits, hexadecimal}
-use Rattle.text.proofs.Writing.{Completes, completes_start, completes_more, completes_all, put_length}
+use Rattle.text.proofs.Writing.{completes_start, completes_more, completes_all, put_length}
 use Rattle.text.proofs.HexadecimalDigits.{hex_digits_next}
 use Rattle.text.proofs.hexadecimal.Goals as goal
 

@@ -1,12 +1,7 @@
 -- `text::hexadecimal` meets its contract: the digits that are left, written from here on, make the whole.
-use borrow.Author.Rules.{rules}
-use mathlib.Core.Path.{◌≡◌}
-use mathlib.Core.List.{[], ◌∷◌}
-use Prim.Native.Nat.{ℕ, ◌-◌, ◌*◌, ◌/◌, ◌%◌, ◌^◌, ◌≤◌}
-use native.Mathlib.Omega.{arith}
-use Rattle.text.specs.Text.{digit, hex_digits, hexadecimal}
-use Rattle.text.proofs.Writing.{Completes, completes_start, completes_more, completes_all, put_length}
-use Rattle.text.proofs.HexadecimalDigits.{hex_digits_next}
+use Prim.Native.Nat.{◌≤◌}
+use Rattle.text.specs.Text.{hex_digits, hexadecimal}
+use Rattle.text.proofs.Writing.{Completes}
 use Rattle.text.proofs.hexadecimal.Given as goal
 
 abbrev pub invariant-loop-left : goal.invariant-loop-left

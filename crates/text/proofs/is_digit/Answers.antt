@@ -1,5 +1,4 @@
 -- Below '0' there is no digit; from there on a digit is below ':'.
-use borrow.Author.Rules.{rules}
 use Rattle.text.proofs.ReadingDigits.{digit_below, digit_from}
 use Rattle.text.proofs.is_digit.Goals as goal
 

@@ -1,5 +1,4 @@
 -- `text::put` meets its contract: with room the byte is stored, without it nothing changes.
-use borrow.Author.Rules.{rules}
 use mathlib.Core.List.{[], ◌∷◌}
 use Rattle.text.proofs.Writing.{put_past}
 use Rattle.text.proofs.put.Goals as goal

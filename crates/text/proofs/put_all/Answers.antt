@@ -1,11 +1,10 @@
-use borrow.Author.Rules.{rules}
 use mathlib.Core.List.{List, [], ◌∷◌}
-use Prim.Native.Nat.{ℕ, ◌+◌, ◌-◌, ◌≤◌}
+use Prim.Native.Nat.{ℕ, ◌+◌}
 use native.Mathlib.Numerals.{add-one}
 use native.Mathlib.Omega.{arith}
-use lib.ListN.{length, drop, get_or, drop_of_length-le}
+use lib.ListN.{drop, get_or, drop_of_length-le}
 use lib.Seq.{drop-cons}
-use Rattle.text.proofs.Writing.{Completes, completes_start, completes_more, completes_all, put_length}
+use Rattle.text.proofs.Writing.{completes_start, completes_more, completes_all, put_length}
 use Rattle.text.proofs.put_all.Goals as goal
 
 pub loop-i-init : goal.loop-i-init

@@ -1,12 +1,12 @@
 use borrow.Author.Rules.{rules}
 use mathlib.Core.Path.{◌≡◌, sym, ◌∙◌}
 use mathlib.Core.Bool.{true}
-use Prim.Native.Nat.{◌-◌, ◌<◌}
+use Prim.Native.Nat.{◌<◌}
 use native.Mathlib.Omega.{arith}
 use lib.ListN.{length, get_or}
 use Rattle.text.specs.Reading.{is_digit}
 use Rattle.text.specs.Numeral.{DecimalDigit}
-use Rattle.text.proofs.ReadingDigits.{digit_within, digit_is, Underway, underway_start, underway_more, underway_end}
+use Rattle.text.proofs.ReadingDigits.{digit_within, digit_is, underway_start, underway_more, underway_end}
 use Rattle.text.proofs.read_number.Goals as goal
 use Rattle.text.proofs.read_number.Goals.{In-loop-value}
 
