@@ -72,6 +72,7 @@ module _ {g : Grammar} where
     first_family_closed {fs} c = record { closed = λ {p} {A} {β} rule {c = d} j. go p A β rule d j }
       where
         end_proper : (d : Column) → End d → Proper g d
+        end_proper (token _) x'' = elim x'' [ ]
         end_proper endmark ended = the_end_mark
 
         bits_proper : ProperFamily g (Bits g merged fs)

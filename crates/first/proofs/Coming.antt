@@ -72,6 +72,7 @@ columned_united {K = K} {L = L} s t = exactly_alike (λ k. (λ a. forth a, λ a.
     back {k} a = go a.member a.place a.in_set
       where
         go : (m : Member) → place_of m ≡ k → Columned (λ c. K c ⊎ L c) m → At (Columned K) k ⊎ At (Columned L) k
+        go empty e x3 = elim x3 [ ]
         go (column c) e (columned (inl h)) = inl (record { member = column c; place = e; in_set = columned h })
         go (column c) e (columned (inr h)) = inr (record { member = column c; place = e; in_set = columned h })
 
@@ -82,6 +83,7 @@ end_mark_covers : Covers column End (only end_mark)
 end_mark_covers = record { covered = go }
   where
     go : (c : Column) → End c → member (place_of (column c)) (only end_mark) ≡ true
+    go (token _) x'' = elim x'' [ ]
     go endmark ended = only_there end_mark
 
 module _ {g : Grammar} (limits : Limits g) {fs : List ℕ} (first : FirstAt g fs) where
@@ -117,6 +119,7 @@ module _ {g : Grammar} (limits : Limits g) {fs : List ℕ} (first : FirstAt g fs
           go endmark e h = absurd (other (sym e))
 
       kept : (m : Member) {k : ℕ} → place_of m ≡ k → Columned (OwnToken g A) m → member k (removed empty_string (get_or fs A 0)) ≡ true
+      kept empty {k = k} e x'' = elim x'' [ ]
       kept (column (token t)) {k} e (columned (own_token h)) =
           let known = first_known limits.well_formed (each (known_nonterminal below) nothing) h in
           removed_keep k empty_string (get_or fs A 0) ((first.each A below).complete k (record { member = column (token t); place = e; in_set = h })) (λ same. omega (arith, limits.tokens_fit))
@@ -127,6 +130,7 @@ module _ {g : Grammar} (limits : Limits g) {fs : List ℕ} (first : FirstAt g fs
   seen_none_is = exactly_none width (λ k a. empty_list a.member a.in_set)
     where
       empty_list : (m : Member) → Columned (Seen g []) m → ⊥
+      empty_list empty x' = elim x' [ ]
       empty_list (column c) (columned h) = elim h [ ]
 
   pub seen_more_is : (ps : List ℕ) {x p A : ℕ} {β : Form} → Rule g p A β → IsSet x (Columned (Seen g ps)) → IsSet (united x (removed empty_string (get_or fs A 0))) (Columned (Seen g (ps ++ (p ∷ []))))

@@ -55,4 +55,5 @@ pub end_covers : Covers merged End (only empty_string)
 end_covers = record { covered = go }
   where
     go : (c : Column) → End c → member (place_of (merged c)) (only empty_string) ≡ true
+    go (token _) x'' = elim x'' [ ]
     go endmark ended = only_there empty_string

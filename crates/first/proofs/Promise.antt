@@ -20,7 +20,7 @@ pub use Rattle.first.proofs.Rounds.{Fits, Refines, Round, fits_none, round_last,
 pub use Rattle.first.proofs.Rounds.{stored_fits}
 pub use Rattle.first.proofs.Rounds.{united_at_fits}
 pub use Rattle.first.proofs.Joins.{Covers, Reason, Reasons, only_one, only_there, trail_reasons}
-pub use Rattle.first.proofs.Known.{Proper, below, end_mark, proper_token, first_known, follow_known}
+pub use Rattle.first.proofs.Known.{Proper, below, the_end_mark, proper_token, first_known, follow_known}
 pub use Rattle.first.proofs.Known.{lookahead_proper, claims_row, claims_proper}
 pub use Rattle.first.proofs.OfBook.{OfBook, of_book_unique, of_grammar, of_refusal}
 pub use Rattle.first.proofs.Unique.{family_unique, sets_unique}

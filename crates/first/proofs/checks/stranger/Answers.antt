@@ -1,0 +1,24 @@
+use Prim.Native.Nat.{◌-◌}
+use lib.ListN.{length, get_or}
+use borrow.Author.Tests.{not-true, not-false}
+use borrow.Author.Rules.{rules}
+use Rattle.sets.proofs.Promise.{decides_true, decides_false}
+use Rattle.reader.specs.Book.{IsSymbol}
+use Rattle.answers.proofs.Promise.{Searched, search_begun, search_next, search_found, search_over}
+use Rattle.first.proofs.checks.stranger.Goals as goal
+
+pub loop-i-init : goal.loop-i-init
+loop-i-init c = search_begun
+
+pub returns-then-not-is_symbol : goal.returns-then-not-is_symbol
+returns-then-not-is_symbol c =
+    search_found c.loop-i.invariant
+    (decides_false _ c.is_symbol.result c.is_symbol.ensures c.if-not-is_symbol.true)
+
+pub loop-i-preserved : goal.loop-i-preserved
+loop-i-preserved c =
+    let symbol = decides_true _ c.is_symbol.result c.is_symbol.ensures c.if-not-is_symbol.false in
+    search_next c.loop-i.invariant c.loop-i-test.true (λ fails. fails symbol)
+
+pub returns : goal.returns
+returns c = search_over c.loop-i.invariant c.loop-i-test.false
