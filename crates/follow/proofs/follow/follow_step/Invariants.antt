@@ -1,0 +1,15 @@
+-- The invariant: the right side is walked from the right to a position.
+use mathlib.Core.Path.{refl}
+use Prim.Native.Nat.{◌+◌}
+use native.Mathlib.Omega.{arith}
+use borrow.Author.Rules.{rules}
+use Rattle.sets.specs.Calls.{number}
+use Rattle.reader.proofs.Promise.{every_in}
+use Rattle.follow.proofs.Following.{Walking, walking_begun, walking_next, walking_over}
+use Rattle.follow.proofs.follow.follow_step.Given as goal
+
+abbrev pub invariant-loop-j : goal.invariant-loop-j
+invariant-loop-j l = Walking l.book l.first l.place l.from (number l.initial.passed.ahead) l.initial.follow l.passed l.follow l.j
+
+abbrev pub decreases-loop-j : goal.decreases-loop-j
+decreases-loop-j l = l.j

@@ -1,0 +1,16 @@
+-- The invariant: the positions of the records gone through.
+use mathlib.Core.Path.{◌≡◌, refl}
+use Prim.Native.Nat.{◌-◌, ◌≤◌}
+use native.Mathlib.Nat.{le_antisymm}
+use native.Mathlib.Omega.{arith}
+use lib.ListN.{length, length-set}
+use borrow.Author.Rules.{rules}
+use Rattle.follow.specs.Walks.{Tails}
+use Rattle.follow.proofs.Following.{tails_next}
+use Rattle.follow.proofs.tails.find_tails.Given as goal
+
+abbrev pub invariant-loop-p : goal.invariant-loop-p
+invariant-loop-p l = (l.p ≤ l.count) × (length l.tails ≡ length l.initial.tails) × Tails l.book l.places l.p l.first l.tails
+
+abbrev pub decreases-loop-p : goal.decreases-loop-p
+decreases-loop-p l = l.count - l.p
