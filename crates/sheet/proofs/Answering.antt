@@ -1,14 +1,14 @@
 -- From the verdicts on the form and on the values to what reading a sheet answers.
-use mathlib.Core.Path.{◌≡◌, refl, sym, ap, ap₂, ◌∙◌, subst}
-use mathlib.Core.Bool.{Bool, true, false, true≢false}
+use mathlib.Core.Path.{◌≡◌, sym, ◌∙◌}
+use mathlib.Core.Bool.{true, false, true≢false}
 use mathlib.Core.List.{List, ◌++◌}
-use Prim.Native.Nat.{ℕ, ◌≤◌, ◌<◌}
+use Prim.Native.Nat.{ℕ, ◌≤◌}
 use native.Mathlib.Omega.{arith}
 use lib.ListN.{length, take}
 use Rattle.answers.specs.declared.Answer.{Answer}
 use Rattle.answers.specs.Answers.{refusal}
 use Rattle.answers.specs.Limits.{longest_book}
-use Rattle.answers.specs.Refusals.{short, extra, form}
+use Rattle.answers.specs.Refusals.{short, extra}
 use Rattle.text.specs.Text.{Put}
 use Rattle.reader.specs.declared.Verdict.{Verdict}
 use Rattle.reader.specs.declared.Verdict.TheVariants.{Next, Bad}
@@ -17,7 +17,7 @@ use Rattle.sheet.specs.Form.{FormedBy, formed, broken}
 use Rattle.sheet.specs.declared.form.Formed.{Formed}
 use Rattle.sheet.specs.Judging.{head_in, sheet_judged}
 use Rattle.sheet.specs.Booking.{book_in}
-use Rattle.sheet.specs.Calls.{Copied, ReadOutcome, malformed, faulty, missing, beyond}
+use Rattle.sheet.specs.Calls.{Copied, ReadOutcome, faulty, missing, beyond}
 use Rattle.sheet.proofs.Values.{DraftJudge, faulted, few, many, good, sheet_judged_lem}
 use Rattle.sheet.proofs.Booked.{booked_copied}
 

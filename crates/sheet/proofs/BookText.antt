@@ -2,14 +2,13 @@
 use mathlib.Core.Path.{◌≡◌, refl, sym, ap, ◌∙◌, subst}
 use mathlib.Core.Bool.{Bool, true, false, cond}
 use mathlib.Core.List.{List, [], ◌∷◌, ◌++◌, append_assoc}
-use Prim.Native.Nat.{ℕ, zero, suc, ◌+◌, ◌-◌, ◌*◌, ◌/◌, ◌%◌, ◌≤◌, ◌<◌}
+use Prim.Native.Nat.{ℕ, zero, suc, ◌+◌, ◌-◌, ◌/◌, ◌%◌, ◌≤◌, ◌<◌}
 use native.Mathlib.Omega.{arith}
 use native.Mathlib.Nat.{sub-zero, add-zero, zero-add}
 use borrow.Author.Tests.{lt-ltb, le-ltb}
 use lib.Dec.{ltb}
-use lib.ListN.{length, get_or, drop}
+use lib.ListN.{get_or}
 use Rattle.grammar.specs.declared.Symbol.TheVariants.{Token, Nonterminal}
-use Rattle.grammar.specs.Grammar.{Form, Production}
 use Rattle.text.specs.Text.{decimal, last_digits, digit, Put}
 use Rattle.text.proofs.Promise.{put_then, Completes, completes_start, completes_more, completes_all}
 use Rattle.reader.specs.Fields.{symbol_of_byte, form_in, left_at, length_at, right_at, place_after}

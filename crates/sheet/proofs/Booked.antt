@@ -1,14 +1,12 @@
 -- The book that is put together from the sheet of a grammar within the limits is that grammar's book.
 use mathlib.Core.Path.{◌≡◌, refl, sym, ap, ◌∙◌, subst}
-use mathlib.Core.Bool.{Bool, true, false, cond}
-use mathlib.Core.List.{List, [], ◌∷◌, ◌++◌, map, append_assoc}
-use Prim.Native.Nat.{ℕ, zero, suc, ◌+◌, ◌%◌, ◌≤◌, ◌<◌, min}
+use mathlib.Core.Bool.{true, false}
+use mathlib.Core.List.{List, ◌∷◌, ◌++◌, map, append_assoc}
+use Prim.Native.Nat.{ℕ, zero, suc, ◌+◌, ◌%◌, ◌≤◌, min}
 use native.Mathlib.Nat.{add-zero}
 use native.Mathlib.Omega.{arith}
-use lib.Dec.{eqb}
 use lib.ListN.{length, take, drop, get_or, length-append, length-map}
 use Rattle.grammar.specs.declared.Symbol.{Symbol}
-use Rattle.grammar.specs.declared.Symbol.TheVariants.{Token, Nonterminal}
 use Rattle.grammar.specs.Grammar.{Form, Production, Grammar, Every, nothing, each, Known, known_token, known_nonterminal}
 use Rattle.answers.specs.Limits.{most_symbols, longest_book}
 use Rattle.answers.specs.declared.Answer.{Answer}
@@ -19,11 +17,11 @@ use Rattle.reader.specs.Book.{byte_of, record_bytes, records_bytes, bytes_of, Li
 use Rattle.reader.proofs.Promise.{read_written, longest_book_lem}
 use Rattle.sheet.specs.Sheet.{line_feed, space, letter_n, letter_t, Draft, symbol_text, symbols_text, line_text, lines_text, first_line, draft_text, draft_of, sheet_of}
 use Rattle.sheet.specs.Sheet.{fields_of, Faultless}
-use Rattle.sheet.specs.Judging.{past, head_in, is_space, symbol_number, left_number, right_place}
+use Rattle.sheet.specs.Judging.{head_in, is_space, symbol_number}
 use Rattle.sheet.specs.Booking.{byte_from, byte_in, number_byte, right_in, right_end, record_in, line_after, records_in, head_bytes, book_in}
 use Rattle.sheet.specs.Calls.{Copied, ReadOutcome, booked}
 use Rattle.sheet.proofs.Fields.{Held, limits_held, faultless_limits}
-use Rattle.sheet.proofs.Standing.{rest_on, number_of, symbol_space, symbol_letter, symbol_number_lem, behind_symbols, no_space, right_from, LineAt, line_at, HeadAt, head_at}
+use Rattle.sheet.proofs.Standing.{rest_on, symbol_space, symbol_letter, symbol_number_lem, behind_symbols, no_space, right_from, LineAt, line_at, HeadAt, head_at}
 
 module _ (text : List ℕ) (g : Grammar) (limits : Limits g) where
   -- a symbol of the grammar: its byte, and the place behind it

@@ -2,21 +2,20 @@
 use mathlib.Core.Path.{◌≡◌, refl, sym, ap, ◌∙◌, subst}
 use mathlib.Core.List.{List, [], ◌∷◌, ◌++◌}
 use mathlib.Core.Option.{some}
-use Prim.Native.Nat.{ℕ, zero, suc, ◌+◌, ◌-◌, ◌≤◌, ◌<◌}
-use native.Mathlib.Nat.{zero-add}
+use Prim.Native.Nat.{ℕ, zero, suc, ◌+◌, ◌-◌, ◌≤◌}
 use native.Mathlib.Omega.{arith}
-use lib.ListN.{length, take, drop, get_or, get_elem?}
+use lib.ListN.{length, take, drop, get_elem?}
 use Rattle.grammar.specs.declared.Symbol.{Symbol}
-use Rattle.grammar.specs.declared.Symbol.TheVariants.{Token, Nonterminal}
-use Rattle.grammar.specs.Grammar.{Form, Production, Grammar, Rule, Known, known_token, known_nonterminal}
+use Rattle.grammar.specs.declared.Symbol.TheVariants.{Nonterminal}
+use Rattle.grammar.specs.Grammar.{Production, Grammar, Rule, Known, known_token, known_nonterminal}
 use Rattle.grammar.proofs.Every.{every_at}
 use Rattle.answers.specs.Answers.{done}
 use lib.Seq.{take_all}
 use Rattle.answers.specs.Buffers.{over, written}
 use Rattle.text.specs.Text.{Put}
-use Rattle.text.proofs.Promise.{put_cells, put_front, put_length}
+use Rattle.text.proofs.Promise.{put_front, put_length}
 use Rattle.reader.specs.Book.{reads, spells, byte_of, bytes_of, Limits}
-use Rattle.reader.specs.Fields.{symbol_of_byte, form_in, left_at, length_at, right_at, place_after}
+use Rattle.reader.specs.Fields.{symbol_of_byte, form_in, place_after}
 use Rattle.reader.proofs.Promise.{RecordAt, records_size, record_place, record_at, record_place_suc, form_spelled, symbol_token, symbol_nonterminal, written_read, read_limits}
 use Rattle.sheet.specs.Sheet.{line_text, lines_text, first_line, draft_text, draft_of, sheet_of, longest_sheet}
 use Rattle.answers.specs.declared.Answer.{Answer}

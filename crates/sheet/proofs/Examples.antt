@@ -1,15 +1,13 @@
 -- The worked examples, by computing: no premise about sheets is empty.
-use mathlib.Core.Path.{◌≡◌, refl, sym, ap, ◌∙◌, subst}
-use mathlib.Core.Bool.{Bool, true, false, ◌&&◌, not, cond, true≢false}
+use mathlib.Core.Path.{◌≡◌, refl, sym, subst}
 use mathlib.Core.List.{List, [], ◌∷◌, ◌++◌}
-use mathlib.Core.Option.{some, none}
-use Prim.Native.Nat.{ℕ, suc, ◌≤◌, ◌<◌}
+use mathlib.Core.Option.{none}
+use Prim.Native.Nat.{ℕ, ◌≤◌}
 use native.Mathlib.Omega.{arith}
-use lib.Dec.{leb, ltb, lit<, lit≤}
-use borrow.Author.Tests.{leb-true, lt-ltb, le-ltb}
-use lib.ListN.{length, take, replicate}
-use Rattle.grammar.specs.declared.Symbol.TheVariants.{Token, Nonterminal}
-use Rattle.grammar.specs.Grammar.{Form, Production, Grammar, Every, nothing, each}
+use lib.Dec.{lit<}
+use lib.ListN.{length, replicate}
+use Rattle.grammar.specs.declared.Symbol.TheVariants.{Token}
+use Rattle.grammar.specs.Grammar.{Form, Production, Every, nothing, each}
 use Rattle.grammar.specs.House.{house}
 use Rattle.answers.specs.Answers.{done, refusal}
 use Rattle.answers.specs.Buffers.{over}
@@ -17,13 +15,10 @@ use Rattle.answers.specs.Refusals.{room}
 use Rattle.text.specs.Text.{digit, last_digits, decimal}
 use Rattle.text.specs.Reading.{is_digit}
 use Rattle.reader.specs.Book.{reads, spells, marked, wanted, records, symbols, symbol_of, ending, byte_of, record_bytes, records_bytes, bytes_of, Limits}
-use Rattle.sheet.specs.Sheet.{Draft, symbol_text, symbols_text, line_text, lines_text, first_line, draft_text, draft_of, sheet_of, HasForm, BreaksAt, symbol_field, symbols_fields, line_fields, lines_fields, first_fields, announced, fields_of}
-use Rattle.sheet.specs.Calls.{Copied, no_room, served, WriteOutcome, written, ReadOutcome, malformed, faulty, missing, beyond, booked}
+use Rattle.sheet.specs.Sheet.{Draft, symbol_text, symbols_text, line_text, lines_text, first_line, draft_text, draft_of, sheet_of, symbol_field, symbols_fields, line_fields, lines_fields, first_fields, announced, fields_of}
+use Rattle.sheet.specs.Calls.{no_room, served, WriteOutcome, written, ReadOutcome, malformed, faulty, missing, beyond, booked}
 use Rattle.sheet.specs.Form.{wants, behind, step, begin, go_on, letter, after, is_stuck, is_line}
 use Rattle.sheet.specs.Examples.{codes, lines, house_sheet, Row, refused_sheets}
-use Rattle.sheet.specs.declared.form.Slot.TheVariants.{Tokens}
-use Rattle.sheet.specs.declared.form.Phase.{Phase}
-use Rattle.sheet.specs.declared.form.Phase.TheVariants.{First, Line, Stuck}
 use Rattle.sheet.proofs.Place.{breaks_inside, breaks_off}
 use Rattle.sheet.proofs.Stepping.{stuck_not, line_not}
 use Rattle.sheet.proofs.Faults.{in_range, fault_in, fault_found, none_found}

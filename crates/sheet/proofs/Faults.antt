@@ -1,13 +1,13 @@
 -- The first field out of its range is one, and it is found by going through the fields in order.
-use mathlib.Core.Path.{◌≡◌, refl, sym, ap, ap₂, ◌∙◌}
+use mathlib.Core.Path.{◌≡◌, refl, sym, ap, ◌∙◌}
 use mathlib.Core.Bool.{Bool, true, false, ◌&&◌, true≢false}
 use mathlib.Core.List.{List, [], ◌∷◌}
 use mathlib.Core.Option.{Option, some, none}
-use Prim.Native.Nat.{ℕ, ◌≤◌, ◌<◌}
+use Prim.Native.Nat.{ℕ}
 use native.Mathlib.Omega.{arith}
 use borrow.Author.Tests.{le-leb, lt-ltb, leb-true, ltb-true}
 use lib.Dec.{leb, ltb}
-use Rattle.grammar.specs.Grammar.{Every, nothing, each}
+use Rattle.grammar.specs.Grammar.{nothing, each}
 use Rattle.sheet.specs.Sheet.{Field, InRange, FirstFault, here, later, Faultless}
 
 pub fault_unique : {fs : List Field} {n m p q : ℕ} → FirstFault fs n p → FirstFault fs m q → (n ≡ m) × (p ≡ q)

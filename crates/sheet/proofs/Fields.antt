@@ -1,20 +1,19 @@
 -- The fields of a grammar's own sheet are all in range exactly if the grammar is within the limits.
-use mathlib.Core.Path.{◌≡◌, refl, sym, ap, ◌∙◌, subst}
+use mathlib.Core.Path.{◌≡◌}
 use mathlib.Core.Logic.{◌↔◌}
-use mathlib.Core.List.{List, [], ◌∷◌, ◌++◌}
-use mathlib.Core.Option.{some}
+use mathlib.Core.List.{List, [], ◌∷◌}
 use Prim.Native.Nat.{ℕ, zero, suc, ◌+◌, ◌≤◌, ◌<◌}
 use native.Mathlib.Omega.{arith}
-use lib.ListN.{length, take, get_elem?}
+use lib.ListN.{length}
 use lib.Seq.{take_all}
 use Rattle.grammar.specs.declared.Symbol.{Symbol}
 use Rattle.grammar.specs.declared.Symbol.TheVariants.{Token, Nonterminal}
-use Rattle.grammar.specs.Grammar.{Form, Production, Grammar, Every, nothing, each, Rule, Known, known_token, known_nonterminal, WellFormed}
+use Rattle.grammar.specs.Grammar.{Form, Production, Grammar, Every, nothing, each, Rule, Known, known_token, known_nonterminal}
 use Rattle.grammar.proofs.Every.{every_append, every_left, every_right, every_at, at_every}
 use Rattle.answers.specs.Limits.{most_tokens, most_nonterminals, most_productions, most_symbols}
 use Rattle.text.specs.Text.{decimal}
 use Rattle.reader.specs.Book.{Limits}
-use Rattle.sheet.specs.Sheet.{Draft, draft_of, symbol_text, line_text, first_line, Field, InRange, symbol_field, symbols_fields, line_fields, lines_fields, first_fields, announced, fields_of, Faultless}
+use Rattle.sheet.specs.Sheet.{draft_of, symbol_text, line_text, first_line, Field, InRange, symbol_field, symbols_fields, line_fields, lines_fields, first_fields, announced, fields_of, Faultless}
 
 -- a production that a record of the grammar can hold
 pub record Held (g : Grammar) (r : Production) : Type 0 where

@@ -1,13 +1,12 @@
 -- The text of every draft leads from the first number to the start of a line.
-use mathlib.Core.Path.{◌≡◌, refl, sym, ap, ◌∙◌, subst}
-use mathlib.Core.Bool.{Bool, true, false, ◌&&◌, cond}
+use mathlib.Core.Path.{◌≡◌, refl, ap, ◌∙◌}
+use mathlib.Core.Bool.{false}
 use mathlib.Core.List.{List, [], ◌∷◌, ◌++◌, append_assoc}
-use Prim.Native.Nat.{ℕ, suc, ◌≤◌, ◌<◌}
+use Prim.Native.Nat.{ℕ, suc}
 use native.Mathlib.Omega.{arith}
 use native.Mathlib.Decide.{ℕ_discrete}
-use borrow.Author.Tests.{eq-eqb, ne_eqb, le-leb, lt-ltb}
-use lib.Dec.{leb, ltb, eqb}
-use lib.ListN.{length, get_or}
+use borrow.Author.Tests.{eq-eqb, ne_eqb}
+use lib.ListN.{length}
 use Rattle.grammar.specs.declared.Symbol.{Symbol}
 use Rattle.grammar.specs.declared.Symbol.TheVariants.{Token, Nonterminal}
 use Rattle.grammar.specs.Grammar.{Form, Production}
@@ -15,12 +14,11 @@ use Rattle.text.specs.Text.{decimal}
 use Rattle.text.specs.Numeral.{DecimalDigit, Each, Numeral}
 use Rattle.text.specs.Reading.{is_digit}
 use Rattle.text.proofs.Promise.{decimal_numeral, is_digit_lem}
-use Rattle.sheet.specs.Sheet.{line_feed, space, colon, letter_n, letter_t, Draft, symbol_text, symbols_text, line_text, lines_text, first_line, draft_text, HasForm}
+use Rattle.sheet.specs.Sheet.{line_feed, space, colon, letter_n, Draft, symbol_text, symbols_text, line_text, lines_text, first_line, draft_text}
 use Rattle.sheet.specs.Form.{zero_digit, wants, behind, step, begin, go_on, letter, after}
 use Rattle.sheet.specs.declared.form.Slot.{Slot}
 use Rattle.sheet.specs.declared.form.Slot.TheVariants.{Tokens, Nonterminals, Start, Count, Left, Right}
-use Rattle.sheet.specs.declared.form.Phase.{Phase}
-use Rattle.sheet.specs.declared.form.Phase.TheVariants.{First, More, Behind, Line, Colon, Letter, Stuck}
+use Rattle.sheet.specs.declared.form.Phase.TheVariants.{First, More, Behind, Line}
 
 zero_step : (slot : Slot) (b : ℕ) → b ≡ zero_digit → step (First slot) b ≡ Behind slot
 unfolding step begin go_on letter

@@ -1,14 +1,12 @@
 -- A text that leads to the start of a line, or to the end, from a phase on is one that completes the phase; a text that does so from
 -- the first number on has the form.
 use mathlib.Core.Path.{◌≡◌, refl, sym, ap, ◌∙◌, subst}
-use mathlib.Core.Bool.{Bool, true, false, ◌&&◌, cond, true≢false}
+use mathlib.Core.Bool.{Bool, true, false, cond}
 use mathlib.Core.List.{List, [], ◌∷◌, ◌++◌, append_assoc}
-use Prim.Native.Nat.{ℕ, suc, ◌≤◌, ◌<◌}
+use Prim.Native.Nat.{ℕ}
 use native.Mathlib.Omega.{arith}
-use native.Mathlib.Decide.{dec_lt}
-use borrow.Author.Tests.{eqb-true, eqb-false, leb-true, ltb-true}
-use lib.Dec.{leb, ltb, eqb}
-use lib.ListN.{length}
+use borrow.Author.Tests.{eqb-true, eqb-false}
+use lib.Dec.{eqb}
 use Rattle.grammar.specs.declared.Symbol.{Symbol}
 use Rattle.grammar.specs.declared.Symbol.TheVariants.{Token, Nonterminal}
 use Rattle.grammar.specs.Grammar.{Form, Production}
@@ -16,7 +14,7 @@ use Rattle.text.specs.Text.{digit, last_digits, decimal}
 use Rattle.text.specs.Numeral.{DecimalDigit, Each, value, Numeral}
 use Rattle.text.specs.Reading.{is_digit}
 use Rattle.text.proofs.Promise.{decimal_unique, digit_is}
-use Rattle.sheet.specs.Sheet.{line_feed, space, colon, letter_n, letter_t, Draft, symbol_text, symbols_text, line_text, lines_text, first_line, draft_text, HasForm}
+use Rattle.sheet.specs.Sheet.{line_feed, space, colon, letter_n, letter_t, symbol_text, symbols_text, line_text, lines_text, first_line, draft_text, HasForm}
 use Rattle.sheet.specs.Form.{zero_digit, wants, behind, step, begin, go_on, letter, after}
 use Rattle.sheet.specs.declared.form.Slot.{Slot}
 use Rattle.sheet.specs.declared.form.Slot.TheVariants.{Tokens, Nonterminals, Start, Count, Left, Right}

@@ -1,14 +1,14 @@
 -- The longest sheet: no grammar within the limits has a longer one, and one has a sheet of that length.
-use mathlib.Core.Path.{◌≡◌, refl, sym, ap, ◌∙◌}
+use mathlib.Core.Path.{◌≡◌, refl}
 use mathlib.Core.List.{List, [], ◌∷◌, ◌++◌}
 use mathlib.Core.Option.{none}
-use Prim.Native.Nat.{ℕ, zero, suc, ◌+◌, ◌-◌, ◌*◌, ◌≤◌, ◌<◌}
+use Prim.Native.Nat.{ℕ, ◌+◌, ◌-◌, ◌*◌, ◌≤◌}
 use native.Mathlib.Nat.{mul-le-mul_right, suc-mul}
 use native.Mathlib.Omega.{arith}
 use lib.Dec.{lit≤}
-use lib.ListN.{length, take, replicate, length-append}
+use lib.ListN.{length, replicate, length-append}
 use Rattle.grammar.specs.declared.Symbol.{Symbol}
-use Rattle.grammar.specs.declared.Symbol.TheVariants.{Token, Nonterminal}
+use Rattle.grammar.specs.declared.Symbol.TheVariants.{Token}
 use Rattle.grammar.specs.Grammar.{Form, Production, Grammar, Every, nothing, each, Known, known_token, known_nonterminal}
 use Rattle.answers.specs.Limits.{most_cells, most_tokens, most_nonterminals, most_productions, most_symbols}
 use Rattle.text.specs.Text.{digit, last_digits, decimal}

@@ -1,18 +1,16 @@
 -- Writing and reading allow one outcome only.
 use mathlib.Core.Path.{◌≡◌, refl, sym, ap, ap₂, ◌∙◌, subst}
-use mathlib.Core.List.{List, [], ◌∷◌, ◌++◌, append-nil}
-use Prim.Native.Nat.{ℕ, suc, ◌+◌, ◌≤◌, ◌<◌}
-use native.Mathlib.Nat.{add-zero}
+use mathlib.Core.List.{List, [], ◌++◌, append-nil}
+use Prim.Native.Nat.{ℕ, suc, ◌<◌}
 use native.Mathlib.Omega.{arith}
 use native.Mathlib.Decide.{dec_lt}
-use lib.ListN.{length, take, drop}
+use lib.ListN.{length, take}
 use lib.Seq.{take_all}
 use Rattle.grammar.specs.Grammar.{Grammar}
 use Rattle.answers.specs.declared.Answer.{Answer}
-use Rattle.answers.specs.Answers.{done, refusal}
-use Rattle.answers.specs.Buffers.{over}
-use Rattle.answers.specs.Refusals.{short, extra, room, form}
-use Rattle.reader.specs.Book.{refused, reads, spells, bytes_of, Limits}
+use Rattle.answers.specs.Answers.{refusal}
+use Rattle.answers.specs.Refusals.{short, extra, form}
+use Rattle.reader.specs.Book.{bytes_of}
 use Rattle.reader.proofs.Promise.{refused_not_reads}
 use Rattle.sheet.specs.Sheet.{Draft, draft_text, draft_of, sheet_of, HasForm, Begins, BreaksAt, first_line, lines_text, announced, fields_of, FirstFault, Faultless}
 use Rattle.sheet.specs.Calls.{Copied, no_room, served, WriteOutcome, misread, written, ReadOutcome, malformed, faulty, missing, beyond, booked}

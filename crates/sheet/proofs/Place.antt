@@ -6,7 +6,7 @@ use Prim.Native.Nat.{ℕ, suc, ◌+◌, ◌-◌, ◌≤◌, ◌<◌}
 use native.Mathlib.Omega.{arith}
 use lib.ListN.{length, take, drop}
 use lib.Seq.{take_all, take-add}
-use Rattle.sheet.specs.Sheet.{draft_text, HasForm, Begins, BreaksAt}
+use Rattle.sheet.specs.Sheet.{HasForm, Begins, BreaksAt}
 use Rattle.text.specs.Reading.{is_digit}
 use Rattle.sheet.specs.Form.{wants, behind, step, begin, go_on, letter, after}
 use Rattle.sheet.specs.declared.form.Slot.{Slot}

@@ -1,9 +1,9 @@
 -- What stands at a place of a sheet, read by place: a number, a symbol, a line, the first line.
-use mathlib.Core.Path.{◌≡◌, refl, sym, ap, ◌∙◌, subst}
-use mathlib.Core.Bool.{Bool, true, false}
+use mathlib.Core.Path.{◌≡◌, refl, sym, ap, ◌∙◌}
+use mathlib.Core.Bool.{true, false}
 use mathlib.Core.List.{List, [], ◌∷◌, ◌++◌}
-use Prim.Native.Nat.{ℕ, zero, suc, ◌+◌, ◌≤◌, ◌<◌, min}
-use native.Mathlib.Nat.{add-zero, zero-add}
+use Prim.Native.Nat.{ℕ, suc, ◌+◌, ◌<◌, min}
+use native.Mathlib.Nat.{add-zero}
 use native.Mathlib.Omega.{arith}
 use lib.Dec.{eqb}
 use lib.ListN.{length, drop, get_or, length-drop, length-append}
@@ -16,7 +16,6 @@ use Rattle.text.specs.declared.Number.{Number}
 use Rattle.text.proofs.Promise.{number_written}
 use Rattle.sheet.specs.Sheet.{line_feed, space, colon, letter_n, Draft, symbol_text, symbols_text, line_text, lines_text, first_line, draft_text}
 use Rattle.sheet.specs.Judging.{past, head_in, is_space, symbol_number, left_number, right_place}
-use Rattle.sheet.specs.declared.judging.Head.{Head}
 use Rattle.sheet.proofs.Drafts.{line_parts, draft_parts}
 
 -- what stands from a place of a text on

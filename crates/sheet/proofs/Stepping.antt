@@ -1,14 +1,14 @@
 -- The laws by which the code of `form` meets its contracts: each case of a step, and what the bytes read so far have come to.
 use mathlib.Core.Path.{◌≡◌, refl, sym, ap, ◌∙◌, subst}
-use mathlib.Core.Bool.{Bool, true, false, cond, true≢false}
-use mathlib.Core.List.{List, [], ◌∷◌, ◌++◌}
+use mathlib.Core.Bool.{Bool, true, false, true≢false}
+use mathlib.Core.List.{List, [], ◌∷◌}
 use Prim.Native.Nat.{ℕ, suc, ◌+◌, ◌≤◌, ◌<◌}
 use native.Mathlib.Omega.{arith}
 use borrow.Author.Tests.{eq-eqb, ne_eqb}
 use lib.ListN.{length, take, get_or}
 use lib.Seq.{take-suc, take_all}
 use Rattle.text.specs.Reading.{is_digit}
-use Rattle.sheet.specs.Sheet.{line_feed, space, letter_n, letter_t, HasForm, BreaksAt}
+use Rattle.sheet.specs.Sheet.{line_feed, space, letter_n, letter_t}
 use Rattle.sheet.specs.Form.{zero_digit, wants, behind, begin, go_on, letter, step, after, is_stuck, is_line, FormedBy, formed, broken}
 use Rattle.sheet.specs.declared.form.Slot.{Slot}
 use Rattle.sheet.specs.declared.form.Slot.TheVariants.{Tokens, Right}

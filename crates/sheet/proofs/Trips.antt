@@ -1,12 +1,11 @@
 -- Over and back: what a sheet or book that is served tells, and that the way back gives the same bytes.
 use mathlib.Core.Path.{◌≡◌, refl, sym, ap, ◌∙◌, subst}
 use mathlib.Core.Logic.{◌↔◌, ◌⊎◌, inl, inr, ⊎_elim}
-use mathlib.Core.List.{List, [], ◌∷◌, ◌++◌}
-use Prim.Native.Nat.{ℕ, zero, suc, ◌+◌, ◌≤◌, ◌<◌}
+use mathlib.Core.List.{List, [], ◌∷◌}
+use Prim.Native.Nat.{ℕ, zero, suc, ◌+◌, ◌≤◌}
 use native.Mathlib.Omega.{arith}
 use lib.ListN.{length, take, drop}
 use lib.Seq.{take_at}
-use Rattle.grammar.specs.declared.Symbol.{Symbol}
 use Rattle.grammar.specs.declared.Symbol.TheVariants.{Token, Nonterminal}
 use Rattle.grammar.specs.Grammar.{Form, Production, Grammar, Every, nothing, each}
 use Rattle.grammar.proofs.Every.{every_append}
@@ -14,12 +13,12 @@ use Rattle.answers.specs.declared.Answer.{Answer}
 use Rattle.answers.specs.Answers.{done, refusal}
 use Rattle.answers.specs.Buffers.{over}
 use Rattle.answers.specs.Limits.{most_symbols, longest_book}
-use Rattle.answers.specs.Refusals.{short, extra, limit, symbol, room, form}
+use Rattle.answers.specs.Refusals.{limit, symbol}
 use Rattle.text.specs.Text.{decimal}
 use Rattle.reader.specs.Faults.{Fault, bad_mark, extra_byte, over_limit, not_a_symbol}
-use Rattle.reader.specs.Book.{refused, reads, spells, bytes_of, Limits}
+use Rattle.reader.specs.Book.{reads, spells, bytes_of, Limits}
 use Rattle.reader.proofs.Promise.{read_written, written_read, read_limits, longest_book_lem, refused_kinds}
-use Rattle.sheet.specs.Sheet.{Draft, draft_text, draft_of, sheet_of, HasForm, symbol_text, line_text, Field, symbol_field, symbols_fields, line_fields, lines_fields, first_line, first_fields, announced, fields_of, FirstFault, here, later, longest_sheet}
+use Rattle.sheet.specs.Sheet.{Draft, sheet_of, symbol_text, line_text, Field, symbol_field, symbols_fields, line_fields, lines_fields, first_line, first_fields, announced, fields_of, FirstFault, here, later, longest_sheet}
 use Rattle.sheet.specs.Calls.{Copied, no_room, served, WriteOutcome, misread, written, ReadOutcome, malformed, faulty, missing, beyond, booked}
 use Rattle.sheet.proofs.Outcomes.{write_outcome_unique, read_outcome_unique}
 use Rattle.sheet.proofs.Longest.{longest_sheet_lem}
@@ -50,6 +49,7 @@ fields_kinds d =
     (each (inl refl) (each (inl refl) (each (inl refl) (lines_kinds d.tokens d.nonterminals (length (first_line d)) (announced d)))))
 
 fault_kind : {fs : List Field} {n p : ℕ} → Every Kind fs → FirstFault fs n p → (n ≡ limit) ⊎ (n ≡ symbol)
+fault_kind nothing fault = elim fault [ ]
 fault_kind (each kind kinds) (here bad) = kind
 fault_kind (each kind kinds) (later fine rest) = fault_kind kinds rest
 

@@ -1,31 +1,29 @@
 -- A sheet that has the form, judged by place, comes to the first fault of its fields, or to the lines that are missing or too many.
 use mathlib.Core.Path.{◌≡◌, refl, sym, ap, ◌∙◌, subst}
 use mathlib.Core.Bool.{Bool, true, false, ◌&&◌, cond, true≢false}
-use mathlib.Core.List.{List, [], ◌∷◌, ◌++◌, append_assoc, append-nil}
-use Prim.Native.Nat.{ℕ, zero, suc, ◌+◌, ◌-◌, ◌≤◌, ◌<◌, min}
+use mathlib.Core.List.{List, [], ◌∷◌, ◌++◌, append_assoc}
+use Prim.Native.Nat.{ℕ, zero, suc, ◌+◌, ◌≤◌, ◌<◌, min}
 use native.Mathlib.Nat.{add-zero}
 use native.Mathlib.Decide.{dec_lt}
 use native.Mathlib.Omega.{arith}
 use borrow.Author.Tests.{le-leb, lt-ltb, le-ltb, leb-true, ltb-true}
-use lib.Dec.{leb, ltb, eqb}
+use lib.Dec.{leb, ltb}
 use lib.ListN.{length, take, drop, get_or, length-drop, length-append}
 use lib.Seq.{take_all}
 use Rattle.grammar.specs.declared.Symbol.{Symbol}
 use Rattle.grammar.specs.declared.Symbol.TheVariants.{Token, Nonterminal}
-use Rattle.grammar.specs.Grammar.{Form, Production, Every, nothing, each}
+use Rattle.grammar.specs.Grammar.{Form, Production, nothing, each}
 use Rattle.grammar.proofs.Every.{every_append}
 use Rattle.answers.specs.Limits.{most_tokens, most_nonterminals, most_productions, most_symbols}
 use Rattle.answers.specs.Refusals.{short, extra, limit, symbol}
 use Rattle.text.specs.Text.{decimal}
-use Rattle.text.specs.Reading.{is_digit, most_read, number_at}
+use Rattle.text.specs.Reading.{is_digit, most_read}
 use Rattle.text.specs.declared.Number.{Number}
-use Rattle.text.proofs.Promise.{number_written}
 use Rattle.reader.specs.declared.Verdict.{Verdict}
 use Rattle.reader.specs.declared.Verdict.TheVariants.{Next, Bad}
-use Rattle.sheet.specs.Sheet.{line_feed, space, colon, letter_n, letter_t, Draft, symbol_text, symbols_text, line_text, lines_text, first_line, draft_text}
+use Rattle.sheet.specs.Sheet.{line_feed, space, letter_n, letter_t, Draft, symbol_text, symbols_text, line_text, lines_text, first_line, draft_text}
 use Rattle.sheet.specs.Sheet.{Field, InRange, field, symbol_field, symbols_fields, line_fields, lines_fields, first_fields, announced, fields_of, FirstFault, here, later, Faultless}
-use Rattle.sheet.specs.Judging.{past, head_in, and_then, both, checked, head_judged, is_space, symbol_number, highest, symbol_judged, closed, symbols_judged, left_number, right_place, line_judged, next_judged, lines_judged, end_judged, sheet_judged}
-use Rattle.sheet.specs.declared.judging.Head.{Head}
+use Rattle.sheet.specs.Judging.{past, head_in, and_then, both, checked, head_judged, is_space, highest, symbol_judged, closed, symbols_judged, line_judged, next_judged, lines_judged, end_judged, sheet_judged}
 use Rattle.sheet.proofs.Standing.{rest_past, rest_on, number_of, symbol_space, symbol_letter, symbol_digits, symbol_number_lem, behind_symbols, no_space, right_from, LineAt, line_at, second, third, fourth, HeadAt, head_at}
 
 -- judging fields comes to the first fault, or goes on to a place
@@ -144,7 +142,7 @@ pub data LinesJudge (text : List ℕ) (T N at count : ℕ) (ps : List Production
       → FirstFault (lines_fields T N at (take count ps)) number place
       → LinesJudge text T N at count ps (Bad number place)
 
-lines_more : {text : List ℕ} {T N at count : ℕ} {ps : List Production} {v : Verdict} (r : Production)
+lines_more : {text : List ℕ} {T N at count : ℕ} {ps : List Production} (r : Production) {v : Verdict}
     → Faultless (line_fields T N at r)
     → LinesJudge text T N (at + length (line_text r)) count ps v
     → LinesJudge text T N at (suc count) (r ∷ ps) v

@@ -1,7 +1,6 @@
 -- Every fault lies within the sheet, so every place that is answered does.
-use mathlib.Core.Path.{◌≡◌, ap}
 use mathlib.Core.List.{List, [], ◌∷◌, ◌++◌}
-use Prim.Native.Nat.{ℕ, zero, suc, ◌+◌, ◌≤◌, ◌<◌}
+use Prim.Native.Nat.{ℕ, zero, suc, ◌+◌, ◌≤◌}
 use native.Mathlib.Omega.{arith}
 use lib.ListN.{length, take, length-append}
 use Rattle.grammar.specs.declared.Symbol.{Symbol}
@@ -111,6 +110,7 @@ fields_by d =
     (by_more (omega (arith, whole, announced_fewer d)) (lines_by d.tokens d.nonterminals (length (first_line d)) (announced d)))
 
 fault_by : {end : ℕ} {fs : List Field} {n p : ℕ} → Every (By end) fs → FirstFault fs n p → p ≤ end
+fault_by nothing fault = elim fault [ ]
 fault_by (each h all) (here bad) = h
 fault_by (each h all) (later fine rest) = fault_by all rest
 

@@ -1,6 +1,6 @@
 -- The text of a sheet as the bytes of a book say it, by place, whatever the bytes are.
 -- Only contracts inside the crate cite what stands here.
-use Rattle.std.specs.Prelude.{cond, List, [], ◌∷◌, ◌++◌, ℕ, zero, suc, ◌+◌, ◌-◌, ltb, get_or}
+use Rattle.std.specs.Prelude.{cond, List, [], ◌++◌, ℕ, zero, suc, ◌-◌, ltb, get_or}
 use Rattle.reader.specs.Fields.{left_at, right_at, place_after}
 use Rattle.sheet.specs.Sheet.{letter_n, letter_t, line_text, first_line}
 

@@ -2,7 +2,7 @@
 use mathlib.Core.Path.{◌≡◌, refl, sym, ap, ◌∙◌, subst}
 use mathlib.Core.Logic.{◌≢◌}
 use mathlib.Core.List.{List, ◌∷◌}
-use mathlib.Core.Option.{Option, some, none, none-ne-some, some-injective}
+use mathlib.Core.Option.{some, none, none-ne-some, some-injective}
 use Prim.Native.Nat.{ℕ, ◌+◌, ◌*◌, ◌/◌, ◌%◌, ◌≤◌, ◌<◌}
 use native.Mathlib.Decide.{dec_lt}
 use native.Mathlib.Nat.{mul_comm, mul-le-mul_left}

@@ -14,7 +14,7 @@ use Rattle.slr.specs.Items.{Item, begin, finish, dotted, Advances, Along}
 use Rattle.slr.specs.States.{collection, NumberedStates, InState}
 use Rattle.slr.specs.Actions.{Action, shift, reduce, accept, ExactActions}
 use Rattle.slr.specs.Actions as acting
-use Rattle.slr.specs.Machine.{accepts, shifts, reduces}
+use Rattle.slr.specs.Machine.{accepts}
 use Rattle.slr.proofs.Items.{along_begin, along_advances, along_opens}
 use Rattle.slr.proofs.States.{in_state, state_leads, leads_on, state_zero}
 use Rattle.slr.proofs.Ahead.{Ahead, ahead_begin, ahead_whole, ahead_next, ahead_ends, Fits, fits_finish, fits_dotted, follow_after}

@@ -1,12 +1,11 @@
 -- What bottom-up tables promise, one page: each theorem under the sentence that it proves.
-use mathlib.Core.Path.{◌≡◌, ◌∙◌, sym, ap}
+use mathlib.Core.Path.{◌≡◌}
 use mathlib.Core.Logic.{◌↔◌, ◌⊎◌}
-use mathlib.Core.List.{List, [], ◌∷◌, reverse, reverse-reverse}
+use mathlib.Core.List.{List, reverse}
 use mathlib.Core.Option.{Option}
 use Prim.Native.Nat.{ℕ, ◌≤◌, ◌<◌}
 use native.Mathlib.Omega.{arith}
 use lib.ListN.{length}
-use Rattle.grammar.specs.declared.Symbol.TheVariants.{Nonterminal}
 use Rattle.grammar.specs.Grammar.{Form, spelled, Grammar, Column, Derives, Derivable, WellFormed}
 use Rattle.numbering.specs.Numbering.{IsState}
 use Rattle.slr.specs.Rightmost.{RightmostSteps, Rightmost, Reduces, states_held}

@@ -20,7 +20,7 @@ use Rattle.slr.specs.Items.{Along}
 use Rattle.slr.specs.States.{columns_of, SameState, GoesTo, MovesTo, collection}
 use Rattle.slr.proofs.Items.{same_itself, same_back, same_trans}
 use Rattle.slr.proofs.WorkedItems.{items_along, along_test, items_sound, items_complete}
-use Rattle.slr.proofs.WorkedSets.{some_below, some_below_lem, is_empty, within, same_set, symbol_in, symbol_column, column_symbol_in, same_set_state, state_same_set, holds_of, holds_of_lem, holds_at, is_none, none_there, empty_is, not_empty}
+use Rattle.slr.proofs.WorkedSets.{some_below, some_below_lem, is_empty, same_set, symbol_in, symbol_column, column_symbol_in, same_set_state, state_same_set, holds_of, holds_of_lem, holds_at, is_none, none_there, empty_is, not_empty}
 
 module _ (g : Grammar) (n : ℕ) (paths : List Form) (cells : List (Option ℕ)) where
   -- over x the set is not empty, and is that of state j
