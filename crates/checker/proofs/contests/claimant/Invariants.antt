@@ -1,0 +1,17 @@
+-- The invariant: none from the first on that was passed is a claimant.
+use Prim.Native.Nat.{◌-◌, ◌≤◌}
+use native.Mathlib.Omega.{arith}
+use borrow.Author.Rules.{rules}
+use Rattle.sets.specs.Calls.{set_at}
+use Rattle.sets.proofs.Promise.{decides_true, decides_false}
+use Rattle.answers.proofs.Promise.{Searched, search_next, search_found, search_over}
+use Rattle.table.specs.Claims.{ClaimsAt, left_of}
+use Rattle.checker.specs.Checking.{From}
+use Rattle.checker.proofs.contests.claimant.Given as goal
+
+abbrev pub invariant-loop-p : goal.invariant-loop-p
+invariant-loop-p l =
+    (l.from ≤ l.p) × Searched (From l.from (ClaimsAt (left_of l.book l.places) (set_at l.ahead) l.row l.bit)) l.count l.p
+
+abbrev pub decreases-loop-p : goal.decreases-loop-p
+decreases-loop-p l = l.count - l.p

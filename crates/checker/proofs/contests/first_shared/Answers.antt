@@ -1,0 +1,27 @@
+use mathlib.Core.Path.{subst}
+use Prim.Native.Nat.{ℕ, ◌+◌, ◌-◌}
+use borrow.Author.Rules.{rules}
+use Rattle.sets.specs.Sets.{column_place}
+use Rattle.sets.specs.Calls.{number}
+use Rattle.sets.proofs.Promise.{decides_true, decides_false}
+use Rattle.answers.proofs.Promise.{Searched, search_begun, search_next, search_found, search_over}
+use Rattle.checker.specs.Checking.{Both}
+use Rattle.checker.proofs.contests.first_shared.Goals as goal
+
+pub loop-column-init : goal.loop-column-init
+loop-column-init c = search_begun
+
+pub returns-then-both_have : goal.returns-then-both_have
+returns-then-both_have c =
+    let both = decides_true _ c.both_have.result c.both_have.ensures c.if-both_have.true in
+    search_found c.loop-column.invariant
+    (subst (λ (b : ℕ). Both (number c.args.x) (number c.args.y) b) c.column_bit.ensures both)
+
+pub loop-column-preserved : goal.loop-column-preserved
+loop-column-preserved c =
+    let not-both = decides_false _ c.both_have.result c.both_have.ensures c.if-both_have.false in
+    search_next c.loop-column.invariant c.loop-column-test.true
+    (subst (λ (b : ℕ). ¬ Both (number c.args.x) (number c.args.y) b) c.column_bit.ensures not-both)
+
+pub returns : goal.returns
+returns c = search_over c.loop-column.invariant c.loop-column-test.false

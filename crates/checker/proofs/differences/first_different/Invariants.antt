@@ -1,0 +1,14 @@
+-- The invariant: no cell passed differs.
+use Prim.Native.Nat.{◌-◌}
+use lib.ListN.{length}
+use borrow.Author.Rules.{rules}
+use Rattle.sets.proofs.Promise.{decides_true, decides_false}
+use Rattle.answers.proofs.Promise.{Searched, search_begun, search_next, search_found, search_over}
+use Rattle.checker.specs.Checking.{DiffersAt}
+use Rattle.checker.proofs.differences.first_different.Given as goal
+
+abbrev pub invariant-loop-i : goal.invariant-loop-i
+invariant-loop-i l = Searched (DiffersAt l.claimed l.ahead l.tokens l.table) (length l.table) l.i
+
+abbrev pub decreases-loop-i : goal.decreases-loop-i
+decreases-loop-i l = length l.table - l.i
