@@ -193,7 +193,7 @@ unfolding stack_bytes spelled_by
 spells_bytes nothing rest = refl
 spells_bytes (each {x = x} {xs = α} h e) rest =
     let below : (stack_bytes α ++ (byte_of x ∷ [])) ++ rest ≡ stack_bytes α ++ (byte_of x ∷ rest) = append_assoc (stack_bytes α) (byte_of x ∷ []) rest in
-    rw (below, get_or_at (stack_bytes α) (byte_of x) rest 0 (length α) (length_bytes α), h.same, spells_bytes e (byte_of x ∷ rest))
+    rw (below, get_or_at (stack_bytes α) (byte_of x) rest 0 (length α) (length_bytes α), h.same) (ap (λ (l : List ℕ). x ∷ spelled_by l (length α)) below ∙ ap (λ (β : Form). x ∷ β) (spells_bytes e (byte_of x ∷ rest)))
 
 -- the buffer spells the stack
 pub spelled_stacked : {α : Form} → Every Spelled α → (m : ℕ) (b : List ℕ) → spelled_by (stacked α m b) (length α) ≡ α
