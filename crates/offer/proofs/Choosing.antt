@@ -37,7 +37,7 @@ module _ {right : ℕ → Form} {cell : ℕ → Column → Option ℕ} {room cel
 
     module _ {m : Move} {p : ℕ} (faces : Faces cell c x m) (used : m ≡ Use p) where
       pub chosen_full_list : cells ≤ listed → Chosen right cell room cells c α listed (Finish (Stop FullList))
-      chosen_full_list h = let (A, e, f) = facing_cell stands faces used in Chosen.List-full e f h
+      chosen_full_list h = let (A, e, f) = facing_cell stands faces used in Chosen.list_full e f h
 
       pub chosen_full_stack : listed < cells → room < length (right p ++ β) → Chosen right cell room cells c α listed (Finish (Stop FullStack))
       chosen_full_stack h k = let (A, e, f) = facing_cell stands faces used in Chosen.stack_full e f h k

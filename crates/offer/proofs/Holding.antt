@@ -156,6 +156,6 @@ module _ (right : ℕ → Form) (cell : ℕ → Column → Option ℕ) (c : Colu
         go (Chosen.left_over f g) = holds_outcome h (halted (Halt.left_over f g)) refl (stop WantsEnd)
         go (Chosen.unmatched {t = t} f g) = holds_outcome h (halted (Halt.unmatched f g)) refl (stop (WantsToken t))
         go (Chosen.vacant {A = A} f g) = holds_outcome h (halted (Halt.vacant f g)) refl (stop (WantsRow A))
-        go (Chosen.List-full f g l) = holds_outcome h (halted (Halt.List-full f g l)) refl (stop FullList)
+        go (Chosen.list_full f g l) = holds_outcome h (halted (Halt.list_full f g l)) refl (stop FullList)
         go (Chosen.stack_full f g l m) = holds_outcome h (halted (Halt.stack_full f g l m)) refl (stop FullStack)
         go (Chosen.matches f g) = let p = holds_pop h f in holds_outcome p (matched f g) refl (ap Taken (holds_progress p))

@@ -1,0 +1,10 @@
+-- The offer to the state that the buffers spell.
+use borrow.Author.Rules.{rules}
+use Rattle.offer.proofs.Resumed.{clamped_ready, offer_resumed}
+use Rattle.offer.proofs.offering.offer_on.Goals as goal
+
+pub offer_at-requires : goal.offer_at-requires
+offer_at-requires c = (rw c.clamp-from.ensures (clamped_ready _ _ _), c.gather_lengths-lengths.ensures)
+
+pub returns : goal.returns
+returns c = offer_resumed _ c.args.reading _ _ c.column_ahead-ahead.ensures _ c.clamp-from.ensures (rw c.outline_of-outline.ensures at c.offer_at.ensures)
