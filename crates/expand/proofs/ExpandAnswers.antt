@@ -54,7 +54,7 @@ module _ {g : Grammar} {list stack output : List ℕ} {u : Unfolding} {stack' ou
       let e : Expansion = end g list stack output in
       record {
         answer = answer ∙ ap (λ (x : Unfolding). at_depth x.deepest (closing x.upshot x.used (x.used + x.written))) h.answer ∙ ap (λ (n : ℕ). at_depth e.progress.height (closing e.ending e.progress.used n)) (sym (expand_steps g (counted stack) (counted output) list).moves);
-        stack_cells_lem = clears ∙ ap (λ (n : ℕ). replicate n 0) h.stack_length;
+        stack_cells = clears ∙ ap (λ (n : ℕ). replicate n 0) h.stack_length;
         output_cells = h.written;
       }
 
@@ -73,4 +73,4 @@ module _ {book list stack output : List ℕ} {reading : Reading} (judged : Judge
     expand_ended {stack'} {output'} h k on =
         let (g, serves, same) = judged_done judged none in
         let x : ExpandedOn g list stack output r stack' output' = subst (λ (g : Grammar). ExpandedOn g list stack output r stack' output') (reading_grammar serves same) on in
-        rw (x.answer, x.stack_cells_lem, x.output_cells) (ended serves h k)
+        rw (x.answer, x.stack_cells, x.output_cells) (ended serves h k)

@@ -54,7 +54,7 @@ module _ {fits : ℕ → ℕ → Bool} {right : ℕ → Form} {room output : ℕ
       turn_misfit e f = let (v, first) = next_first ps ahead e in Turns.misfit (stands ∙ ap (λ (y : Symbol). y ∷ β) name) first f
 
       pub turn_no_stack : {p : ℕ} → a ≡ Next p → fits A p ≡ true → room < length (right p ++ β) → Turns fits right room output ps α written (Close FullStack)
-      turn_no_stack e f h = let (v, first) = next_first ps ahead e in Turns.no_Stack (stands ∙ ap (λ (y : Symbol). y ∷ β) name) first f h
+      turn_no_stack e f h = let (v, first) = next_first ps ahead e in Turns.no_stack (stands ∙ ap (λ (y : Symbol). y ∷ β) name) first f h
 
       pub turn_apply : {p : ℕ} → a ≡ Next p → fits A p ≡ true → length (right p ++ β) ≤ room → Turns fits right room output ps α written (Apply p)
       turn_apply e f h = let (v, first) = next_first ps ahead e in Turns.applies (stands ∙ ap (λ (y : Symbol). y ∷ β) name) first f h

@@ -62,10 +62,10 @@ module _ (book places : List ℕ) (o : Outline) (lefts lengths list stack₀ out
     pub deepest_is : deepest ≡ progress.height
     pub inside : used ≤ length list
     pub highest : length form ≤ progress.height
-    pub stack_room_lem : progress.height ≤ counted stack₀
-    pub output_room_lem : written ≤ counted output₀
+    pub stack_room : progress.height ≤ counted stack₀
+    pub output_room : written ≤ counted output₀
     pub spelled : Every Spelled form
-    pub stack_cells_lem : stack ≡ stacked form progress.height stack₀
+    pub stack_cells : stack ≡ stacked form progress.height stack₀
     pub output_cells : output ≡ over progress.written output₀
 
   pub unrolled_start : (stack : List ℕ) → Given → 1 ≤ length stack → stack₀ ≡ set stack 0 (byte_of (Nonterminal (o.start % 128))) → Unrolled stack₀ output₀ 1 0 0 1
@@ -82,25 +82,25 @@ module _ (book places : List ℕ) (o : Outline) (lefts lengths list stack₀ out
         deepest_is = refl;
         inside = omega arith;
         highest = omega arith;
-        stack_room_lem = omega (arith, ap length e, length-set stack 0 (byte_of (Nonterminal (o.start % 128))));
-        output_room_lem = omega arith;
+        stack_room = omega (arith, ap length e, length-set stack 0 (byte_of (Nonterminal (o.start % 128))));
+        output_room = omega arith;
         spelled = each (nonterminal_spelled (o.start % 128)) nothing;
-        stack_cells_lem = rw e (stacked_open (Nonterminal (o.start % 128)) stack h);
+        stack_cells = rw e (stacked_open (Nonterminal (o.start % 128)) stack h);
         output_cells = refl;
       }
 
   module _ {stack output : List ℕ} {height used written deepest : ℕ} (u : Unrolled stack output height used written deepest) where
     pub unrolled_stack : length stack ≡ length stack₀
-    unrolled_stack = ap length u.stack_cells_lem ∙ length_stacked u.form u.progress.height stack₀ u.highest (omega (arith, u.stack_room_lem))
+    unrolled_stack = ap length u.stack_cells ∙ length_stacked u.form u.progress.height stack₀ u.highest (omega (arith, u.stack_room))
 
     pub unrolled_output : length output ≡ length output₀
-    unrolled_output = ap length u.output_cells ∙ length_over u.progress.written output₀ (omega (arith, u.output_room_lem, u.written_is))
+    unrolled_output = ap length u.output_cells ∙ length_over u.progress.written output₀ (omega (arith, u.output_room, u.written_is))
 
     pub unrolled_height : height ≤ counted stack₀
-    unrolled_height = omega (arith, u.height_is, u.highest, u.stack_room_lem)
+    unrolled_height = omega (arith, u.height_is, u.highest, u.stack_room)
 
     unrolled_spells : spelled_by stack height ≡ u.form
-    unrolled_spells = rw (u.height_is, u.stack_cells_lem) (spelled_stacked u.spelled u.progress.height stack₀)
+    unrolled_spells = rw (u.height_is, u.stack_cells) (spelled_stacked u.spelled u.progress.height stack₀)
 
     module _ {m : Turn} (turn : TurnAt lefts lengths o list used stack height written cells m) where
       -- the turn is chosen by what the buffers hold and the room as it was lent
@@ -139,10 +139,10 @@ module _ (book places : List ℕ) (o : Outline) (lefts lengths list stack₀ out
                 deepest_is = u.deepest_is;
                 inside = u.inside;
                 highest = omega (arith, u.highest, u.height_is);
-                stack_room_lem = u.stack_room_lem;
-                output_room_lem = omega (arith, u.written_is);
+                stack_room = u.stack_room;
+                output_room = omega (arith, u.written_is);
                 spelled = every_rest (subst (λ (α : Form). Every Spelled α) e u.spelled);
-                stack_cells_lem = rw (below, u.stack_cells_lem, e) (stacked_pop (Token t) β u.progress.height stack₀ (omega (arith, u.highest, u.height_is)));
+                stack_cells = rw (below, u.stack_cells, e) (stacked_pop (Token t) β u.progress.height stack₀ (omega (arith, u.highest, u.height_is)));
                 output_cells = rw (u.written_is, u.output_cells) (over_more u.progress.written t output₀ (omega arith));
               }
 
@@ -201,10 +201,10 @@ module _ (book places : List ℕ) (o : Outline) (lefts lengths list stack₀ out
                 deepest_is = omega (arith, greatest, u.deepest_is);
                 inside = omega arith;
                 highest = omega arith;
-                stack_room_lem = omega (arith, u.stack_room_lem);
-                output_room_lem = u.output_room_lem;
+                stack_room = omega (arith, u.stack_room);
+                output_room = u.output_room;
                 spelled = every_append (subst (λ (γ : Form). Every Spelled γ) (sym side.symbols) (symbols_spelled book (get_or places p 0 + 4) count)) (every_rest (subst (λ (γ : Form). Every Spelled γ) e u.spelled));
-                stack_cells_lem = cells_are ∙ rw (at, below, u.stack_cells_lem, e, ← side.symbols) (stacked_replace (Nonterminal A) (right p) β u.progress.height stack₀ (omega (arith, u.highest, u.height_is)) (omega arith));
+                stack_cells = cells_are ∙ rw (at, below, u.stack_cells, e, ← side.symbols) (stacked_replace (Nonterminal A) (right p) β u.progress.height stack₀ (omega (arith, u.highest, u.height_is)) (omega arith));
                 output_cells = u.output_cells;
               }
 
@@ -231,7 +231,7 @@ module _ (book places : List ℕ) (o : Outline) (lefts lengths list stack₀ out
           go (Turns.left_over {p = p} {qs = qs} e f) = closes Unfit (from _ _ f e (left_over_is fits right (counted stack₀) (counted output₀) p qs u.progress))
           go (Turns.too_short {A = A} {β = β} e f) = closes Unfit (from _ _ f e (too_short_is fits right (counted stack₀) (counted output₀) A β u.progress))
           go (Turns.misfit {A = A} {p = p} {β = β} {qs = qs} e f g) = closes Unfit (from _ _ f e (misfit_is fits right (counted stack₀) (counted output₀) p A qs β u.progress g))
-          go (Turns.no_Stack {A = A} {p = p} {β = β} {qs = qs} e f g h) = closes FullStack (from _ _ f e (no_stack_is fits right (counted stack₀) (counted output₀) p A qs β u.progress g h))
+          go (Turns.no_stack {A = A} {p = p} {β = β} {qs = qs} e f g h) = closes FullStack (from _ _ f e (no_stack_is fits right (counted stack₀) (counted output₀) p A qs β u.progress g h))
           go (Turns.no_output {t = t} {β = β} e h) = closes FullOutput (from _ _ refl e (no_output_is fits right (counted stack₀) (counted output₀) t (drop used list) β u.progress h))
 
 -- that the start symbol is put on the stack changes no room

@@ -87,5 +87,5 @@ pub record Unfolds (g : Grammar) (list stack output : List ℕ) (r : Unfolding) 
 -- steps made and answered, and the stack cleared
 pub record ExpandedOn (g : Grammar) (list stack output : List ℕ) (r : Answer) (stack' output' : List ℕ) : Type 0 where
   pub answer : r ≡ expand_answer (expansion g (counted stack) (counted output) list)
-  pub stack_cells_lem : stack' ≡ cleared stack
+  pub stack_cells : stack' ≡ cleared stack
   pub output_cells : output' ≡ over (expansion g (counted stack) (counted output) list).progress.written output
