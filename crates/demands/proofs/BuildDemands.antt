@@ -58,7 +58,7 @@ module _ (book first follow table : List ℕ) {g : Grammar} (s : Serves book g) 
 
   module _ (room : BuildRoom g first follow table) {a : Answer} {f w t : List ℕ} (o : BuildOutcome book first follow table a f w t) where
     with_table : WithTable book first follow table g (a, f, w, t)
-    with_table = build_with_room book first follow table s room.sets_room_lem room.table_room_lem o
+    with_table = build_with_room book first follow table s room.sets_room room.table_room o
 
     pub conflict_exactly : (a.number ≡ conflict) ↔ Conflict g
     unfolding done refusal

@@ -60,8 +60,8 @@ build_meets2 book first follow table r o =
     record {
       conflict_iff = λ {g} s k. conflict_exactly book first follow table s k o;
       done_iff = λ {g} s k. done_exactly_if book first follow table s k o;
-      first_sets_lem = λ {g} s n. (done_exactly book first follow table s o n).firsts;
-      follow_sets_lem = λ {g} s n. (done_exactly book first follow table s o n).follows;
+      first_sets = λ {g} s n. (done_exactly book first follow table s o n).firsts;
+      follow_sets = λ {g} s n. (done_exactly book first follow table s o n).follows;
       cells = λ {g} s n. (done_exactly book first follow table s o n).cells;
     }
 

@@ -129,7 +129,7 @@ twenty = replicate 20 9
 pub leaves_table_fails : {build : Builder} → LeavesTable build → ¬ BuildMeets2 house_book nines nines twenty (build house_book nines nines twenty)
 unfolding house house_table
 leaves_table_fails {build} idle meets =
-    let served = (meets.done_iff house_serves (record { sets_room_lem = record { first_fits = omega arith; follow_fits = omega arith }; table_room_lem = omega arith })).1 house_no_conflict in
+    let served = (meets.done_iff house_serves (record { sets_room = record { first_fits = omega arith; follow_fits = omega arith }; table_room = omega arith })).1 house_no_conflict in
     let cells : TableOf house (take 20 (build house_book nines nines twenty).table) = meets.cells house_serves served in
     let kept : TableOf house (take 20 twenty) = rw (idle.untouched house_book nines nines twenty) at cells in
     let first : ◌≡◌ {A = ℕ} 9 0 = ap (λ (l : List ℕ). get_or l 0 0) (table_unique (take 20 twenty) house_table kept house_table_of) in
@@ -160,7 +160,7 @@ room_f : RunRoom (premises_room premises_f) nines nines
 unfolding house_built house_premises premises_f ran
 room_f =
     let (stacked, listed) = (premises_room premises_f).needed 7 7 (omega arith) decided_f in
-    record { stack_room_lem = stacked; list_room_lem = listed }
+    record { stack_room = stacked; list_room = listed }
 
 module _ {run : Runner} (idle : JudgesAtFirst run) (meets-f : RunMeets3 house_book house_table string_f nines nines (run house_book house_table string_f nines nines)) where
   -- F is not derivable and has room, so syntax is the reason

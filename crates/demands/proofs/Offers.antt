@@ -203,8 +203,8 @@ module _ (book : List ℕ) (reading : Reading) (table : List ℕ) where
         let low : (final o).height ≤ counted stack = step_counted.height_fits (omega (arith, h.some_cell)) in
         record {
           answer = on.told ∙ ap (run_answer g table) offered_is;
-          lists = step_offers.list_cells_lem;
-          stack_length = ap length step_offers.stack_cells_lem
+          lists = step_offers.list_cells;
+          stack_length = ap length step_offers.stack_cells
               ∙ length_stacked (final o).stack (final o).height stack step_counted.stack_within (omega arith);
         }
 
@@ -260,7 +260,7 @@ module _ (book : List ℕ) (reading : Reading) (table : List ℕ) where
         record {
           state = last;
           comes = f ∙ ap taken (sym left_in);
-          alike = rw (here, x.stack_cells_lem, x.list_cells_lem) (left_alike last stack list (step_spelled h same on) counts.steps counts.stack_within);
+          alike = rw (here, x.stack_cells, x.list_cells) (left_alike last stack list (step_spelled h same on) counts.steps counts.stack_within);
           lists = comes.lists;
           stack_length = comes.stack_length;
           list_length = long;

@@ -67,13 +67,13 @@ module _ {book table tokens : List ℕ} (h : Premises book table tokens) (stack 
   unfolding ran refusal
   decides_exactly n (stackless e a b c) = (
     λ m. absurd (⊎_elim (λ k. omega (arith, ap (λ (x : Answer). x.number) a)) (λ k. omega (arith, ap (λ (x : Answer). x.number) a)) m),
-    λ k. absurd (omega (arith, n.tall, k.stack_room_lem)),
+    λ k. absurd (omega (arith, n.tall, k.stack_room)),
   )
   decides_exactly n (begins m e) = (
     λ k.
         let (stacked, listed) = n.needed (counted stack) (counted list) (omega arith) (told_decided (ends_told e) k) in
-        record { stack_room_lem = stacked; list_room_lem = listed },
+        record { stack_room = stacked; list_room = listed },
     λ k.
-        let reached = n.reached (counted stack) (counted list) k.stack_room_lem k.list_room_lem in
+        let reached = n.reached (counted stack) (counted list) k.stack_room k.list_room in
         decided_numbers (subst (λ (o : Offered). Decided o) (sym reached) n.decided) (ends_told e),
   )

@@ -59,14 +59,14 @@ pub record Premises (book table tokens : List ℕ) : Type 0 where
 
 -- the set buffers and the table buffer have room
 pub record BuildRoom (g : Grammar) (first follow table : List ℕ) : Type 0 where
-  pub sets_room_lem : SetsFit g first follow
-  pub table_room_lem : size g ≤ length table
+  pub sets_room : SetsFit g first follow
+  pub table_room : size g ≤ length table
 
 -- the stack and the list have the room that the string needs
 pub record RunRoom {g : Grammar} {cell : ℕ → Column → Option ℕ} {w : List ℕ} (need : RoomNeeded g cell w)
     (stack list : List ℕ) : Type 0 where
-  pub stack_room_lem : (final need.outcome).height ≤ counted stack
-  pub list_room_lem : length (final need.outcome).listed ≤ counted list
+  pub stack_room : (final need.outcome).height ≤ counted stack
+  pub list_room : length (final need.outcome).listed ≤ counted list
 
 -- demand 2, sets and table: no member missing, none added; a conflict exactly if two productions claim one cell
 pub record BuildMeets2 (book first follow table : List ℕ) (r : Built) : Type 0 where
@@ -78,11 +78,11 @@ pub record BuildMeets2 (book first follow table : List ℕ) (r : Built) : Type 0
       → Serves book g
       → BuildRoom g first follow table
       → (r.answer.number ≡ 0) ↔ (¬ Conflict g)
-  pub first_sets_lem : {g : Grammar}
+  pub first_sets : {g : Grammar}
       → Serves book g
       → r.answer.number ≡ 0
       → FirstSets g (take g.nonterminals r.first)
-  pub follow_sets_lem : {g : Grammar}
+  pub follow_sets : {g : Grammar}
       → Serves book g
       → r.answer.number ≡ 0
       → FollowSets g (take g.nonterminals r.follow)

@@ -454,8 +454,8 @@ module _ {answer : List ℕ} (lent : Lent answer) where
       record {
         conflict_iff = λ {g} serves k. rw read.number (meets.conflict_iff serves k);
         done_iff = λ {g} serves k. rw read.number (meets.done_iff serves k);
-        first_sets_lem = λ {g} serves m. meets.first_sets_lem serves (sym read.number ∙ m);
-        follow_sets_lem = λ {g} serves m. meets.follow_sets_lem serves (sym read.number ∙ m);
+        first_sets = λ {g} serves m. meets.first_sets serves (sym read.number ∙ m);
+        follow_sets = λ {g} serves m. meets.follow_sets serves (sym read.number ∙ m);
         cells = λ {g} serves m. meets.cells serves (sym read.number ∙ m);
       }
 

@@ -40,7 +40,7 @@ grown_by count at =
 module _ {s : State} {at : Progress} {stack₀ list₀ stack list : List ℕ} (h : Holds s at stack₀ list₀ stack list) where
   -- the first cells spell the stack
   pub holds_spells : spelled_by stack at.height ≡ s.stack
-  holds_spells = rw (h.height, h.stack_cells_lem) (spelled_stacked h.spelled s.height stack₀)
+  holds_spells = rw (h.height, h.stack_cells) (spelled_stacked h.spelled s.height stack₀)
 
   pub holds_progress : at ≡ progress_of s
   unfolding progress_of
@@ -65,11 +65,11 @@ module _ {s : State} {at : Progress} {stack₀ list₀ stack list : List ℕ} (h
         deepest = h.deepest;
         moves = omega (arith, h.moves);
         highest = omega (arith, h.highest, h.height);
-        stack_room_lem = h.stack_room_lem;
-        list_room_lem = h.list_room_lem;
+        stack_room = h.stack_room;
+        list_room = h.list_room;
         spelled = every_rest (subst (λ (β : Form). Every Spelled β) e h.spelled);
-        stack_cells_lem = rw (below, h.stack_cells_lem, e) (stacked_pop x α s.height stack₀ (omega (arith, h.highest, h.height)));
-        list_cells_lem = h.list_cells_lem;
+        stack_cells = rw (below, h.stack_cells, e) (stacked_pop x α s.height stack₀ (omega (arith, h.highest, h.height)));
+        list_cells = h.list_cells;
       }
 
   -- the symbol on top gives way to the right side of production p, which is listed
@@ -88,11 +88,11 @@ module _ {s : State} {at : Progress} {stack₀ list₀ stack list : List ℕ} (h
         deepest = omega (arith, h.deepest);
         moves = omega (arith, h.moves);
         highest = omega arith;
-        stack_room_lem = omega (arith, h.stack_room_lem);
-        list_room_lem = omega (arith, length-append s.listed (p ∷ []));
+        stack_room = omega (arith, h.stack_room);
+        list_room = omega (arith, length-append s.listed (p ∷ []));
         spelled = every_append (subst (λ (γ : Form). Every Spelled γ) (sym side) (symbols_spelled book from count)) (every_rest (subst (λ (γ : Form). Every Spelled γ) e h.spelled));
-        stack_cells_lem = rw (below, h.stack_cells_lem, e, ← side) (stacked_replace x β α s.height stack₀ (omega (arith, h.highest, h.height)) (omega arith));
-        list_cells_lem = rw (h.listed, h.list_cells_lem) (over_more s.listed p list₀ (omega arith));
+        stack_cells = rw (below, h.stack_cells, e, ← side) (stacked_replace x β α s.height stack₀ (omega (arith, h.highest, h.height)) (omega arith));
+        list_cells = rw (h.listed, h.list_cells) (over_more s.listed p list₀ (omega arith));
       }
 
 module _ (right : ℕ → Form) (cell : ℕ → Column → Option ℕ) (c : Column) (s₀ : State) (at₀ : Progress) (stack₀ list₀ : List ℕ) where
@@ -115,7 +115,7 @@ module _ (right : ℕ → Form) (cell : ℕ → Column → Option ℕ) (c : Colu
 
     -- so many list cells are left
     counts_left : length w.state.listed + (counted list₀ - at.listed) ≡ counted list₀
-    counts_left = omega (arith, w.holds.listed, w.holds.list_room_lem)
+    counts_left = omega (arith, w.holds.listed, w.holds.list_room)
 
     pub walking_use : (book : List ℕ) (from count : ℕ) {p : ℕ} → right p ≡ form_in book from count → Chosen right cell (counted stack₀) (counted list₀) c (spelled_by stack at.height) at.listed (Use p)
         → Walking (grown_by count at) (sets (set stack (at.height - 1) 0) (at.height - 1) (stack_bytes (form_in book from count))) (set list at.listed p)

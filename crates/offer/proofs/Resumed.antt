@@ -49,11 +49,11 @@ standing_held {at} {stack} {list} ready deepest =
       deepest = deepest;
       moves = refl;
       highest = omega (arith, length_spelled stack at.height);
-      stack_room_lem = ready.height;
-      list_room_lem = omega (arith, ready.listed);
+      stack_room = ready.height;
+      list_room = omega (arith, ready.listed);
       spelled = cells_spelled stack at.height;
-      stack_cells_lem = stacked_spelled stack at.height (omega (arith, ready.height));
-      list_cells_lem = rw cells (sym (take-append-drop at.listed list));
+      stack_cells = stacked_spelled stack at.height (omega (arith, ready.height));
+      list_cells = rw cells (sym (take-append-drop at.listed list));
     }
 
 -- the reply has the answer of the outcome, where the moves are those counted
@@ -84,7 +84,7 @@ module _ (book : List ℕ) (reading : Reading) (table : List ℕ) (column : ℕ)
       let x = offered.offers (standing at stack list) (standing_held ready deepest) in
       let sized = outlined_sized book reading.places (outline_in reading) in
       rw (← same.same (grammar_in book reading) sized.tokens)
-      (record { answer = x.answer; stack_cells_lem = x.holds.stack_cells_lem; list_cells_lem = x.holds.list_cells_lem })
+      (record { answer = x.answer; stack_cells = x.holds.stack_cells; list_cells = x.holds.list_cells })
 
   pub offer_resumed : (at : Progress) {from : Progress}
       → from ≡ clamped at (length stack) (length list)

@@ -33,10 +33,10 @@ use Rattle.offer.specs.declared.Reply.{Reply}
 
 module _ {s : State} {at : Progress} {stack₀ list₀ stack list : List ℕ} (h : Holds s at stack₀ list₀ stack list) where
   pub holds_stack_length : length stack ≡ length stack₀
-  holds_stack_length = ap length h.stack_cells_lem ∙ length_stacked s.stack s.height stack₀ h.highest (omega (arith, h.stack_room_lem))
+  holds_stack_length = ap length h.stack_cells ∙ length_stacked s.stack s.height stack₀ h.highest (omega (arith, h.stack_room))
 
   pub holds_list_length : length list ≡ length list₀
-  holds_list_length = ap length h.list_cells_lem ∙ length_over s.listed list₀ (omega (arith, h.list_room_lem))
+  holds_list_length = ap length h.list_cells ∙ length_over s.listed list₀ (omega (arith, h.list_room))
 
   -- the buffers hold the state as they are
   pub holds_again : Holds s at stack list stack list
@@ -48,11 +48,11 @@ module _ {s : State} {at : Progress} {stack₀ list₀ stack list : List ℕ} (h
         deepest = h.deepest;
         moves = h.moves;
         highest = h.highest;
-        stack_room_lem = omega (arith, h.stack_room_lem, holds_stack_length);
-        list_room_lem = omega (arith, h.list_room_lem, holds_list_length);
+        stack_room = omega (arith, h.stack_room, holds_stack_length);
+        list_room = omega (arith, h.list_room, holds_list_length);
         spelled = h.spelled;
-        stack_cells_lem = h.stack_cells_lem ∙ sym (ap (stacked s.stack s.height) h.stack_cells_lem ∙ stacked_again s.stack s.height stack₀ h.highest);
-        list_cells_lem = h.list_cells_lem ∙ sym (ap (over s.listed) h.list_cells_lem ∙ over_over s.listed s.listed list₀ (omega arith));
+        stack_cells = h.stack_cells ∙ sym (ap (stacked s.stack s.height) h.stack_cells ∙ stacked_again s.stack s.height stack₀ h.highest);
+        list_cells = h.list_cells ∙ sym (ap (over s.listed) h.list_cells ∙ over_over s.listed s.listed list₀ (omega arith));
       }
 
 -- the start symbol stands on the stack
@@ -68,11 +68,11 @@ begun_held A stack list h =
       deepest = refl;
       moves = refl;
       highest = omega arith;
-      stack_room_lem = omega (arith, length-set stack 0 (byte_of (Nonterminal A)));
-      list_room_lem = omega arith;
+      stack_room = omega (arith, length-set stack 0 (byte_of (Nonterminal A)));
+      list_room = omega arith;
       spelled = each (nonterminal_spelled A) nothing;
-      stack_cells_lem = stacked_open (Nonterminal A) stack h;
-      list_cells_lem = refl;
+      stack_cells = stacked_open (Nonterminal A) stack h;
+      list_cells = refl;
     }
 
 module _ (right : ℕ → Form) (cell : ℕ → Column → Option ℕ) (room cells : ℕ) (s : State) where
@@ -131,8 +131,8 @@ module _ (book places : List ℕ) (o : Outline) (table tokens stack₀ list₀ :
     pub running_ready : length tokens < 2 ^ 63 → Ready at stack list
     running_ready h =
         record {
-          height = omega (arith, w.holds.height, w.holds.highest, w.holds.stack_room_lem);
-          listed = omega (arith, w.holds.listed, w.holds.list_room_lem);
+          height = omega (arith, w.holds.height, w.holds.highest, w.holds.stack_room);
+          listed = omega (arith, w.holds.listed, w.holds.list_room);
           matched = omega (arith, w.inside);
         }
 
@@ -156,12 +156,12 @@ module _ (book places : List ℕ) (o : Outline) (table tokens stack₀ list₀ :
           subst (λ (x : Offered). Offering x stack list r stack' list') same (offered.offers w.state w.holds)
 
       grown : Grown w.state (final next) (gained (front rest) next)
-      grown = offer_grown right cell (counted stack₀) (counted list₀) left (front rest) w.state (omega (arith, w.holds.list_room_lem, w.list_length))
+      grown = offer_grown right cell (counted stack₀) (counted list₀) left (front rest) w.state (omega (arith, w.holds.list_room, w.list_length))
 
       lists_on : list' ≡ over (final next).listed list₀
       lists_on =
           let longer : length w.state.listed ≤ length (final next).listed = omega (arith, ap length grown.lists, length-append w.state.listed grown.new) in
-          offering.holds.list_cells_lem ∙ ap (over (final next).listed) w.lists ∙ over_over w.state.listed (final next).listed list₀ longer
+          offering.holds.list_cells ∙ ap (over (final next).listed) w.lists ∙ over_over w.state.listed (final next).listed list₀ longer
 
       -- the outcome of the last offer is the run's
       ends : next ≡ whole → Ends r stack' list'

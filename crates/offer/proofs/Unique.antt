@@ -15,7 +15,7 @@ offered_on_unique : {g : Grammar} {table : List ℕ} {column : ℕ} {at : Progre
     → OfferedOn g table column at stack list r s l
     → OfferedOn g table column at stack list q t m
     → ◌≡◌ {A = OfferResult} (r, s, l) (q, t, m)
-offered_on_unique o p = λ i. ((o.offers.answer ∙ sym p.offers.answer) i, (o.offers.stack_cells_lem ∙ sym p.offers.stack_cells_lem) i, (o.offers.list_cells_lem ∙ sym p.offers.list_cells_lem) i)
+offered_on_unique o p = λ i. ((o.offers.answer ∙ sym p.offers.answer) i, (o.offers.stack_cells ∙ sym p.offers.stack_cells) i, (o.offers.list_cells ∙ sym p.offers.list_cells) i)
 
 -- and so does one on any reading
 pub offer_outcome_unique : {book : List ℕ} {reading : Reading} {table : List ℕ} {column : ℕ} {at : Progress} {stack list : List ℕ} {r q : Reply} {s l t m : List ℕ}

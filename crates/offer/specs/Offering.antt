@@ -26,11 +26,11 @@ pub record Holds (s : State) (at : Progress) (stack₀ list₀ stack list : List
   pub deepest : at.deepest ≡ s.height
   pub moves : s.moves ≡ at.listed + at.matched
   pub highest : length s.stack ≤ s.height
-  pub stack_room_lem : s.height ≤ counted stack₀
-  pub list_room_lem : length s.listed ≤ counted list₀
+  pub stack_room : s.height ≤ counted stack₀
+  pub list_room : length s.listed ≤ counted list₀
   pub spelled : Every Spelled s.stack
-  pub stack_cells_lem : stack ≡ stacked s.stack s.height stack₀
-  pub list_cells_lem : list ≡ over s.listed list₀
+  pub stack_cells : stack ≡ stacked s.stack s.height stack₀
+  pub list_cells : list ≡ over s.listed list₀
 
 -- the counts are within the room, and one token more can be counted
 pub record Ready (at : Progress) (stack list : List ℕ) : Type 0 where

@@ -67,8 +67,8 @@ offered_to g table column at stack list =
 -- beyond
 pub record Offers (o : Offered) (stack list : List ℕ) (r : Reply) (stack' list' : List ℕ) : Type 0 where
   pub answer : r ≡ reported o
-  pub stack_cells_lem : stack' ≡ stacked (final o).stack (final o).height stack
-  pub list_cells_lem : list' ≡ over (final o).listed list
+  pub stack_cells : stack' ≡ stacked (final o).stack (final o).height stack
+  pub list_cells : list' ≡ over (final o).listed list
 
 -- an offer on a book's grammar, for all that it may be lent: the counts as far as they count, and the answer to the
 -- reply that of the machine's outcome
