@@ -57,7 +57,7 @@ rights_spelled book places o p = go (dec_lt p o.productions)
 -- what holds of each symbol of the right sides and of the stack, an offer keeps
 module _ {right : ℕ → Form} {cell : ℕ → Column → Option ℕ} {room cells : ℕ} {P : Symbol → Type 0}
     (rights : (p : ℕ) → Every P (right p)) where
-  walk_every : {z w : List ℕ} {e s : State}
+  walk_every : {z : List ℕ} {e : State} {w : List ℕ} {s : State}
       → Walk right cell room cells z e w s
       → Every P s.stack
       → Every P e.stack

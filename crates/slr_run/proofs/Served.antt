@@ -48,7 +48,7 @@ unfolding refusal
 barred_some (bad_table m) e = omega arith
 barred_some (too_long f h) e = omega arith
 barred_some (strange f h s) e = omega arith
-barred_some (SlrBarred.no_Stack f h k l) e = omega arith
+barred_some (SlrBarred.no_stack f h k l) e = omega arith
 
 module _ {g : Grammar} {table tokens stack : List ℕ} where
   checked_barred : {a : Answer} → SlrChecked g table tokens stack a → a.number ≢ 0 → SlrBarred g table tokens stack a

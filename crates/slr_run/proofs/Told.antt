@@ -113,7 +113,7 @@ module _ (o : Outline) (table lefts lengths : List ℕ) (room cells : ℕ) (grou
 
         pub reduction_list_full : cells ≤ at.listed → Made (Finish (Stop FullList))
         unfolding setting_by
-        reduction_list_full h = record { turns = λ c says. Turns.List-full says uncovers moved h }
+        reduction_list_full h = record { turns = λ c says. Turns.list_full says uncovers moved h }
 
         pub reduction_stack_full : at.listed < cells → room ≤ base + 1 → Made (Finish (Stop FullStack))
         unfolding setting_by

@@ -86,7 +86,7 @@ module _ (m : Setting) (rows : ℕ) (c : Column) (at₀ : Stage) (stack₀ list�
     shift_fits (Turns.shift_full says next tall) j same = let bad : ◌≡◌ {A = ℕ} 0 1 = cc in absurd (omega arith)
     shift_fits (Turns.bare says uncovers) j same = let bad : ◌≡◌ {A = ℕ} 0 1 = cc in absurd (omega arith)
     shift_fits (Turns.no_move says uncovers moved) j same = let bad : ◌≡◌ {A = ℕ} 0 1 = cc in absurd (omega arith)
-    shift_fits (Turns.List-full says uncovers moved few) j same = let bad : ◌≡◌ {A = ℕ} 0 1 = cc in absurd (omega arith)
+    shift_fits (Turns.list_full says uncovers moved few) j same = let bad : ◌≡◌ {A = ℕ} 0 1 = cc in absurd (omega arith)
     shift_fits (Turns.stack_full says uncovers moved few tall) j same = let bad : ◌≡◌ {A = ℕ} 0 1 = cc in absurd (omega arith)
 
     pub turning_reduce : {p j base : ℕ}
@@ -172,7 +172,7 @@ module _ (m : Setting) (rows : ℕ) (c : Column) (at₀ : Stage) (stack₀ list�
     turning_finish (Turns.bare {p = p} says uncovers) = stops Wants (λ w e. run_bare m w here p (rw e says) uncovers)
     turning_finish (Turns.no_move {p = p} {k = k} {rest = rest} says uncovers moved) =
         stops Wants (λ w e. run_no_move m w here p (rw e says) k rest uncovers moved)
-    turning_finish (Turns.List-full {p = p} {k = k} {j = j} {rest = rest} says uncovers moved few) =
+    turning_finish (Turns.list_full {p = p} {k = k} {j = j} {rest = rest} says uncovers moved few) =
         stops FullList (λ w e. run_list_full m w here p j k rest (rw e says) uncovers moved (omega (arith, stage_listed at stack list t.listed)))
     turning_finish (Turns.stack_full {p = p} {k = k} {j = j} {rest = rest} says uncovers moved few tall) =
         stops FullStack (λ w e. run_stack_full m w here p j k rest (rw e says) uncovers moved (omega (arith, stage_listed at stack list t.listed)) tall)
