@@ -8,9 +8,9 @@ use Prim.Native.Nat.{ℕ, zero, suc, ◌+◌, ◌≤◌, ◌<◌}
 use native.Mathlib.Decide.{dec_le, ℕ_discrete}
 use native.Mathlib.Omega.{arith}
 use lib.ListN.{length, take, get_elem?}
-use Rattle.sets.specs.Sets.{member, Exactly, added}
+use Rattle.sets.specs.Sets.{Exactly, added}
 use Rattle.sets.proofs.Promise.{exactly_alike, exactly_none, exactly_added}
-use Rattle.pattern.specs.Pattern.{Range, Class, InClass, here, there, Expression, one, cat, alt, plus, opt}
+use Rattle.pattern.specs.Pattern.{Class, InClass, here, there, Expression, one, cat, alt, plus, opt}
 use Rattle.pattern.specs.Positions.{size, Null, null_opt, FirstPosition, LastPosition, FollowPosition, Reads}
 use Rattle.pattern.specs.Positions.{positions, Point, position, end_of, Placed, Start, start_position, start_end}
 use Rattle.pattern.specs.Positions.{Onward, onward_position, onward_end, ReadsIn, reads_in}

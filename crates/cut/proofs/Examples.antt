@@ -1,11 +1,10 @@
 -- The definitions at work where there is no pattern: spaces are dropped, and every other byte starts no token.
 use mathlib.Core.Path.{◌≡◌, sym, subst, ◌∙◌}
-use mathlib.Core.Logic.{◌≢◌}
 use mathlib.Core.List.{List, [], ◌∷◌}
-use mathlib.Core.Option.{some, none-ne-some, some-injective}
+use mathlib.Core.Option.{none-ne-some, some-injective}
 use Prim.Native.Nat.{ℕ, zero, suc, ◌+◌}
 use native.Mathlib.Omega.{arith}
-use lib.ListN.{length, get_elem?, replicate}
+use lib.ListN.{length, replicate}
 use Rattle.sets.specs.Calls.{no_set}
 use Rattle.answers.specs.Answers.{done, stop}
 use Rattle.answers.specs.Refusals.{no_token}

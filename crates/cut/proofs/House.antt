@@ -1,16 +1,16 @@
 -- The house patterns, by computing: 18 states, and the line of example A.
-use mathlib.Core.Path.{◌≡◌, refl, sym, ap, subst, ◌∙◌}
-use mathlib.Core.Bool.{Bool, true, ◌&&◌, not}
+use mathlib.Core.Path.{◌≡◌, refl, ap, subst}
+use mathlib.Core.Bool.{Bool, true, ◌&&◌}
 use mathlib.Core.Logic.{◌≢◌}
-use mathlib.Core.List.{List, [], ◌∷◌, ◌++◌}
+use mathlib.Core.List.{List, [], ◌∷◌}
 use mathlib.Core.Option.{Option}
-use Prim.Native.Nat.{ℕ, suc, ◌+◌, ◌*◌, ◌≤◌, ◌<◌}
+use Prim.Native.Nat.{ℕ, suc, ◌*◌, ◌≤◌, ◌<◌}
 use native.Mathlib.Omega.{arith}
 use lib.ListN.{length, drop}
 use Rattle.sets.specs.Sets.{member, only, united, added}
 use Rattle.answers.specs.Answers.{done}
 use Rattle.answers.specs.Buffers.{over}
-use Rattle.answers.specs.Limits.{most_patterns, most_positions, byte_values, most_states, row_cells}
+use Rattle.answers.specs.Limits.{most_patterns, most_positions, row_cells}
 use Rattle.numbering.specs.Numbering.{Found, FoundAll}
 use Rattle.numbering.proofs.Promise.{found_begun}
 use Rattle.pattern.specs.Pattern.{Pattern}

@@ -1,7 +1,7 @@
 -- The sets of points of patterns together, by computing: what can come first, next, and after a string.
 use mathlib.Core.Path.{◌≡◌, refl, sym, ap, subst, ◌∙◌}
 use mathlib.Core.Bool.{Bool, true, false, ◌&&◌, false≢true}
-use mathlib.Core.Logic.{◌↔◌, ◌⊎◌, inl, inr}
+use mathlib.Core.Logic.{◌⊎◌, inl, inr}
 use mathlib.Core.List.{List, [], ◌∷◌}
 use mathlib.Core.Option.{Option, some, none, none-ne-some, some-injective}
 use Prim.Native.Nat.{ℕ, zero, suc, ◌+◌, ◌≤◌, ◌<◌}
@@ -14,7 +14,7 @@ use Rattle.sets.proofs.Promise.{exactly_alike, exactly_none, exactly_united}
 use Rattle.answers.specs.Limits.{most_patterns, most_positions, point_words}
 use Rattle.pattern.specs.Pattern.{Expression}
 use Rattle.pattern.specs.Positions.{size, Null, FirstPosition, LastPosition, FollowPosition, Reads, positions, Point}
-use Rattle.pattern.specs.Positions.{position, end_of, Placed, Start, start_position, start_end, Onward, onward_position}
+use Rattle.pattern.specs.Positions.{position, Placed, Start, start_position, start_end, Onward, onward_position}
 use Rattle.pattern.specs.Positions.{onward_end, ReadsIn, reads_in, Moved, moved, AfterFrom, After}
 use Rattle.pattern.proofs.Promise.{below_length, start_position_below, onward_position_below, reads_below, moved_same}
 use Rattle.pattern.proofs.Promise.{nullable}
@@ -223,9 +223,9 @@ module _ (rs : List Expression) where
         → Points (after_from x w) (λ q. AfterFrom rs S w (point_at q))
     unfolding after_from AfterFrom
     after_exact [] have exact = exact
-    after_exact {x} (b ∷ w) have exact =
+    after_exact {x = x} {S = S} (b ∷ w) have exact =
         let h = exactly_holds have exact in
-        after_exact w (moved_place few fit)
+        after_exact {x = next_set x b} {S = Moved rs S b} w (moved_place few fit)
         (exactly_alike (λ q. moved_same (λ s. (h.sound s, h.complete s))) (next_exact x b))
 
     -- what can come next once a string was read

@@ -16,7 +16,7 @@ use Rattle.patterns.specs.Calls.{Accepted}
 use Rattle.patterns.proofs.Promise.{accepted_length, accepted_unique, refused_not_accepted}
 use Rattle.cut.specs.Patterns.{point_states, ManyAfter}
 use Rattle.cut.specs.Calls.{CutOutcome, refused, too_many, no_cells, cut}
-use Rattle.cut.specs.Promised.{ReachedLine, by_states, by_limit, by_pattern}
+use Rattle.cut.specs.Promised.{by_states}
 use Rattle.cut.proofs.Outcomes.{refuses_not_states, line_answer, early_or_line}
 use Rattle.cut.proofs.Reaching.{many_after, not_many_after}
 

@@ -25,7 +25,7 @@ use Rattle.pattern.specs.Marks.{among}
 use Rattle.pattern.specs.Written.{range, plain, IsPattern, alternative, alone, unsigned, one_byte, Good, patterns_of}
 use Rattle.pattern.proofs.Promise.{null_of_one, first_of_one, follow_of_one, reads_of_one}
 use Rattle.patterns.specs.Calls.{point_at, no_texts, text_means, Accepted}
-use Rattle.states.specs.Machine.{no_cell, cell_of, lowest_end, token_of, rows_of}
+use Rattle.states.specs.Machine.{cell_of, lowest_end, token_of, rows_of}
 use Rattle.pieces.specs.Cut.{space, numbers_of, TokenAt, end_of_line, space_dropped, token_cut, answer_of}
 use Rattle.cut.specs.Patterns.{InSet, SomePoints, point_states}
 use Rattle.cut.specs.Calls.{CutOutcome, cut}

@@ -8,7 +8,6 @@ use native.Mathlib.Omega.{arith}
 use lib.ListN.{length, drop, get_elem?}
 use Rattle.answers.specs.declared.Answer.{Answer}
 use Rattle.answers.specs.Answers.{done, refusal, stop}
-use Rattle.answers.specs.Buffers.{over}
 use Rattle.answers.specs.Limits.{most_states, row_cells}
 use Rattle.answers.specs.Refusals.{served, room}
 use Rattle.answers.specs.Refusals as refusals

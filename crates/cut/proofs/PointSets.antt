@@ -1,7 +1,6 @@
 -- The points that can come first, or after a set by a byte, make a set of points or there are none: it can be decided.
 use mathlib.Core.Path.{◌≡◌, sym, subst, ◌∙◌}
 use mathlib.Core.Bool.{true, false≢true}
-use mathlib.Core.Logic.{◌≢◌}
 use mathlib.Core.List.{List}
 use Prim.Native.Nat.{ℕ, ◌≤◌, ◌<◌}
 use native.Mathlib.Decide.{ℕ_discrete}

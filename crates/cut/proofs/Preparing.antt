@@ -18,7 +18,7 @@ use Rattle.pattern.specs.Text.{Bytes}
 use Rattle.patterns.specs.Calls.{Accepted, TablesFit, ReadOutcome}
 use Rattle.patterns.proofs.Promise.{accepted_length, judged_refused, read_judged, read_done}
 use Rattle.states.specs.declared.MachineMade.{MachineMade}
-use Rattle.states.specs.Machine.{tables, rows_of}
+use Rattle.states.specs.Machine.{rows_of}
 use Rattle.states.proofs.Promise.{rows_length, made_alike}
 use Rattle.states.specs.Making.{made_of, not_made, MadeOutcome, too_many, no_room, made}
 use Rattle.pieces.specs.Calls.{CutWithOutcome}

@@ -3,21 +3,17 @@ use mathlib.Core.Path.{◌≡◌, sym, ap, subst, ◌∙◌}
 use mathlib.Core.Logic.{◌↔◌}
 use mathlib.Core.List.{List}
 use mathlib.Core.Option.{Option, some}
-use Prim.Native.Nat.{ℕ, ◌-◌, ◌+◌, ◌^◌, ◌≤◌, ◌<◌}
-use native.Mathlib.Decide.{dec_lt}
-use native.Mathlib.Omega.{arith}
+use Prim.Native.Nat.{ℕ, ◌^◌, ◌≤◌, ◌<◌}
 use lib.ListN.{length, get_elem?}
-use Rattle.sets.specs.Sets.{Exactly}
 use Rattle.sets.specs.Words.{places}
 use Rattle.sets.proofs.Promise.{exactly_unique, exactly_alike}
 use Rattle.answers.specs.Limits.{most_patterns, most_positions, point_words, most_states}
-use Rattle.numbering.specs.Numbering.{IsState, FoundAll, TooMany, whole, too_many, Leads, here, on, Reached, ManyReached}
+use Rattle.numbering.specs.Numbering.{FoundAll, TooMany, whole, too_many, Leads, here, on, Reached, ManyReached}
 use Rattle.numbering.proofs.Promise.{is_itself, found_reaches, too_many_iff, too_many_excludes_whole}
 use Rattle.pattern.specs.Pattern.{Expression}
 use Rattle.pattern.specs.Positions.{positions, Point, Moved, After, AfterFrom}
 use Rattle.pattern.specs.Text.{Bytes, no_byte, and_byte}
 use Rattle.pattern.proofs.Promise.{moved_same}
-use Rattle.patterns.specs.Calls.{point_at}
 use Rattle.states.specs.Machine.{rows_of}
 use Rattle.pieces.specs.Rows.{Walk}
 use Rattle.cut.specs.Patterns.{InSet, SomePoints, point_states, AfterSome, ManyAfter}
@@ -44,8 +40,8 @@ module _ {rs : List Expression} (few : length rs ≤ most_patterns) (fit : posit
       → Bytes w × SomePoints (AfterFrom rs S w) y
   unfolding AfterFrom
   leads_after here have points = (no_byte, points)
-  leads_after (on byte moves rest) have points =
-      let (bytes, after) = leads_after rest (moved_place few fit) (points_moved (exactly_holds have points.exact) moves) in
+  leads_after {S = S} (on {x = x} {y = y} {z = z} {c = c} {w = w} byte moves rest) have points =
+      let (bytes, after) = leads_after {S = Moved rs S c} rest (moved_place few fit) (points_moved (exactly_holds have points.exact) moves) in
       (and_byte byte bytes, after)
 
   reached_after : {y : ℕ} → Reached (point_states rs) y → AfterSome rs y

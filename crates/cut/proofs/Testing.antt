@@ -1,5 +1,5 @@
 -- Tokens by computing: which ends come after each beginning of a line.
-use mathlib.Core.Path.{◌≡◌, refl, sym, subst, ◌∙◌}
+use mathlib.Core.Path.{◌≡◌, refl, sym, subst}
 use mathlib.Core.Bool.{Bool, true, false, ◌&&◌, not, false≢true}
 use mathlib.Core.Logic.{◌↔◌}
 use mathlib.Core.List.{List}
@@ -10,7 +10,7 @@ use lib.ListN.{length, take}
 use Rattle.sets.specs.Sets.{member}
 use Rattle.answers.specs.Limits.{most_patterns, most_positions}
 use Rattle.pattern.specs.Pattern.{Expression, Pattern}
-use Rattle.pattern.specs.Positions.{positions, end_of, After}
+use Rattle.pattern.specs.Positions.{positions, After}
 use Rattle.pattern.proofs.Promise.{state_exact, below_length}
 use Rattle.pieces.specs.Cut.{TokenAt}
 use Rattle.cut.proofs.Pointing.{point_end}

@@ -1,30 +1,25 @@
 -- Walking the rows of a machine goes from state to state as the patterns' own points move.
-use mathlib.Core.Path.{◌≡◌, sym, subst, ◌∙◌}
-use mathlib.Core.Bool.{true, false≢true}
+use mathlib.Core.Path.{◌≡◌}
 use mathlib.Core.Logic.{◌⊎◌, inl, inr}
 use mathlib.Core.List.{List, [], ◌∷◌}
 use mathlib.Core.Option.{Option, some, none}
 use Prim.Native.Nat.{ℕ, ◌+◌, ◌*◌, ◌≤◌, ◌<◌}
 use native.Mathlib.Omega.{arith}
 use lib.ListN.{length, get_elem?}
-use Rattle.sets.specs.Sets.{member, Exactly}
-use Rattle.sets.specs.Words.{places}
-use Rattle.sets.proofs.Promise.{member_none}
-use Rattle.answers.specs.Limits.{most_patterns, most_positions, point_words, byte_values, most_states}
+use Rattle.answers.specs.Limits.{most_patterns, most_positions, byte_values, most_states}
 use Rattle.numbering.specs.Numbering.{IsState, FoundAll}
 use Rattle.numbering.proofs.Promise.{element, inside}
 use Rattle.numbering.proofs.Promise.{cell_named, cell_none}
 use Rattle.numbering.proofs.Promise.{is_itself}
 use Rattle.pattern.specs.Pattern.{Expression}
-use Rattle.pattern.specs.Positions.{positions, Point, position, end_of, Start, Moved, moved, AfterFrom}
+use Rattle.pattern.specs.Positions.{positions, Point, position, Moved, moved, AfterFrom}
 use Rattle.pattern.specs.Text.{Bytes, no_byte, and_byte}
-use Rattle.pattern.proofs.Promise.{moved_same, start_position_below, start_end_below, onward_position_below, onward_end_below}
-use Rattle.patterns.specs.Calls.{point_at}
+use Rattle.pattern.proofs.Promise.{moved_same}
 use Rattle.states.specs.Machine.{no_cell, cell_of, rows_of}
 use Rattle.states.proofs.Promise.{rows_length, rows_next}
 use Rattle.pieces.specs.Rows.{rows_in, cell_at, Walk, here, on, Closed}
 use Rattle.pieces.proofs.Promise.{walk_start}
-use Rattle.cut.specs.Patterns.{InSet, SomePoints, point_states}
+use Rattle.cut.specs.Patterns.{InSet, point_states}
 use Rattle.cut.proofs.Pointing.{Holds, exactly_holds}
 use Rattle.cut.proofs.PointSets.{points_some, moved_place, moved_decided}
 use Rattle.cut.proofs.Alike.{states_lawful}
@@ -118,9 +113,9 @@ module _ {rs : List Expression} (few : length rs ≤ most_patterns) (fit : posit
         → Holds x S
         → (s : ℕ) × Walk rows r u s
     unfolding AfterFrom
-    walk_exists {r} [] no_byte t a at h = (r, here {r = r} (omega (arith, rows_in_lem, inside sets r at)))
-    walk_exists {r} {x} {S} (b ∷ u) (and_byte byte bytes) t a at h =
-        go (onto r b byte at) (λ y there holds. walk_exists u bytes t a there holds)
+    walk_exists {r = r} [] no_byte t a at h = (r, here {r = r} (omega (arith, rows_in_lem, inside sets r at)))
+    walk_exists {r = r} {x = x} {S = S} (b ∷ u) (and_byte byte bytes) t a at h =
+        go (onto r b byte at) (λ y there holds. walk_exists {r = cell_at rows r b} {x = y} {S = Moved rs S b} u bytes t a there holds)
       where
         go : Onto r x b
             → ((y : ℕ) → get_elem? sets (cell_at rows r b) ≡ some y → Holds y (Moved rs S b) → (s : ℕ) × Walk rows (cell_at rows r b) u s)

@@ -1,5 +1,5 @@
 -- What comes after a set by a byte, gathered word by word of its positions.
-use mathlib.Core.Path.{◌≡◌, refl, sym, ap, ◌∙◌}
+use mathlib.Core.Path.{◌≡◌, refl, sym, ◌∙◌}
 use mathlib.Core.Logic.{◌↔◌, ◌⊎◌, inl, inr, ⊎_elim}
 use mathlib.Core.Bool.{Bool, true, false, ◌&&◌, false≢true}
 use mathlib.Core.List.{List, ◌∷◌}
@@ -8,15 +8,15 @@ use native.Mathlib.Nat.{zero-add}
 use native.Mathlib.Decide.{dec_lt}
 use native.Mathlib.Omega.{arith}
 use lib.Bits.{bit_and, and_lt}
-use lib.ListN.{length, get_or, replicate, get_or-replicate}
-use Rattle.sets.specs.Sets.{member, Exactly}
-use Rattle.sets.specs.Words.{word_width, places, AreWords}
+use lib.ListN.{get_or, replicate, get_or-replicate}
+use Rattle.sets.specs.Sets.{member}
+use Rattle.sets.specs.Words.{word_width, AreWords}
 use Rattle.sets.proofs.Members.{member_and}
 use Rattle.sets.proofs.Promise.{member_none, places_are, fits_members, no_words, more_words}
 use Rattle.points.specs.Points.{points_at}
 use Rattle.points.proofs.Promise.{points_fit, points_none, member_points}
-use Rattle.answers.specs.Limits.{most_positions, position_words, point_words}
-use Rattle.moves.specs.Tables.{readers_of, follow_of, set_of, NextPoint, NextWords}
+use Rattle.answers.specs.Limits.{position_words, point_words}
+use Rattle.moves.specs.Tables.{readers_of, set_of, NextPoint, NextWords}
 use Rattle.moves.specs.Growing.{Five, Grown, WordLeads}
 
 -- both are so exactly if each is

@@ -4,7 +4,7 @@ use mathlib.Core.List.{List}
 use Prim.Native.Nat.{ℕ, ◌<◌}
 use native.Mathlib.Nat.{zero-add}
 use native.Mathlib.Omega.{arith}
-use lib.ListN.{length, get_or}
+use lib.ListN.{get_or}
 use lib.Seq.{ext_get_or}
 use Rattle.sets.proofs.Promise.{exactly_unique}
 use Rattle.points.proofs.Promise.{points_same}

@@ -1,19 +1,17 @@
 -- A class is read element by element: its first element, one more, and its end.
 use mathlib.Core.Path.{◌≡◌, refl, sym, ◌∙◌}
 use mathlib.Core.Logic.{◌↔◌, ◌⊎◌, inl, inr, ⊎_elim}
-use mathlib.Core.Bool.{Bool, true, false, false≢true}
+use mathlib.Core.Bool.{true, false, false≢true}
 use mathlib.Core.List.{List, [], ◌∷◌, ◌++◌}
-use Prim.Native.Nat.{ℕ, suc, ◌+◌, ◌≤◌, ◌<◌, max}
+use Prim.Native.Nat.{ℕ, ◌+◌, ◌≤◌, ◌<◌}
 use native.Mathlib.Numerals.{add-one}
 use native.Mathlib.Decide.{ℕ_discrete}
 use native.Mathlib.Omega.{arith}
 use lib.ListN.{length, get_or}
-use Rattle.answers.specs.Limits.{most_positions, position_words}
 use Rattle.pattern.specs.Pattern.{Range, Class, InClass, here, there}
 use Rattle.pattern.specs.Marks.{close_class}
 use Rattle.parts.specs.declared.classes.Span.{Span}
 use Rattle.parts.specs.declared.classes.Place.{Place}
-use Rattle.parts.specs.Rows.{Rows}
 use Rattle.parts.specs.Classes.{one_if, no_element, no_end, SpanRead, Spread, ElementMeant, ElementRead, ElementFollows, ClassMeant, ClassRead, elements_pending, class_pending}
 use Rattle.parts.proofs.Marks.{mark_inside}
 use Rattle.parts.proofs.Growth.{rows_then, rows_alike}

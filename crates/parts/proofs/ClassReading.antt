@@ -3,19 +3,17 @@ use mathlib.Core.Path.{◌≡◌, refl, sym, ap, ◌∙◌}
 use mathlib.Core.Logic.{◌≢◌}
 use mathlib.Core.Bool.{true, false}
 use mathlib.Core.List.{List, [], ◌∷◌, ◌++◌}
-use mathlib.Core.Option.{Option, some, none}
+use mathlib.Core.Option.{some, none}
 use Prim.Native.Nat.{ℕ, suc, ◌≤◌, ◌<◌, pred}
 use native.Mathlib.Nat.{add-zero}
-use native.Mathlib.Omega.{arith}
-use lib.Dec.{leb}
 use lib.ListN.{length, get_or, drop}
 use lib.Seq.{get_or-drop}
 use borrow.Author.Tests.{le-leb, lt-leb}
 use Rattle.pattern.specs.Pattern.{Range, Class, one}
 use Rattle.pattern.specs.Marks.{open_class, close_class, backslash, dash, special_in_class, among}
 use Rattle.pattern.specs.Written.{range, any_number, at_least_once, at_most_once}
-use Rattle.pattern.specs.Kinds.{Kind, is_plain, is-dash, is-backslash, closes-class, marks, kind_in, kind_of}
-use Rattle.pattern.specs.Reader.{Begun, Pending, outside, in_class_lem, in_range, Standing, standing, behind-backslash, settled, elements, class_read, range_read, marked, moved, move, ended, refused, read_from, says}
+use Rattle.pattern.specs.Kinds.{Kind, kind_in, kind_of}
+use Rattle.pattern.specs.Reader.{Begun, Pending, outside, in_class_lem, in_range, standing, behind-backslash, settled, elements, class_read, range_read, marked, moved, move, ended, refused, read_from, says}
 use Rattle.pattern.proofs.Promise.{says_moves, says_stops, says_short, says_kind, says_no_kind, plain_kind}
 use Rattle.pattern.proofs.Promise.{KindIs, plain_is, dash_is, backslash_is, close_class_is, open_class_is, open_group_is, close_group_is, bar_is, sign_is, kind_is, impossible}
 use Rattle.parts.specs.Letters.{LetterIs, letter_plain, letter_escaped, letter_mark, letter_missing, letter_cut_off}

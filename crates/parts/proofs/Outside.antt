@@ -3,19 +3,19 @@ use mathlib.Core.Path.{◌≡◌, refl, ap, ◌∙◌}
 use mathlib.Core.Logic.{◌≢◌}
 use mathlib.Core.Bool.{true, false}
 use mathlib.Core.List.{List, [], ◌∷◌}
-use mathlib.Core.Option.{Option, some, none}
+use mathlib.Core.Option.{some, none}
 use Prim.Native.Nat.{ℕ, suc, ◌<◌}
 use native.Mathlib.Decide.{ℕ_discrete}
 use native.Mathlib.Omega.{arith}
 use lib.ListN.{length, get_or}
-use Rattle.pattern.specs.Pattern.{Expression, one}
+use Rattle.pattern.specs.Pattern.{one}
 use Rattle.pattern.specs.Marks.{open_group, close_group, open_class, bar, backslash, special, among}
 use Rattle.pattern.specs.Written.{range}
-use Rattle.pattern.specs.Kinds.{closes-group, divides, is-backslash, marks, kind_in, kind_of}
+use Rattle.pattern.specs.Kinds.{is-backslash, kind_in, kind_of}
 use Rattle.pattern.specs.Reader.{Begun, outside, standing, behind-backslash, settled, alternation_of, closed, divided, byte_read, marked, moved, move, ended, refused, says}
 use Rattle.pattern.proofs.Promise.{says_moves, says_stops, says_short, says_kind, says_no_kind, move_plain, move_special}
 use Rattle.parts.specs.Letters.{LetterIs, letter_plain, letter_escaped, letter_mark, letter_missing, letter_cut_off}
-use Rattle.parts.specs.Reading.{GoesOn, MayStart, nothing_before, item_follows}
+use Rattle.parts.specs.Reading.{MayStart, nothing_before, item_follows}
 use Rattle.parts.proofs.Marks.{not_among, mark_inside}
 
 -- where nothing was begun there is no alternation to close, to divide or to end

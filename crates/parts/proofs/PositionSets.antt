@@ -1,25 +1,24 @@
 -- Sets of positions as their words: the set with one, a union, and a set of positions as a set of points.
-use mathlib.Core.Path.{◌≡◌, refl, sym, ap, ◌∙◌}
-use mathlib.Core.Logic.{◌↔◌, ◌⊎◌, inl, inr, ⊎_elim}
-use mathlib.Core.Bool.{Bool, true, false, cond}
+use mathlib.Core.Path.{◌≡◌, refl}
+use mathlib.Core.Logic.{inr, ⊎_elim}
+use mathlib.Core.Bool.{true, false}
 use mathlib.Core.List.{List, [], ◌∷◌}
-use Prim.Native.Nat.{ℕ, ◌+◌, ◌≤◌, ◌<◌}
+use Prim.Native.Nat.{ℕ, ◌+◌}
 use native.Mathlib.Omega.{arith}
 use lib.ListN.{length, get_or, get_or-eq_default}
-use Rattle.answers.specs.Limits.{most_positions, position_words, point_words}
-use Rattle.sets.specs.Sets.{Exactly, united}
+use Rattle.answers.specs.Limits.{position_words, point_words}
 use Rattle.sets.specs.Words.{places, value_of}
 use Rattle.sets.proofs.Promise.{places_are, exactly_none, exactly_alike}
 use Rattle.points.specs.Points.{words_at, points_at, Put, Unite}
 use Rattle.points.proofs.Promise.{put_exactly, unite_unites}
 use Rattle.pattern.specs.Pattern.{Class, one}
-use Rattle.pattern.specs.Positions.{size, FirstPosition, LastPosition}
+use Rattle.pattern.specs.Positions.{size}
 use Rattle.pattern.proofs.Promise.{null_of_one, first_of_one, last_of_one}
 use Rattle.parts.specs.declared.Part.{Part}
 use Rattle.parts.specs.Rows.{Rows}
 use Rattle.parts.specs.Parts.{positions_in, capped, Told}
 use Rattle.parts.specs.Leading.{points_in, Leads, Led}
-use Rattle.parts.specs.Joins.{Only, LedOn, Through}
+use Rattle.parts.specs.Joins.{Only, Through}
 
 no_positions : positions_in (0 ∷ 0 ∷ 0 ∷ 0 ∷ []) ≡ 0
 unfolding points_at words_at value_of

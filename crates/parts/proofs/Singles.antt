@@ -1,11 +1,11 @@
 -- One position as a part: a class, or a letter.
-use mathlib.Core.Path.{◌≡◌, refl, sym, ◌∙◌}
+use mathlib.Core.Path.{◌≡◌, sym, ◌∙◌}
 use mathlib.Core.Logic.{◌≢◌}
 use mathlib.Core.Bool.{Bool, true, false, false≢true}
 use mathlib.Core.List.{List, [], ◌∷◌}
 use Prim.Native.Nat.{ℕ, suc, ◌≤◌, ◌<◌}
 use native.Mathlib.Omega.{arith}
-use lib.ListN.{length, get_or}
+use lib.ListN.{get_or}
 use Rattle.answers.specs.Limits.{most_positions, position_words}
 use Rattle.pattern.specs.Pattern.{Class, InClass, here, there, one}
 use Rattle.pattern.specs.Marks.{open_class, special}

@@ -10,7 +10,6 @@ use lib.ListN.{length, get_or}
 use Rattle.pattern.specs.Pattern.{Class}
 use Rattle.pattern.specs.Marks.{dash, special_in_class}
 use Rattle.pattern.specs.Reader.{Begun, in_class_lem, in_range, standing, says}
-use Rattle.parts.specs.declared.classes.Span.{Span}
 use Rattle.parts.specs.Letters.{LetterIs, letter_plain, letter_escaped, letter_mark, letter_missing, letter_cut_off}
 use Rattle.parts.specs.Classes.{one_if, SpanRead, no_span}
 use Rattle.parts.proofs.Marks.{mark_inside}

@@ -2,7 +2,7 @@
 use Rattle.std.specs.Prelude.{◌≡◌, true, List, ℕ, ◌-◌, ◌≤◌}
 use Rattle.sets.specs.Sets.{member}
 use Rattle.points.specs.Points.{points_at}
-use Rattle.answers.specs.Limits.{position_words, point_words}
+use Rattle.answers.specs.Limits.{point_words}
 use Rattle.parts.specs.Rows.{Rows}
 use Rattle.parts.specs.Parts.{positions_in}
 

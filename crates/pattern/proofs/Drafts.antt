@@ -35,12 +35,13 @@ elements_written (more_listed h hs) = more (element_written h) (elements_written
 
 class_written : {d : ℕ} {c : Class} → Listed c → Written item d (class_text c) (one c)
 unfolding class_text bracketed
-class_written {d} {c = r ∷ []} l = go (eqb r.low r.high) refl
+class_written {d = d} {c = []} l = elim l [ ]
+class_written {d = d} {c = r ∷ []} l = go (eqb r.low r.high) refl
   where
     go : (t : Bool) → eqb r.low r.high ≡ t → Written item d (class_text (r ∷ [])) (one (r ∷ []))
     go true e = rw (e, class_text) (subst (λ (n : ℕ). Written item d (byte_text special r.low) (one (range r.low n ∷ []))) (eqb-true r.low r.high e) (one_byte (byte_written special r.low)))
     go false e = rw (e, class_text) (class (elements_written l))
-class_written {c = r ∷ (q ∷ c)} l = class (elements_written l)
+class_written {d = d} {c = r ∷ (q ∷ c)} l = class (elements_written l)
 
 -- what is of a sort is of every looser one
 pub loosened : {d : ℕ} {s : List ℕ} {x : Expression} (sort own : Sort)

@@ -1,5 +1,7 @@
 -- A state says no more than the patterns: if the end of pattern k can come next once w was read, pattern k matches w.
 -- It goes by what a pattern matches from one of its positions on, from the end of w back to its beginning.
+use mathlib.Core.Path.{◌≡◌, refl}
+use native.Mathlib.Omega.{arith}
 use mathlib.Core.List.{List, [], ◌∷◌, ◌++◌}
 use Prim.Native.Nat.{ℕ, ◌+◌}
 use Rattle.pattern.specs.Pattern.{Class, InClass, Expression, one, cat, alt, plus, opt, Matches, byte, in_turn, either_left, either_right, once, again, itself, Pattern}
@@ -29,30 +31,46 @@ from_inside (from_last d) = inside_plus (from_inside d)
 from_inside (from_more d m) = inside_plus (from_inside d)
 from_inside (from_opt d) = inside_opt (from_inside d)
 
+apart : {n p q : ℕ} {x y : Expression} → p ≡ q → PositionOf n x p → PositionOf (n + size x) y q → ⊥
+apart e before behind = omega arith
+
+apart_back : {n p q : ℕ} {x y : Expression} → p ≡ q → PositionOf n x q → PositionOf (n + size x) y p → ⊥
+apart_back e before behind = omega arith
+
 -- from a first position on is the whole
+first_from_at : {n p q : ℕ} {x : Expression} {u : List ℕ} → p ≡ q → FirstPosition n x p → From n x q u → Matches x u
+first_from_at e first_one (from_one h) = byte h
+first_from_at e (first_cat f) (from_before d m) = in_turn (first_from_at e f d) m
+first_from_at e (first_cat f) (from_behind d) = absurd (apart e (first_inside f) (from_inside d))
+first_from_at e (first_past z f) (from_before d m) = absurd (apart_back e (from_inside d) (first_inside f))
+first_from_at e (first_past z f) (from_behind d) = in_turn (null_matches z) (first_from_at e f d)
+first_from_at e (first_left f) (from_left d) = either_left (first_from_at e f d)
+first_from_at e (first_left f) (from_right d) = absurd (apart e (first_inside f) (from_inside d))
+first_from_at e (first_right f) (from_left d) = absurd (apart_back e (from_inside d) (first_inside f))
+first_from_at e (first_right f) (from_right d) = either_right (first_from_at e f d)
+first_from_at e (first_plus f) (from_last d) = once (first_from_at e f d)
+first_from_at e (first_plus f) (from_more d m) = again (first_from_at e f d) m
+first_from_at e (first_opt f) (from_opt d) = itself (first_from_at e f d)
+
 first_from : {n p : ℕ} {x : Expression} {u : List ℕ} → FirstPosition n x p → From n x p u → Matches x u
-first_from first_one (from_one h) = byte h
-first_from (first_cat f) (from_before d m) = in_turn (first_from f d) m
-first_from (first_cat f) (from_behind d) = absurd (parts_apart (first_inside f) (from_inside d))
-first_from (first_past z f) (from_before d m) = absurd (parts_apart (from_inside d) (first_inside f))
-first_from (first_past z f) (from_behind d) = in_turn (null_matches z) (first_from f d)
-first_from (first_left f) (from_left d) = either_left (first_from f d)
-first_from (first_left f) (from_right d) = absurd (parts_apart (first_inside f) (from_inside d))
-first_from (first_right f) (from_left d) = absurd (parts_apart (from_inside d) (first_inside f))
-first_from (first_right f) (from_right d) = either_right (first_from f d)
-first_from (first_plus f) (from_last d) = once (first_from f d)
-first_from (first_plus f) (from_more d m) = again (first_from f d) m
-first_from (first_opt f) (from_opt d) = itself (first_from f d)
+first_from f d = first_from_at refl f d
+
+reads_back : {n p q b : ℕ} {x : Expression} → p ≡ q → Reads n x q b → Reads n x p b
+reads_back e r = rw e r
 
 -- from a last position on may be its byte alone
+last_from_at : {n p q b : ℕ} {x : Expression} → p ≡ q → LastPosition n x p → Reads n x q b → From n x p (b ∷ [])
+last_from_at e last_one (reads_one h) = from_one h
+last_from_at e (last_cat l) r = from_behind (last_from_at refl l (reads_in_behind (last_inside l) (reads_back e r)))
+last_from_at e (last_before l z) r =
+    from_before (last_from_at refl l (reads_in_before (last_inside l) (reads_back e r))) (null_matches z)
+last_from_at e (last_left l) r = from_left (last_from_at refl l (reads_in_left (last_inside l) (reads_back e r)))
+last_from_at e (last_right l) r = from_right (last_from_at refl l (reads_in_right (last_inside l) (reads_back e r)))
+last_from_at e (last_plus l) (reads_plus r) = from_last (last_from_at e l r)
+last_from_at e (last_opt l) (reads_opt r) = from_opt (last_from_at e l r)
+
 last_from_lem : {n p b : ℕ} {x : Expression} → LastPosition n x p → Reads n x p b → From n x p (b ∷ [])
-last_from_lem last_one (reads_one h) = from_one h
-last_from_lem (last_cat l) r = from_behind (last_from_lem l (reads_in_behind (last_inside l) r))
-last_from_lem (last_before l z) r = from_before (last_from_lem l (reads_in_before (last_inside l) r)) (null_matches z)
-last_from_lem (last_left l) r = from_left (last_from_lem l (reads_in_left (last_inside l) r))
-last_from_lem (last_right l) r = from_right (last_from_lem l (reads_in_right (last_inside l) r))
-last_from_lem (last_plus l) (reads_plus r) = from_last (last_from_lem l r)
-last_from_lem (last_opt l) (reads_opt r) = from_opt (last_from_lem l r)
+last_from_lem l r = last_from_at refl l r
 
 -- from a position on is its byte and what there is from one that follows it on
 follow_from : {n p q b : ℕ} {x : Expression} {u : List ℕ}

@@ -41,6 +41,8 @@ bracketed_bytes l = and_byte {b = open_class} (omega arith) (bytes_append (eleme
 
 class_bytes : {c : Class} → Listed c → Bytes (class_text c)
 unfolding class_text
+class_bytes {c = []} l = elim l [ ]
+class_bytes {c = r ∷ []} (more_listed _ none) = elim none [ ]
 class_bytes {c = r ∷ []} (last_listed h) = go (eqb r.low r.high) refl
   where
     go : (t : Bool) → eqb r.low r.high ≡ t → Bytes (class_text (r ∷ []))

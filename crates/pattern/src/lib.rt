@@ -1,3 +1,2 @@
 // The textbook of patterns: definitions and theorems, no functions.
 #![tactic(auto)]
-

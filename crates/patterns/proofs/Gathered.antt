@@ -12,7 +12,7 @@ use borrow.Author.Tests.{lt-ltb, le-ltb}
 use Rattle.sets.specs.Calls.{Decides}
 use Rattle.answers.specs.Answers.{done, refusal}
 use Rattle.answers.specs.Limits.{most_patterns, most_positions, position_words, point_words}
-use Rattle.answers.specs.Refusals.{limit, pattern}
+use Rattle.answers.specs.Refusals.{limit}
 use Rattle.pattern.specs.Pattern.{Expression}
 use Rattle.pattern.specs.Written.{Good, patterns_of, FirstBad, AllGood}
 use Rattle.pattern.specs.Positions.{size, positions, Point, Start, start_position, start_end, ReadsIn}

@@ -13,7 +13,6 @@ use Rattle.answers.specs.Limits.{most_patterns, most_positions}
 use Rattle.answers.specs.Refusals.{served, limit, room, pattern}
 use Rattle.pattern.specs.Pattern.{Expression, Matches, Pattern}
 use Rattle.pattern.specs.Written.{IsPattern, patterns_of, FirstBad}
-use Rattle.pattern.specs.Positions.{positions}
 use Rattle.pattern.proofs.Promise.{meaning_unique, pattern_place, patterns_length}
 use Rattle.patterns.specs.Calls.{Meanings, no_texts, text_means, Accepted, RefusesPatterns, many_patterns}
 use Rattle.patterns.specs.Calls.{bad_pattern, many_positions, JudgePatterns, refused, accepted, TablesFit}

@@ -1,10 +1,10 @@
 -- What stands behind the rows of a machine says nothing: no walk leads there.
-use mathlib.Core.Path.{◌≡◌, sym, ap, subst, ◌∙◌}
-use mathlib.Core.List.{List, [], ◌∷◌, ◌++◌}
+use mathlib.Core.Path.{◌≡◌, sym, subst, ◌∙◌}
+use mathlib.Core.List.{List, ◌++◌}
 use mathlib.Core.Logic.{◌↔◌, ◌⊎◌, inl, inr}
 use Prim.Native.Nat.{ℕ, ◌+◌, ◌*◌, ◌≤◌, ◌<◌}
 use native.Mathlib.Omega.{arith}
-use lib.ListN.{length, length-append, get_or-append}
+use lib.ListN.{length-append, get_or-append}
 use Rattle.answers.specs.Limits.{byte_values, row_cells, most_states}
 use Rattle.pieces.specs.Rows.{rows_in, cell_at, Walk, here, on, Says, Closed}
 use Rattle.pieces.proofs.Walks.{walk_start, walk_end}

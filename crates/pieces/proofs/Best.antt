@@ -1,6 +1,6 @@
 -- The token that a string begins with, over any meaning: what it becomes when more of the string is looked at.
-use mathlib.Core.Path.{◌≡◌, sym, subst}
-use mathlib.Core.List.{List, [], ◌∷◌, ◌++◌}
+use mathlib.Core.Path.{subst}
+use mathlib.Core.List.{List, [], ◌++◌}
 use Prim.Native.Nat.{ℕ, ◌≤◌, ◌<◌}
 use native.Mathlib.Decide.{dec_lt}
 use native.Mathlib.Omega.{arith}

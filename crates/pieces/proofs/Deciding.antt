@@ -13,7 +13,7 @@ use Rattle.answers.specs.Limits.{most_patterns, byte_values}
 use Rattle.pieces.specs.declared.Ending.{Ending}
 use Rattle.pieces.specs.declared.Ending.TheVariants.{Whole, NoToken, NoRoom}
 use Rattle.pieces.specs.Cut.{space, Piece, piece, numbers_of, ends_of, answer_of}
-use Rattle.pieces.specs.Cut.{TokenAt, NoTokenAt, Cut, end_of_line, space_dropped, token_cut, no_token_lem, no_room}
+use Rattle.pieces.specs.Cut.{TokenAt, Cut, end_of_line, space_dropped, token_cut, no_token_lem, no_room}
 use Rattle.pieces.specs.Calls.{CutWithOutcome}
 use Rattle.pieces.specs.Meanings.{TokenKnown}
 use Rattle.pieces.specs.Rows.{rows_in, cell_at, Walk, here, on, Says}

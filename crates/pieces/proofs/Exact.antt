@@ -1,6 +1,6 @@
 -- Two meanings that say the same, or of which one says the lowest of what the other says, cut alike.
-use mathlib.Core.Path.{◌≡◌, sym, subst}
-use mathlib.Core.List.{List, [], ◌∷◌}
+use mathlib.Core.Path.{◌≡◌, subst}
+use mathlib.Core.List.{List}
 use mathlib.Core.Logic.{◌↔◌}
 use Prim.Native.Nat.{ℕ, ◌<◌}
 use native.Mathlib.Decide.{dec_lt}

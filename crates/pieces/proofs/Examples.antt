@@ -1,6 +1,6 @@
 -- The definitions at work on the line " ab c": a machine of one row, whose token is 5, 61 or 62; one that names no row; none at all.
 use mathlib.Core.Path.{◌≡◌, refl, ◌∙◌}
-use mathlib.Core.List.{List, [], ◌∷◌, ◌++◌}
+use mathlib.Core.List.{List, [], ◌∷◌}
 use mathlib.Core.Logic.{◌≢◌}
 use Prim.Native.Nat.{ℕ, zero, suc, ◌+◌, ◌≤◌, ◌<◌}
 use native.Mathlib.Omega.{arith}
@@ -12,7 +12,7 @@ use Rattle.answers.specs.Limits.{most_patterns, byte_values}
 use Rattle.answers.specs.Refusals.{no_token, room, token_room}
 use Rattle.pieces.specs.declared.Ending.TheVariants.{Whole, NoToken, NoRoom}
 use Rattle.pieces.specs.Cut.{space, piece, numbers_of, ends_of, answer_of}
-use Rattle.pieces.specs.Cut.{TokenAt, NoTokenAt, Cut, end_of_line, space_dropped, token_cut, no_token_lem, no_room}
+use Rattle.pieces.specs.Cut.{TokenAt, NoTokenAt, end_of_line, space_dropped, token_cut, no_token_lem, no_room}
 use Rattle.pieces.specs.Calls.{CutWithOutcome}
 use Rattle.pieces.specs.Examples.{line, one_row}
 use Rattle.pieces.specs.Rows.{rows_in, cell_at, Walk, here, on, Says}

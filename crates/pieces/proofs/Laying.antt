@@ -1,14 +1,14 @@
 -- Where the pieces stand in the line, and where a cut ends.
 use mathlib.Core.Path.{◌≡◌, refl, sym, ap, subst, ◌∙◌}
 use mathlib.Core.List.{List, [], ◌∷◌, ◌++◌, append_assoc, append-nil}
-use Prim.Native.Nat.{ℕ, suc, ◌+◌, ◌-◌, ◌≤◌}
-use native.Mathlib.Nat.{add-zero, sub-zero}
+use Prim.Native.Nat.{ℕ, suc, ◌+◌}
+use native.Mathlib.Nat.{add-zero}
 use native.Mathlib.Omega.{arith}
-use lib.ListN.{length, take, drop, replicate, length-append, take-append-drop}
+use lib.ListN.{length, take, length-append, take-append-drop}
 use lib.Seq.{length-take-le}
 use Rattle.pieces.specs.declared.Ending.{Ending}
 use Rattle.pieces.specs.declared.Ending.TheVariants.{Whole}
-use Rattle.pieces.specs.Cut.{space, Piece, piece, behind, TokenAt, Cut, end_of_line, space_dropped, token_cut, no_token_lem, no_room}
+use Rattle.pieces.specs.Cut.{space, Piece, piece, Cut, end_of_line, space_dropped, token_cut, no_token_lem, no_room}
 use Rattle.pieces.specs.Laid.{LaidOut, last_spaces, next_piece, Ends, nothing_left, no_token_there, no_room_left, CutStopped}
 
 -- one space more in front

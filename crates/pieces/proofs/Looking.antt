@@ -10,7 +10,7 @@ use lib.Seq.{drop-cons, take_all, take-append-add}
 use Rattle.answers.specs.Limits.{most_patterns, byte_values}
 use Rattle.pieces.specs.declared.Match.{Match}
 use Rattle.pieces.specs.declared.Match.TheVariants.{Token, Nothing}
-use Rattle.pieces.specs.Cut.{TokenAt, NoTokenAt}
+use Rattle.pieces.specs.Cut.{TokenAt}
 use Rattle.pieces.specs.Moves.{Noted, longer, kept, Matched, token, nothing}
 use Rattle.pieces.specs.Rows.{rows_in, cell_at, Walk, here, Says}
 use Rattle.pieces.proofs.Walks.{walk_start, walk_more, walk_stuck, says_token}

@@ -1,10 +1,10 @@
 -- Each piece is matched by its pattern, a line has no more pieces than bytes, and what an answer names lies in it.
 use mathlib.Core.Path.{◌≡◌, subst}
-use mathlib.Core.List.{List, [], ◌∷◌}
+use mathlib.Core.List.{List, ◌∷◌}
 use mathlib.Core.Option.{some}
 use Prim.Native.Nat.{ℕ, zero, suc, ◌+◌, ◌≤◌, ◌<◌}
 use native.Mathlib.Omega.{arith}
-use lib.ListN.{length, take, drop, get_elem?, length-drop}
+use lib.ListN.{length, take, get_elem?, length-drop}
 use Rattle.pieces.specs.declared.Ending.{Ending}
 use Rattle.pieces.specs.declared.Ending.TheVariants.{NoRoom}
 use Rattle.answers.specs.Answers.{done, stop}

@@ -1,5 +1,5 @@
 -- What is done at a place of the line, over any meaning: from what the longest match is, and to what is left of the cut.
-use mathlib.Core.Path.{◌≡◌, sym, ap, subst, ◌∙◌}
+use mathlib.Core.Path.{◌≡◌, sym, subst}
 use mathlib.Core.List.{List, [], ◌∷◌}
 use mathlib.Core.Logic.{◌≢◌}
 use Prim.Native.Nat.{ℕ, suc, ◌+◌, ◌-◌, ◌≤◌, ◌<◌}
@@ -10,7 +10,6 @@ use Rattle.pieces.specs.declared.Ending.{Ending}
 use Rattle.pieces.specs.declared.Ending.TheVariants as endings
 use Rattle.pieces.specs.declared.Match.{Match}
 use Rattle.pieces.specs.declared.Match.TheVariants.{Token, Nothing}
-use Rattle.pieces.specs.declared.Move.{Move}
 use Rattle.pieces.specs.declared.Move.TheVariants.{Skip, Take, Stop}
 use Rattle.pieces.specs.Cut.{space, Piece, piece, TokenAt, NoTokenAt, Cut, end_of_line, space_dropped, token_cut, no_token_lem, no_room}
 use Rattle.pieces.specs.Moves.{Starts, Matched, token, nothing, DoneAt, ends, skips, takes, finds_nothing, lacks_room}

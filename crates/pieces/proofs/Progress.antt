@@ -1,7 +1,7 @@
 -- The loop over the line: the pieces so far and what they leave in the buffers; what is left, cut, completes them to the whole.
-use mathlib.Core.Path.{◌≡◌, refl, sym, ap, subst, ◌∙◌}
+use mathlib.Core.Path.{◌≡◌, refl, sym, ap, ◌∙◌}
 use mathlib.Core.List.{List, [], ◌∷◌, ◌++◌, append_assoc, append-nil, map-append}
-use Prim.Native.Nat.{ℕ, suc, ◌+◌, ◌-◌, ◌≤◌, ◌<◌}
+use Prim.Native.Nat.{ℕ, ◌+◌, ◌-◌, ◌≤◌, ◌<◌}
 use native.Mathlib.Numerals.{add-one}
 use native.Mathlib.Nat.{sub-zero}
 use native.Mathlib.Omega.{arith}
@@ -11,7 +11,7 @@ use Rattle.answers.specs.declared.Answer.{Answer}
 use Rattle.answers.specs.Buffers.{over}
 use Rattle.pieces.specs.declared.Ending.{Ending}
 use Rattle.pieces.specs.declared.Move.TheVariants.{Skip, Take, Stop}
-use Rattle.pieces.specs.Cut.{Piece, piece, behind, numbers_of, ends_of, Cut, answer_of}
+use Rattle.pieces.specs.Cut.{Piece, behind, numbers_of, ends_of, Cut, answer_of}
 use Rattle.pieces.specs.Calls.{CutWithOutcome}
 use Rattle.pieces.specs.Moves.{DoneAt}
 use Rattle.pieces.specs.Rows.{Says}

@@ -6,7 +6,7 @@ use mathlib.Core.Option.{Option, some}
 use Prim.Native.Nat.{ℕ, zero, suc, ◌+◌, ◌≤◌, ◌<◌}
 use native.Mathlib.Decide.{dec_lt}
 use native.Mathlib.Omega.{arith}
-use lib.ListN.{length, take, drop, get_elem?, get_or, length-append, length-drop, take-append-drop}
+use lib.ListN.{length, take, drop, get_elem?, get_or, length-append, take-append-drop}
 use lib.Seq.{length-take-le, drop_at}
 use Rattle.pieces.specs.declared.Ending.{Ending}
 use Rattle.pieces.specs.Cut.{space, Piece, piece, behind, ends_of}

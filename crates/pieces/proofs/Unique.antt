@@ -1,14 +1,14 @@
 -- A line has one cut, and a cut with given cells one outcome.
 use mathlib.Core.Path.{◌≡◌, refl, sym, ap, ap₂, subst, ◌∙◌}
-use mathlib.Core.List.{List, [], ◌∷◌}
-use Prim.Native.Nat.{ℕ, suc, ◌+◌, ◌≤◌, ◌<◌}
+use mathlib.Core.List.{List, ◌∷◌}
+use Prim.Native.Nat.{ℕ, ◌+◌, ◌<◌}
 use native.Mathlib.Decide.{dec_lt}
 use native.Mathlib.Omega.{arith}
 use lib.ListN.{length, take, drop}
 use Rattle.answers.specs.declared.Answer.{Answer}
 use Rattle.answers.specs.Buffers.{over}
 use Rattle.pieces.specs.declared.Ending.{Ending}
-use Rattle.pieces.specs.Cut.{space, Piece, piece, numbers_of, ends_of, answer_of}
+use Rattle.pieces.specs.Cut.{Piece, piece, numbers_of, ends_of, answer_of}
 use Rattle.pieces.specs.Cut.{TokenAt, NoTokenAt, Cut, end_of_line, space_dropped, token_cut, no_token_lem, no_room}
 use Rattle.pieces.specs.Calls.{CutWithOutcome}
 

@@ -29,9 +29,9 @@ module _ {cells : List ℕ} where
   pub walk_split : {r t : ℕ} (u v : List ℕ)
       → Walk cells r (u ++ v) t
       → (s : ℕ) × Walk cells r u s × Walk cells s v t
-  walk_split {r} [] v walk = (r, here (walk_start walk), walk)
-  walk_split (b ∷ u) v (on inside byte walk) =
-      let rest = walk_split u v walk in (rest.0, on inside byte rest.1, rest.2)
+  walk_split {r = r} [] v walk = (r, here (walk_start walk), walk)
+  walk_split {r = r} (b ∷ u) v (on inside byte walk) =
+      let rest = walk_split {r = cell_at cells r b} u v walk in (rest.0, on inside byte rest.1, rest.2)
 
   -- one byte more
   pub walk_more : {r s b : ℕ} {u : List ℕ}

@@ -1,6 +1,6 @@
 -- A line cut into pieces, over any meaning of the patterns. Document 02, W3: "The longest match wins, and among equals
 -- the lowest pattern", "a space where a token would start is dropped". Definitions only.
-use Rattle.std.specs.Prelude.{◌≡◌, ◌≢◌, List, [], ◌∷◌, map, ℕ, zero, suc, ◌+◌, ◌≤◌, ◌<◌, length, take, drop}
+use Rattle.std.specs.Prelude.{◌≢◌, List, [], ◌∷◌, map, ℕ, zero, suc, ◌+◌, ◌≤◌, ◌<◌, length, take, drop}
 use Rattle.sets.specs.Calls.{no_set}
 use Rattle.answers.specs.declared.Answer.{Answer}
 use Rattle.answers.specs.Answers.{done, stop}

@@ -1,6 +1,6 @@
 -- The words of a set that lies in a slice: where they stand, what a store changes of them, and words that are written from
 -- a place on.
-use mathlib.Core.Path.{◌≡◌, refl, ap, ◌∙◌}
+use mathlib.Core.Path.{◌≡◌, refl, sym, ap, subst, ◌∙◌}
 use mathlib.Core.List.{List, [], ◌∷◌}
 use Prim.Native.Nat.{ℕ, zero, suc, ◌+◌, ◌^◌, ◌≤◌, ◌<◌}
 use native.Mathlib.Nat.{add-zero}
@@ -59,10 +59,15 @@ pub words_set : (l : List ℕ) (at n j x : ℕ) → j < n → at + j < length l
 unfolding words_at
 words_set l at zero j x inside held = absurd (omega arith)
 words_set l at (suc n) zero x inside held =
-    rw (add-zero at, get_or-set_same l at x 0 (omega arith), words_before l at x (suc at) n (omega arith))
+    subst (λ (i : ℕ). get_or (set l i x) at 0 ∷ words_at (set l i x) (suc at) n ≡ x ∷ words_at l (suc at) n)
+    (sym (add-zero at))
+    (rw (get_or-set_same l at x 0 (omega arith), words_before l at x (suc at) n (omega arith)))
 words_set l at (suc n) (suc j) x inside held =
-    rw (next_word at j, get_or-set_other l (suc at + j) at x 0 (λ same. omega arith))
-    (ap (λ (ws : List ℕ). get_or l at 0 ∷ ws) (words_set l (suc at) n j x (omega arith) (omega arith)))
+    subst
+    (λ (i : ℕ). get_or (set l i x) at 0 ∷ words_at (set l i x) (suc at) n ≡ get_or l at 0 ∷ set (words_at l (suc at) n) j x)
+    (sym (next_word at j))
+    (rw (get_or-set_other l (suc at + j) at x 0 (λ same. omega arith))
+    (ap (λ (ws : List ℕ). get_or l at 0 ∷ ws) (words_set l (suc at) n j x (omega arith) (omega arith))))
 
 -- words that are written back change nothing, and with one of them replaced they change that one
 pub written_back : (l : List ℕ) (at n : ℕ) → written l at (words_at l at n) ≡ l

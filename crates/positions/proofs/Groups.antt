@@ -1,9 +1,9 @@
 -- A group: an alternation one deeper, with its end; where no group may open any more, the place is refused.
 use mathlib.Core.Path.{◌≡◌, refl, sym, ap, ◌∙◌}
-use mathlib.Core.Bool.{true, false, false≢true}
-use mathlib.Core.List.{List, [], ◌∷◌}
+use mathlib.Core.Bool.{true, false≢true}
+use mathlib.Core.List.{List, ◌∷◌}
 use mathlib.Core.Option.{some, none}
-use Prim.Native.Nat.{ℕ, zero, suc, ◌+◌, ◌≤◌, ◌<◌, max}
+use Prim.Native.Nat.{ℕ, suc, ◌≤◌, ◌<◌}
 use native.Mathlib.Numerals.{add-one}
 use native.Mathlib.Decide.{dec_lt}
 use native.Mathlib.Omega.{arith}
@@ -15,8 +15,8 @@ use Rattle.pattern.specs.Reader.{Begun, outside, standing, nothing_begun, settle
 use Rattle.pattern.proofs.Promise.{says_kind, says_no_kind, says_short}
 use Rattle.parts.specs.declared.Part.{Part}
 use Rattle.parts.specs.Classes.{one_if}
-use Rattle.parts.specs.Reading.{ItemRead, AlternationRead, Meant, AlternationPassed}
-use Rattle.parts.specs.Joins.{Refused, behind, CloseRead, close_unread, closed_there, not_closed}
+use Rattle.parts.specs.Reading.{ItemRead, AlternationRead}
+use Rattle.parts.specs.Joins.{Refused, CloseRead, close_unread, closed_there, not_closed}
 use Rattle.parts.proofs.Promise.{mark_inside}
 use Rattle.positions.proofs.Tellings.{told_behind}
 

@@ -3,20 +3,18 @@ use mathlib.Core.Path.{◌≡◌, refl, sym, ap, ◌∙◌}
 use mathlib.Core.Bool.{Bool, true, false, false≢true}
 use mathlib.Core.List.{List}
 use mathlib.Core.Option.{some, none}
-use Prim.Native.Nat.{ℕ, suc, ◌+◌, ◌≤◌, ◌<◌, max}
+use Prim.Native.Nat.{ℕ, suc, ◌<◌}
 use native.Mathlib.Numerals.{add-one}
 use native.Mathlib.Omega.{arith}
 use lib.ListN.{length, get_or}
-use Rattle.pattern.specs.Pattern.{Expression, plus, opt, star}
-use Rattle.pattern.specs.Marks.{star_sign, plus_sign, question_mark}
+use Rattle.pattern.specs.Pattern.{Expression}
 use Rattle.pattern.specs.Written.{Sign, any_number, at_least_once, at_most_once}
-use Rattle.pattern.specs.Kinds.{repeats, marks, kind_of}
+use Rattle.pattern.specs.Kinds.{kind_of}
 use Rattle.pattern.specs.Reader.{Begun, outside, standing, with_item, settled, marked, moved, says}
 use Rattle.pattern.proofs.Promise.{says_kind, says_settled, sign_kind}
 use Rattle.parts.specs.declared.Part.{Part}
-use Rattle.parts.specs.Classes.{one_if}
 use Rattle.parts.specs.Parts.{Told, Tabled}
-use Rattle.parts.specs.Reading.{ItemPassed, RepetitionPassed, Meant, ItemRead, RepetitionRead}
+use Rattle.parts.specs.Reading.{ItemRead, RepetitionRead}
 use Rattle.parts.specs.Joins.{behind, SignRead, sign_unread, no_sign, question_read, plus_read, star_read}
 use Rattle.parts.proofs.Promise.{mark_inside}
 use Rattle.positions.proofs.Tellings.{told_plus, told_opt, tabled_plus, tabled_opt}

@@ -1,20 +1,18 @@
 -- Repetitions one behind the other are a sequence, and sequences with bars between them an alternation.
 use mathlib.Core.Path.{◌≡◌, refl, sym, ap, ◌∙◌}
-use mathlib.Core.Bool.{Bool, true, false, false≢true}
+use mathlib.Core.Bool.{true}
 use mathlib.Core.List.{List}
-use mathlib.Core.Option.{Option, some, none}
-use Prim.Native.Nat.{ℕ, suc, ◌+◌, ◌≤◌, ◌<◌, max}
-use native.Mathlib.Numerals.{add-one}
+use mathlib.Core.Option.{some, none}
+use Prim.Native.Nat.{ℕ, suc}
 use native.Mathlib.Omega.{arith}
-use lib.ListN.{length, get_or}
+use lib.ListN.{get_or}
 use Rattle.pattern.specs.Pattern.{Expression, cat, alt}
 use Rattle.pattern.specs.Marks.{bar}
 use Rattle.pattern.specs.Kinds.{kind_in, kind_of}
 use Rattle.pattern.specs.Reader.{Begun, outside, standing, nothing_begun, joined, with_item, settled, alternation_of, divided, marked, moved, says}
 use Rattle.pattern.proofs.Promise.{says_kind}
 use Rattle.parts.specs.declared.Part.{Part}
-use Rattle.parts.specs.Classes.{one_if}
-use Rattle.parts.specs.Reading.{GoesOn, nothing_before, item_follows, alternative, RepetitionRead, RepetitionsRead, SequenceRead, AlternativesRead, AlternationRead}
+use Rattle.parts.specs.Reading.{nothing_before, item_follows, alternative, RepetitionRead, RepetitionsRead, SequenceRead, AlternativesRead, AlternationRead}
 use Rattle.parts.specs.Joins.{InTurn, EitherOf, Continues, Divides}
 use Rattle.parts.proofs.Promise.{mark_inside}
 use Rattle.positions.proofs.Tellings.{told_cat, tabled_cat, told_alt, tabled_alt}

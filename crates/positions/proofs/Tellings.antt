@@ -1,20 +1,18 @@
 -- What a part tells of its positions and adds to the tables, for each form of expression.
-use mathlib.Core.Path.{◌≡◌, refl, sym, ap, ◌∙◌, subst}
+use mathlib.Core.Path.{◌≡◌, ◌∙◌, subst}
 use mathlib.Core.Logic.{◌↔◌, ◌⊎◌, inl, inr, ⊎_elim}
 use mathlib.Core.Bool.{Bool, true, false, cond, ◌&&◌, ◌||◌}
 use mathlib.Core.List.{List}
 use Prim.Native.Nat.{ℕ, ◌+◌, ◌≤◌}
 use native.Mathlib.Omega.{arith}
-use Rattle.answers.specs.Limits.{most_positions, position_words, point_words}
-use Rattle.sets.specs.Sets.{member, Exactly, united}
+use Rattle.answers.specs.Limits.{most_positions}
+use Rattle.sets.specs.Sets.{Exactly, united}
 use Rattle.sets.specs.Calls.{Decides}
-use Rattle.sets.specs.Words.{places}
 use Rattle.sets.proofs.Promise.{exactly_alike, exactly_united}
 use Rattle.pattern.specs.Pattern.{Expression, cat, alt, plus, opt}
-use Rattle.pattern.specs.Positions.{size, Null, null_opt, FirstPosition, LastPosition, FollowPosition, Reads}
+use Rattle.pattern.specs.Positions.{size, Null, null_opt, LastPosition, FollowPosition}
 use Rattle.pattern.proofs.Promise.{null_of_cat, null_of_alt, null_of_plus, first_of_cat, first_of_alt, first_of_plus, first_of_opt, last_of_cat, last_of_alt, last_of_plus, last_of_opt, follow_of_cat, follow_of_alt, follow_of_plus, follow_of_opt, reads_of_cat, reads_of_alt, reads_of_plus, reads_of_opt}
 use Rattle.parts.specs.declared.Part.{Part}
-use Rattle.parts.specs.Rows.{Rows}
 use Rattle.parts.specs.Parts.{positions_in, Told, Tabled}
 use Rattle.parts.specs.Leading.{Leads}
 use Rattle.parts.specs.Joins.{LedOn, behind, Turns, Splits}

@@ -13,7 +13,7 @@ use Rattle.pattern.specs.Marks.{most_open_groups, close_group}
 use Rattle.pattern.specs.Written.{IsPattern, BadAt, malformed, empty}
 use Rattle.pattern.specs.Kinds.{kind_in, kind_of}
 use Rattle.pattern.specs.Reader.{Begun, outside, standing, start, settled, closed, marked, moved, ended, refused}
-use Rattle.pattern.specs.Reader.{means, says, read_pattern}
+use Rattle.pattern.specs.Reader.{says, read_pattern}
 use Rattle.pattern.specs.Positions.{Null}
 use Rattle.pattern.proofs.Promise.{says_ends, says_no_kind}
 use Rattle.pattern.proofs.Promise.{read_exact, refused_exact, null_exact}

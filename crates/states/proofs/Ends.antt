@@ -1,17 +1,16 @@
 -- The lowest end in a set: what it says, and where it is found word by word.
-use mathlib.Core.Path.{◌≡◌, refl, sym, ap, ◌∙◌}
-use mathlib.Core.Bool.{Bool, true, false, cond}
+use mathlib.Core.Path.{◌≡◌, refl, sym, ◌∙◌}
+use mathlib.Core.Bool.{true, false, cond}
 use mathlib.Core.List.{List}
 use Prim.Native.Nat.{ℕ, zero, suc, ◌+◌, ◌-◌, ◌*◌, ◌/◌, ◌%◌, ◌≤◌, ◌<◌}
-use native.Mathlib.Nat.{zero-add}
 use native.Mathlib.Decide.{dec_lt}
 use native.Mathlib.Omega.{arith}
 use lib.Dec.{ltb}
-use lib.ListN.{length, get_or}
+use lib.ListN.{get_or}
 use borrow.Author.Tests.{lt-ltb, le-ltb}
 use Rattle.sets.specs.Sets.{member}
 use Rattle.sets.specs.Words.{word_width, AreWords}
-use Rattle.points.specs.Points.{points_at, Lowest}
+use Rattle.points.specs.Points.{Lowest}
 use Rattle.points.proofs.Promise.{member_points}
 use Rattle.answers.specs.Limits.{most_patterns, most_positions, position_words, point_words}
 use Rattle.moves.specs.Tables.{set_of}

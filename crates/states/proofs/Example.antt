@@ -1,17 +1,16 @@
 -- The tables of a pattern that matches any number of bytes 0: position 0 reads byte 0, and it and the pattern's end can come first
 -- and after it. Its machine has one state, so that no premise of the theorems is empty.
 use mathlib.Core.Path.{◌≡◌, refl, sym, ap, ◌∙◌}
-use mathlib.Core.Bool.{true, false, false≢true}
+use mathlib.Core.Bool.{false≢true}
 use mathlib.Core.Logic.{◌≢◌}
 use mathlib.Core.List.{List, [], ◌∷◌, ◌++◌}
 use mathlib.Core.Option.{Option, some, none}
 use Prim.Native.Nat.{ℕ, zero, suc, ◌+◌, ◌*◌, ◌^◌, ◌≤◌, ◌<◌}
-use native.Mathlib.Decide.{dec_lt}
 use native.Mathlib.Numerals.{add-one}
 use native.Mathlib.Omega.{arith}
 use borrow.Author.Tests.{eqb-true}
-use lib.ListN.{length, get_elem?, replicate, length-append, length-replicate, replicate-append-replicate, get_or-eq_default}
-use Rattle.sets.specs.Sets.{member, Exactly}
+use lib.ListN.{length, replicate, length-replicate, replicate-append-replicate, get_or-eq_default}
+use Rattle.sets.specs.Sets.{member}
 use Rattle.sets.specs.Words.{word_width, places, value_of}
 use Rattle.sets.proofs.Members.{member_power}
 use Rattle.sets.proofs.Promise.{exactly_none, exactly_unique, member_none, no_words, more_words}
@@ -20,9 +19,9 @@ use Rattle.points.proofs.Promise.{points_fit, points_none}
 use Rattle.answers.specs.Buffers.{over}
 use Rattle.answers.specs.Limits.{position_words, point_words, byte_values, row_cells}
 use Rattle.answers.specs.Refusals.{room, machine_room}
-use Rattle.numbering.specs.Numbering.{IsState, Follows, Found, FoundAll}
+use Rattle.numbering.specs.Numbering.{Follows, Found, FoundAll}
 use Rattle.numbering.proofs.Promise.{found_nothing, found_begun, follows_at, turn_nothing, turn_met}
-use Rattle.moves.specs.Tables.{readers_of, follow_of, first_of, NextPoint}
+use Rattle.moves.specs.Tables.{readers_of, follow_of, first_of}
 use Rattle.states.specs.Machine.{Started, TableMove, tables, no_cell, cell_of, rows_of, token_of, lowest_end}
 use Rattle.states.specs.Making.{made_of, not_made, no_room, made, MadeOutcome}
 use Rattle.states.proofs.Turning.{tables_lawful}

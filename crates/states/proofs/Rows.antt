@@ -1,17 +1,14 @@
 -- The cells of rows: where each stands, and that rows which are right cell by cell are those of the states that were found.
-use mathlib.Core.Path.{◌≡◌, refl, sym, ap, ◌∙◌}
-use mathlib.Core.Logic.{◌≢◌}
+use mathlib.Core.Path.{◌≡◌, refl, ap, ◌∙◌}
 use mathlib.Core.List.{List, [], ◌∷◌, ◌++◌, map}
-use mathlib.Core.Option.{Option, some, none, some-injective, none-ne-some}
-use Prim.Native.Nat.{ℕ, zero, suc, ◌+◌, ◌-◌, ◌*◌, ◌/◌, ◌%◌, ◌≤◌, ◌<◌}
+use mathlib.Core.Option.{Option, some, some-injective, none-ne-some}
+use Prim.Native.Nat.{ℕ, zero, suc, ◌+◌, ◌*◌, ◌≤◌, ◌<◌}
 use native.Mathlib.Nat.{zero-add, suc-add}
-use native.Mathlib.Decide.{dec_lt}
 use native.Mathlib.Omega.{arith}
-use lib.ListN.{length, get_or, get_elem?, take, drop, length-append, length-take, length-drop, length-map, get_or-append, get_or-map}
-use lib.Seq.{get_or-append-add, get_or-take, get_or-drop, ext_get_or, length-take-le}
-use Rattle.answers.specs.Buffers.{over}
+use lib.ListN.{length, get_or, get_elem?, take, drop, length-append, length-drop, length-map, get_or-append, get_or-map}
+use lib.Seq.{get_or-append-add, get_or-take, length-take-le}
 use Rattle.answers.specs.Limits.{byte_values, row_cells}
-use Rattle.states.specs.Machine.{no_cell, cell_of, token_of, rows_of}
+use Rattle.states.specs.Machine.{cell_of, token_of, rows_of}
 
 -- an element by its place
 at_get_d : {A : Type 0} (xs : List A) (i : ℕ) (d x : A) → get_elem? xs i ≡ some x → get_or xs i d ≡ x

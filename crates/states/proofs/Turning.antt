@@ -1,6 +1,6 @@
 -- The search of the tables' machine, cell by cell: nothing comes after, a state met before, a new state, or what came after by the
 -- byte before; where it begins, and where it ends.
-use mathlib.Core.Path.{◌≡◌, refl, sym, ap, ◌∙◌}
+use mathlib.Core.Path.{◌≡◌, refl, sym, ◌∙◌}
 use mathlib.Core.Logic.{◌≢◌, ◌↔◌}
 use mathlib.Core.List.{List, [], ◌∷◌, ◌++◌}
 use mathlib.Core.Option.{Option, some, none, some-injective}
@@ -15,8 +15,8 @@ use Rattle.sets.proofs.Promise.{exactly_unique}
 use Rattle.answers.specs.Limits.{point_words, byte_values, most_states}
 use Rattle.numbering.specs.Numbering.{Lawful, IsState, Follows, Found, FoundAll, TooMany}
 use Rattle.numbering.proofs.Promise.{element, inside, found_nothing, found_begun, follows_at, turn_nothing, turn_met, turn_new}
-use Rattle.moves.specs.Tables.{readers_of, first_of, set_of, NextPoint}
-use Rattle.states.specs.Machine.{Started, TableMove, tables, no_cell}
+use Rattle.moves.specs.Tables.{readers_of, set_of, NextPoint}
+use Rattle.states.specs.Machine.{TableMove, tables}
 use Rattle.states.specs.Searching.{states_of, Kept, Numbered, nothing, numbered, Target, RunEnd, Searching, Begun}
 use Rattle.states.proofs.Sets.{states_length, state_at, states_alike}
 use Rattle.states.proofs.Bytes.{exactly_repeats}

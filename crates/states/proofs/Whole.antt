@@ -1,7 +1,7 @@
 -- Rows that were laid cell by cell, over all states that were found, are the rows of the machine.
 use mathlib.Core.Path.{◌≡◌, refl, sym, ap, ◌∙◌}
 use mathlib.Core.Logic.{◌≢◌}
-use mathlib.Core.List.{List, ◌++◌}
+use mathlib.Core.List.{List}
 use mathlib.Core.Option.{Option, some, none, some-injective}
 use Prim.Native.Nat.{ℕ, ◌+◌, ◌-◌, ◌*◌, ◌/◌, ◌%◌, ◌≤◌, ◌<◌}
 use native.Mathlib.Decide.{dec_lt}
@@ -17,7 +17,7 @@ use Rattle.answers.specs.Refusals.{room, states, machine_room}
 use Rattle.numbering.specs.Numbering.{IsState, FoundAll}
 use Rattle.numbering.proofs.Promise.{inside, moves_cell, cell_none}
 use Rattle.moves.specs.Tables.{set_of, NextPoint}
-use Rattle.states.specs.Machine.{TableMove, tables, no_cell, cell_of, token_of, rows_of}
+use Rattle.states.specs.Machine.{TableMove, tables, cell_of, token_of, rows_of}
 use Rattle.states.specs.Searching.{states_of, Sought, Numbered, nothing, numbered, Searched}
 use Rattle.states.specs.Making.{made_of, not_made, too_many, no_room, made, MadeOutcome}
 use Rattle.states.specs.Filling.{Cell, Filled}

@@ -1,6 +1,6 @@
 -- The search for the states: sets kept one behind the other, and what each function of the search comes to. Working
 -- definitions, which no public contract cites.
-use Rattle.std.specs.Prelude.{◌≡◌, ◌≢◌, List, [], ◌∷◌, ◌++◌, ℕ, zero, suc, ◌+◌, ◌-◌, ◌*◌, ◌≤◌, ◌<◌, length, get_or}
+use Rattle.std.specs.Prelude.{◌≡◌, ◌≢◌, List, [], ◌∷◌, ◌++◌, ℕ, zero, suc, ◌+◌, ◌*◌, ◌≤◌, ◌<◌, length, get_or}
 use Rattle.std.proofs.Math.Option.{Option}
 use Rattle.sets.specs.Sets.{Exactly}
 use Rattle.sets.specs.Words.{places, AreWords}

@@ -1,0 +1,6 @@
+-- The profile of what judging gives.
+use borrow.Author.Rules.{rules}
+use Rattle.profile.proofs.plain.plain.Goals as goal
+
+pub returns : goal.returns
+returns c = c.profile_of.ensures.outcome c.judge-reading.ensures
