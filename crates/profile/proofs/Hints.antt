@@ -37,6 +37,7 @@ marked_only j h =
     (exactly_alike (λ k. (λ p. one p, λ e. inr e)) (exactly_added j h (exactly_none width {P = λ (k : ℕ). ⊥} (λ k p. p))))
   where
     one : {k : ℕ} → ⊥ ⊎ (k ≡ j) → k ≡ j
+    one {k = k} (inl x') = elim x' [ ]
     one (inr e) = e
 
 -- a filled column among the first j of row A has this place
@@ -130,6 +131,7 @@ module _ (g : Grammar) (table : List ℕ) (A : ℕ) where
             record { member = column endmark; place = there; in_set = columned (wants_row (cell_end ∙ filled)) }
 
         back : {k : ℕ} (m : Member) → place_of m ≡ k → Columned (Wanted (cell_of g table) (WantsRow A)) m → FilledAt g table A (g.tokens + 1) k
+        back {k = k} empty e x'' = elim x'' [ ]
         back (column (token t)) e (columned (wants_row {p = p} f)) =
             let h = cell_known f in
             record { index = t; below = omega arith; production = p; filled = sym (cell_token h) ∙ f; place = rw (lt-ltb t g.tokens h) e }
@@ -141,6 +143,7 @@ token_asks : {cell : ℕ → Column → Option ℕ} (t : ℕ) → t < width → 
 token_asks {cell} t h = exactly_alike (λ k. (λ e. record { member = column (token t); place = sym e; in_set = columned wants_token }, λ a. back a.member a.place a.in_set)) (marked_only t h)
   where
     back : {k : ℕ} (m : Member) → place_of m ≡ k → Columned (Wanted cell (WantsToken t)) m → k ≡ t
+    back {k = k} empty e x'' = elim x'' [ ]
     back (column (token s)) e (columned wants_token) = sym e
     back (column endmark) e (columned h) = elim h [ ]
 
@@ -148,6 +151,7 @@ end_asks : {cell : ℕ → Column → Option ℕ} → IsSet (marking end_mark 0)
 end_asks {cell} = exactly_alike (λ k. (λ e. record { member = column endmark; place = sym e; in_set = columned wants_end }, λ a. back a.member a.place a.in_set)) (marked_only end_mark (omega arith))
   where
     back : {k : ℕ} (m : Member) → place_of m ≡ k → Columned (Wanted cell WantsEnd) m → k ≡ end_mark
+    back {k = k} empty e x'' = elim x'' [ ]
     back (column endmark) e (columned wants_end) = sym e
     back (column (token t)) e (columned h) = elim h [ ]
 

@@ -17,7 +17,7 @@ use Rattle.answers.specs.Refusals.{room, conflict, syntax}
 use Rattle.book.specs.Judging.{Serves}
 use Rattle.book.proofs.Promise.{refuses_number, refuses_not_serves, serves_unique}
 use Rattle.first.specs.Numbers.{IsSet}
-use Rattle.follow.specs.Calls.{SetsFit, no_first, no_follow}
+use Rattle.follow.specs.Calls.{SetsFit, SetsRoom, no_first, no_follow}
 use Rattle.table.specs.Calls.{BuildOutcome}
 use Rattle.table.specs.Calls as calls
 use Rattle.table.specs.Table.{size, FirstConflict, BuiltWithoutConflict}
@@ -137,10 +137,12 @@ pub plain_builds : {book first follow table : List ℕ} {a : Answer} {f w t : Li
     → size g ≤ length table
     → a ≡ done 0
 plain_builds (calls.refused r) s p fit roomy = absurd (refuses_not_serves r s)
-plain_builds (calls.no_room t (no_first h)) s p fit roomy =
-    absurd (omega (arith, fit.first_fits, ap (λ (x : Grammar). x.nonterminals) (serves_unique t s)))
-plain_builds (calls.no_room t (no_follow h k)) s p fit roomy =
-    absurd (omega (arith, fit.follow_fits, ap (λ (x : Grammar). x.nonterminals) (serves_unique t s)))
+plain_builds {first = first} {follow = follow} {g = g} (calls.no_room {g = other} t short) s p fit roomy =
+    absurd (none_short (serves_unique t s) short)
+    where
+      none_short : {a : Answer} → other ≡ g → SetsRoom other first follow a → ⊥
+      none_short same (no_first h) = omega (arith, fit.first_fits, ap (λ (x : Grammar). x.nonterminals) same)
+      none_short same (no_follow h k) = omega (arith, fit.follow_fits, ap (λ (x : Grammar). x.nonterminals) same)
 plain_builds (calls.no_table t h k) s p fit roomy =
     absurd (omega (arith, ap (λ (x : Grammar). size x) (serves_unique t s)))
 plain_builds {g = g} (calls.conflict {i = i} {p = m} {q = n} t h k first) s p fit roomy =
