@@ -1,0 +1,18 @@
+-- The reading's answer is written, or the answer buffer is too short.
+use mathlib.Core.Path.{refl}
+use native.Mathlib.Omega.{arith}
+use borrow.Author.Rules.{rules}
+use Rattle.desk.specs.Desk.{short}
+use Rattle.desk.proofs.AnswerBytes.{answer_size_is}
+use Rattle.desk.proofs.Calls.{answered_call}
+use Rattle.desk.proofs.desk_judge.Goals as goal
+
+pub returns-then-answer-lt-ANSWER_SIZE : goal.returns-then-answer-lt-ANSWER_SIZE
+returns-then-answer-lt-ANSWER_SIZE c = record { call = short (λ lent. omega (arith, answer_size_is)) }
+
+pub write_answer-requires : goal.write_answer-requires
+write_answer-requires c = omega (arith, answer_size_is)
+
+pub returns : goal.returns
+returns c =
+    record { call = answered_call c.judge-reading.result.answer (omega (arith, answer_size_is)) (record { reading = c.judge-reading.result; judged = c.judge-reading.ensures; answer = refl }) c.write_answer.ensures }
