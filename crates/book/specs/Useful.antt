@@ -1,6 +1,6 @@
 -- The steps to refusal 6: which nonterminals the right sides name, and the lowest nonterminal that is useless.
 -- Document 01, "Refusals and their numbers", 6; only contracts inside the crate cite what stands here.
-use Rattle.std.specs.Prelude.{◌≡◌, true, List, ℕ, ◌≤◌, ◌<◌, length}
+use Rattle.std.specs.Prelude.{◌≡◌, true, List, ℕ, ◌<◌, length}
 use Rattle.std.proofs.Math.Option.{some}
 use Rattle.std.proofs.Math.ListN.{get_elem?}
 use Rattle.std.proofs.lemmas.List.Edits.{sets}

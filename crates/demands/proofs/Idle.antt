@@ -1,6 +1,6 @@
 -- Programs that do no work fail the very demand that document 01 names, on house book H.
 use mathlib.Core.Path.{◌≡◌, refl, sym, ap, ◌∙◌}
-use mathlib.Core.Logic.{◌⊎◌, ⊎_elim, ◌≢◌}
+use mathlib.Core.Logic.{⊎_elim, ◌≢◌}
 use mathlib.Core.List.{List, [], ◌∷◌}
 use Prim.Native.Nat.{ℕ, ◌≤◌}
 use native.Mathlib.Omega.{arith}

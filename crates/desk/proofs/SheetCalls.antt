@@ -1,11 +1,11 @@
 -- The calls of grammar sheets: one outcome, answers that fit their words, and the way over and back.
-use mathlib.Core.Path.{◌≡◌, refl, sym, ap, ◌∙◌, subst}
+use mathlib.Core.Path.{◌≡◌, sym, ap, ◌∙◌, subst}
 use mathlib.Core.List.{List}
 use Prim.Native.Nat.{ℕ, ◌^◌, ◌≤◌, ◌<◌}
 use native.Mathlib.Omega.{arith}
 use lib.ListN.{length, take}
 use Rattle.answers.specs.declared.Answer.{Answer}
-use Rattle.answers.specs.Answers.{done, refusal}
+use Rattle.answers.specs.Answers.{done}
 use Rattle.answers.specs.Buffers.{over}
 use Rattle.answers.specs.Refusals.{served}
 use Rattle.answers.proofs.Promise.{Unique}
@@ -17,7 +17,7 @@ use Rattle.sheet.proofs.Promise.{write_outcome_unique, read_outcome_unique, faul
 use Rattle.sheet.proofs.Promise.{read_steps, write_steps, sheet_book_sheet, book_sheet_book}
 use Rattle.desk.specs.Desk.{answer_bytes, Lent, WriteSheetCall, ReadSheetCall}
 use Rattle.desk.specs.Demands.{answer_from}
-use Rattle.desk.proofs.Calls.{AnswerOf, called_answer}
+use Rattle.desk.proofs.Calls.{called_answer}
 use Rattle.desk.proofs.ReadBack.{FitsWords, answer_read}
 use Rattle.desk.proofs.Fitting.{done_fits, refusal_fits}
 

@@ -2,7 +2,7 @@
 -- have their reason.
 use mathlib.Core.Path.{◌≡◌, refl, sym, ◌∙◌}
 use mathlib.Core.Bool.{false≢true}
-use mathlib.Core.Logic.{◌⊎◌, ⊎_elim}
+use mathlib.Core.Logic.{⊎_elim}
 use mathlib.Core.List.{List, [], ◌∷◌}
 use Prim.Native.Nat.{ℕ, ◌<◌}
 use native.Mathlib.Decide.{ℕ_discrete, dec_lt}
@@ -10,7 +10,7 @@ use native.Mathlib.Omega.{arith}
 use lib.ListN.{length, get_or, replicate}
 use lib.Seq.{get_or-set_same, get_or-set_other, set_out}
 use Rattle.grammar.specs.declared.Symbol.TheVariants.{Nonterminal}
-use Rattle.grammar.specs.Grammar.{Form, Grammar, Member, Every, each, Rule, First, Known}
+use Rattle.grammar.specs.Grammar.{Form, Grammar, Member, Every, Rule, First, Known}
 use Rattle.grammar.specs.Next.{merged}
 use Rattle.grammar.proofs.Join.{End, Join}
 use Rattle.grammar.proofs.Sets.{FirstOf, join_first, first_addition}

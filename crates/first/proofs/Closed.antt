@@ -8,7 +8,7 @@ use native.Mathlib.Omega.{arith}
 use lib.ListN.{length, take, get_or}
 use lib.Seq.{length-take-le, get_or-take}
 use Rattle.grammar.specs.declared.Symbol.TheVariants.{Nonterminal}
-use Rattle.grammar.specs.Grammar.{Form, Grammar, Column, token, endmark, Member, column, Every, nothing, each, Rule, First, Known}
+use Rattle.grammar.specs.Grammar.{Form, Grammar, Column, token, endmark, Member, Every, nothing, each, Rule, First, Known}
 use Rattle.grammar.specs.Grammar.{known_token, known_nonterminal}
 use Rattle.grammar.specs.Next.{merged}
 use Rattle.grammar.proofs.Join.{Family, End, ended, Join, over, here, begins, past}

@@ -4,7 +4,7 @@ use mathlib.Core.List.{List}
 use Prim.Native.Nat.{ℕ, ◌<◌}
 use native.Mathlib.Omega.{arith}
 use lib.ListN.{length, get_or, replicate}
-use Rattle.grammar.specs.Grammar.{Form, Grammar, each, Rule}
+use Rattle.grammar.specs.Grammar.{Form, Grammar, Rule}
 use Rattle.sets.specs.Sets.{width, empty_string, Subset, only}
 use Rattle.sets.proofs.Promise.{only_fits}
 use Rattle.answers.specs.Limits.{most_nonterminals}

@@ -1,11 +1,9 @@
 -- FIRST of two strings put together is the join of their FIRST sets: of numbers, of trails, and of the calls.
 use mathlib.Core.Path.{◌≡◌, refl, sym, ap, ◌∙◌, subst}
-use mathlib.Core.Logic.{◌↔◌, ◌⊎◌, ◌≢◌, inl, inr}
-use mathlib.Core.List.{List, [], ◌∷◌, ◌++◌, map}
-use mathlib.Core.Option.{Option, some}
-use Prim.Native.Nat.{ℕ, ◌≤◌, ◌<◌}
+use mathlib.Core.Logic.{◌⊎◌, ◌≢◌, inl, inr}
+use mathlib.Core.List.{List, [], ◌∷◌, ◌++◌}
+use Prim.Native.Nat.{ℕ}
 use native.Mathlib.Omega.{arith}
-use lib.ListN.{length}
 use Rattle.grammar.specs.Grammar.{Form, Grammar, token, endmark, Member, column, empty, Every, Known, First}
 use Rattle.grammar.proofs.Append.{JoinedFirst, first_append}
 use Rattle.sets.specs.Sets.{empty_string, only, joined}

@@ -9,7 +9,7 @@ use native.Mathlib.Omega.{arith}
 use borrow.Author.Tests.{eq-eqb, eqb-true}
 use lib.ListN.{get_or}
 use Rattle.grammar.specs.declared.Symbol.TheVariants.{Token, Nonterminal}
-use Rattle.grammar.specs.Grammar.{Form, Grammar, Column, token, endmark, Member, column, Every, nothing, each, Known, known_token}
+use Rattle.grammar.specs.Grammar.{Form, Grammar, Column, token, endmark, Member, Every, nothing, each, Known, known_token}
 use Rattle.grammar.specs.Grammar.{known_nonterminal}
 use Rattle.grammar.specs.Next.{merged}
 use Rattle.grammar.proofs.Join.{Family, Join, over, here, begins, past}

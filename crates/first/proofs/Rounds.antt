@@ -9,7 +9,6 @@ use native.Mathlib.Decide.{ℕ_discrete, dec_lt}
 use native.Mathlib.Omega.{arith}
 use lib.ListN.{length, get_or, replicate}
 use lib.Seq.{get_or-set_same, get_or-set_other, set_out}
-use Rattle.grammar.specs.Grammar.{each}
 use Rattle.sets.specs.Sets.{width, united}
 use Rattle.sets.specs.Calls.{set_at, stored}
 use Rattle.sets.proofs.Promise.{united_fits, decides_true, decides_false}

@@ -5,7 +5,7 @@ use Prim.Native.Nat.{ℕ, zero, suc, ◌+◌, ◌-◌, ◌≤◌, ◌<◌}
 use native.Mathlib.Omega.{arith}
 use lib.ListN.{length, take, drop, get_or}
 use lib.Seq.{drop-cons}
-use Rattle.grammar.specs.Grammar.{Form, Grammar, each, Rule}
+use Rattle.grammar.specs.Grammar.{Form, Grammar, Rule}
 use Rattle.reader.specs.Fields.{symbol_of_byte, symbol_at, form_in, left_at, length_at, right_at, tail_at}
 use Rattle.reader.specs.Book.{Limits}
 use Rattle.book.specs.Judging.{index_of}

@@ -1,6 +1,5 @@
 -- A symbol string whose bytes are symbols of a grammar, and the form that it spells.
 use mathlib.Core.Path.{◌≡◌, refl, ◌∙◌, subst}
-use mathlib.Core.Logic.{◌≢◌}
 use mathlib.Core.List.{List, [], ◌∷◌, map}
 use mathlib.Core.Option.{Option, some, none, none-ne-some}
 use Prim.Native.Nat.{ℕ, suc, ◌-◌, ◌<◌}

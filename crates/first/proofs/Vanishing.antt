@@ -7,7 +7,7 @@ use Rattle.grammar.specs.declared.Symbol.{Symbol}
 use Rattle.grammar.specs.Grammar.{Form, Grammar, empty, Every, nothing, each, Known, First}
 use Rattle.grammar.specs.Vanishing.{Vanishes}
 use Rattle.grammar.proofs.Vanishing.{vanishes_none, vanishes_more, vanishes_ends}
-use Rattle.sets.specs.Sets.{empty_string, member, only}
+use Rattle.sets.specs.Sets.{empty_string, member}
 use Rattle.sets.proofs.Promise.{join_neutral_right}
 use Rattle.reader.specs.Book.{Limits}
 use Rattle.first.specs.Numbers.{At, IsSet}

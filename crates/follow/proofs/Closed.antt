@@ -5,7 +5,7 @@ use mathlib.Core.Bool.{true}
 use mathlib.Core.List.{List}
 use Prim.Native.Nat.{ℕ, ◌^◌, ◌<◌}
 use lib.ListN.{get_or}
-use Rattle.grammar.specs.Grammar.{Form, Grammar, Column, column, Every, each, Rule, Follow, Lookahead, Known}
+use Rattle.grammar.specs.Grammar.{Form, Grammar, Column, column, Every, Rule, Follow, Lookahead, Known}
 use Rattle.grammar.proofs.Join.{Join, Behind, join_cases}
 use Rattle.grammar.proofs.Sets.{FirstOf, FollowOf, first_of_closed, follow_complete, join_lookahead, lookahead_join, follow_not_empty}
 use Rattle.grammar.proofs.Sets.{lookahead_not_empty}

@@ -12,7 +12,7 @@ use lib.Seq.{get_or-set_same, get_or-set_other}
 use borrow.Author.Count.{below_more}
 use Rattle.grammar.specs.declared.Symbol.{Symbol}
 use Rattle.grammar.specs.declared.Symbol.TheVariants.{Token, Nonterminal}
-use Rattle.grammar.specs.Grammar.{Form, Grammar, each, Rule, Follow}
+use Rattle.grammar.specs.Grammar.{Form, Grammar, Rule, Follow}
 use Rattle.grammar.proofs.Join.{Behind, first, later}
 use Rattle.grammar.proofs.Rules.{below_rule}
 use Rattle.sets.specs.Sets.{width, end_mark, member, Subset, only}

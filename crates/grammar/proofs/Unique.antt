@@ -1,5 +1,5 @@
 -- Determinism: each production of a leftmost derivation claims its cell, so without conflict one string has one list.
-use mathlib.Core.Path.{◌≡◌, refl, sym, ap, subst}
+use mathlib.Core.Path.{◌≡◌, refl, sym, subst}
 use mathlib.Core.List.{List, [], ◌∷◌, ◌++◌, append_assoc}
 use Prim.Native.Nat.{ℕ}
 use native.Mathlib.Decide.{ℕ_discrete}
@@ -7,7 +7,7 @@ use Rattle.grammar.specs.declared.Symbol.TheVariants.{Token, Nonterminal}
 use Rattle.grammar.specs.Grammar.{Form, spelled, Grammar, Column, column, Rule, replace, Derives, itself, step, Sentential, Leftmost, done, shift, expand, starts, vanishes, Follow, before, last, Lookahead, first, follow, Claims, Conflict}
 use Rattle.grammar.specs.Machine.{front}
 use Rattle.grammar.proofs.Derivation.{derives_trans, derives_behind}
-use Rattle.grammar.proofs.Leftmost.{Split, leftmost_split, leftmost_derives, recast, rule_same}
+use Rattle.grammar.proofs.Leftmost.{Split, leftmost_split, leftmost_derives, rule_same}
 
 module _ {g : Grammar} where
   -- what a form derives after A follows A

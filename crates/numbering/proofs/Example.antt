@@ -5,7 +5,7 @@ use mathlib.Core.Option.{Option, some, none, none-ne-some}
 use Prim.Native.Nat.{ℕ, zero, suc, ◌/◌, ◌%◌}
 use native.Mathlib.Omega.{arith}
 use lib.ListN.{get_elem?}
-use Rattle.numbering.specs.Numbering.{Automaton, Lawful, Decided, IsState, Follows, Found, FoundAll, TooMany}
+use Rattle.numbering.specs.Numbering.{Lawful, Decided, IsState, Follows, Found, FoundAll, TooMany}
 use Rattle.numbering.specs.Example.{Corner, top, left, right, Corner-discrete, next_corner, corners}
 use Rattle.numbering.proofs.Agreement.{is_itself}
 use Rattle.numbering.proofs.Turns.{found_begun, turn_nothing, turn_met, turn_new}

@@ -28,7 +28,7 @@ use Rattle.offer.specs.Strings.{Stepped, ran, StringOutcome, ended}
 use Rattle.offer.specs.Offering.{Holds, Ready, Offering, OfferedAt}
 use Rattle.offer.specs.Resuming.{progress_of, reported}
 use Rattle.offer.specs.declared.Progress.{Progress}
-use Rattle.offer.specs.declared.Reply.TheVariants.{Taken, Stopped}
+use Rattle.offer.specs.declared.Reply.TheVariants.{Taken}
 use Rattle.offer.specs.declared.Reply.{Reply}
 
 module _ {s : State} {at : Progress} {stack₀ list₀ stack list : List ℕ} (h : Holds s at stack₀ list₀ stack list) where

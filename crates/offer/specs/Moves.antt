@@ -1,6 +1,6 @@
 -- What the machine does next, one case each: what the top of the stack says to a column, and what the room allows.
 -- Document 01, "Running and expanding". Only contracts inside the crate cite what stands here.
-use Rattle.std.specs.Prelude.{◌≡◌, ◌≢◌, List, [], ◌∷◌, ◌++◌, ℕ, ◌+◌, ◌≤◌, ◌<◌, length}
+use Rattle.std.specs.Prelude.{◌≡◌, ◌≢◌, List, [], ◌∷◌, ◌++◌, ℕ, ◌≤◌, ◌<◌, length}
 use Rattle.std.proofs.Math.Option.{Option, some, none}
 use Rattle.grammar.specs.Grammar.{Form, Grammar, Column, token, endmark}
 use Rattle.grammar.specs.declared.Symbol.TheVariants.{Token, Nonterminal}

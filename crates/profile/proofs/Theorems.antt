@@ -139,10 +139,10 @@ pub plain_builds : {book first follow table : List ℕ} {a : Answer} {f w t : Li
 plain_builds (calls.refused r) s p fit roomy = absurd (refuses_not_serves r s)
 plain_builds {first = first} {follow = follow} {g = g} (calls.no_room {g = other} t short) s p fit roomy =
     absurd (none_short (serves_unique t s) short)
-    where
-      none_short : {a : Answer} → other ≡ g → SetsRoom other first follow a → ⊥
-      none_short same (no_first h) = omega (arith, fit.first_fits, ap (λ (x : Grammar). x.nonterminals) same)
-      none_short same (no_follow h k) = omega (arith, fit.follow_fits, ap (λ (x : Grammar). x.nonterminals) same)
+  where
+    none_short : {a : Answer} → other ≡ g → SetsRoom other first follow a → ⊥
+    none_short same (no_first h) = omega (arith, fit.first_fits, ap (λ (x : Grammar). x.nonterminals) same)
+    none_short same (no_follow h k) = omega (arith, fit.follow_fits, ap (λ (x : Grammar). x.nonterminals) same)
 plain_builds (calls.no_table t h k) s p fit roomy =
     absurd (omega (arith, ap (λ (x : Grammar). size x) (serves_unique t s)))
 plain_builds {g = g} (calls.conflict {i = i} {p = m} {q = n} t h k first) s p fit roomy =

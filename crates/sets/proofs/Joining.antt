@@ -1,5 +1,4 @@
 -- Joining sets in any grouping, one page: the laws of joining, and what a join holds exactly.
-use mathlib.Core.Path.{◌≡◌}
 use mathlib.Core.Logic.{◌⊎◌, ◌≢◌, ⊎_elim, inl, inr}
 use Prim.Native.Nat.{ℕ}
 use Rattle.sets.specs.Sets.{Exactly, joined}

@@ -1,23 +1,22 @@
 -- A table that was built passes refusal 9.
 use mathlib.Core.Path.{◌≡◌, refl, sym, ◌∙◌, ap}
 use mathlib.Core.List.{List}
-use Prim.Native.Nat.{ℕ, ◌+◌, ◌*◌, ◌/◌, ◌%◌, ◌≤◌, ◌<◌}
+use Prim.Native.Nat.{ℕ, ◌+◌, ◌*◌, ◌/◌, ◌%◌, ◌<◌}
 use native.Mathlib.Nat.{mul_comm, add-zero}
 use native.Mathlib.Omega.{arith}
 use lib.Arith.{digits_div, digits_mod}
-use lib.ListN.{length, get_or}
+use lib.ListN.{length}
 use Rattle.grammar.specs.declared.Symbol.TheVariants.{Nonterminal}
 use Rattle.grammar.specs.Grammar.{Form, Grammar, Column}
 use Rattle.grammar.proofs.Rules.{below_rule}
 use Rattle.numbering.proofs.Promise.{inside}
-use Rattle.book.proofs.Promise.{serves_limits}
 use Rattle.slr.specs.States.{columns_of, LeadsTo}
 use Rattle.slr.specs.Actions.{Action, Acts}
 use Rattle.slr.specs.Cells.{code_of, ActionColumn, under_token, under_end, SlrHolds, only, unclaimed, SlrClaims, claims_action, claims_move}
 use Rattle.slr.specs.Built.{SlrBuilt}
 use Rattle.slr.proofs.Promise.{state_zero}
 use Rattle.slr.proofs.Promise.{slr_built_formed}
-use Rattle.slr_run.specs.Fitting.{rows_in, NumberFits, empty, shifts, reduces, accepts, moves, SlrCellFits, SlrFits}
+use Rattle.slr_run.specs.Fitting.{rows_in, NumberFits, empty, shifts, reduces, accepts, moves, SlrFits}
 
 module _ {g : Grammar} {paths : List Form} where
   -- an action stands under its column

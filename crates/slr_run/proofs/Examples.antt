@@ -1,7 +1,7 @@
 -- The rows of the textbook's example: the definitions give each row's answer and buffers, and no other.
 use mathlib.Core.Path.{◌≡◌, refl}
 use mathlib.Core.List.{List, [], ◌∷◌}
-use Prim.Native.Nat.{ℕ, ◌≤◌, ◌<◌}
+use Prim.Native.Nat.{ℕ, ◌≤◌}
 use native.Mathlib.Omega.{arith}
 use lib.Dec.{T, ltb, ltb→lt, lit≤}
 use lib.ListN.{length, get_or, replicate}
@@ -9,9 +9,7 @@ use Rattle.grammar.specs.Grammar.{Every, nothing, each}
 use Rattle.grammar.proofs.Tests.{below, below_each}
 use Rattle.sets.specs.Sets.{only, united, added}
 use Rattle.answers.specs.Answers.{done, stop, at_depth}
-use Rattle.answers.specs.declared.Answer.{Answer}
 use Rattle.answers.specs.Buffers.{cleared, over}
-use Rattle.run.proofs.Promise.{Result}
 use Rattle.offer.specs.Stops.{marking}
 use Rattle.slr.specs.Cells.{action_of, move_of, action_in, move_in}
 use Rattle.slr.specs.Examples.{left_grammar, left_paths, left_table}

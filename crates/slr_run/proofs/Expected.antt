@@ -6,7 +6,7 @@ use Prim.Native.Nat.{ℕ, suc, ◌+◌, ◌*◌, ◌≤◌, ◌<◌}
 use native.Mathlib.Nat.{mul-le-mul}
 use native.Mathlib.Numerals.{add-one}
 use native.Mathlib.Omega.{arith}
-use borrow.Author.Tests.{eq-eqb, ne_eqb}
+use borrow.Author.Tests.{ne_eqb}
 use lib.ListN.{get_or}
 use Rattle.grammar.specs.Grammar.{Grammar}
 use Rattle.sets.specs.Calls.{number, None, With}

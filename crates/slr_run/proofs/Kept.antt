@@ -2,7 +2,7 @@
 use mathlib.Core.Path.{◌≡◌, refl, ap}
 use mathlib.Core.Logic.{◌⊎◌, inl, inr}
 use mathlib.Core.List.{List}
-use Prim.Native.Nat.{ℕ, ◌+◌, ◌≤◌, ◌<◌}
+use Prim.Native.Nat.{ℕ, ◌≤◌, ◌<◌}
 use native.Mathlib.Decide.{dec_lt}
 use native.Mathlib.Omega.{arith}
 use lib.ListN.{length}
@@ -10,7 +10,7 @@ use Rattle.grammar.specs.Grammar.{Grammar}
 use Rattle.answers.specs.declared.Answer.{Answer}
 use Rattle.answers.specs.Answers.{done, refusal, stop, at_depth}
 use Rattle.answers.specs.Refusals.{room, syntax}
-use Rattle.answers.specs.Buffers.{over, counted, cleared}
+use Rattle.answers.specs.Buffers.{over, cleared}
 use Rattle.book.specs.Judging.{Refuses, misread, useless_one, Serves}
 use Rattle.run.proofs.Promise.{Result}
 use Rattle.slr.specs.RoomMachine.{Progress, SlrReason, full_list, full_stack, wants, SlrOffered, taken, stopped}

@@ -1,8 +1,7 @@
 -- One turn of the loop that makes a column's reductions, by what was decided with the buffers as they are.
 use mathlib.Core.Path.{◌≡◌, refl, ap, subst}
 use mathlib.Core.List.{List}
-use Prim.Native.Nat.{ℕ, ◌+◌, ◌-◌, ◌≤◌, ◌<◌}
-use native.Mathlib.Omega.{arith}
+use Prim.Native.Nat.{ℕ, ◌+◌, ◌-◌, ◌<◌}
 use lib.ListN.{length, set}
 use Rattle.grammar.specs.Grammar.{Column}
 use Rattle.answers.specs.Buffers.{counted}

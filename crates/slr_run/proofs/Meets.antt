@@ -17,7 +17,7 @@ use Rattle.slr.specs.RoomMachine.{SlrOffered, setting_of}
 use Rattle.slr.specs.Ends.{slr_final}
 use Rattle.slr.proofs.Promise.{held_end}
 use Rattle.slr.proofs.Promise.{slr_accepts_exactly, rightmost_unique, slr_room_accepts, slr_room_enough, slr_room_lacking, slr_run_spent, slr_built_formed, slr_built_exact}
-use Rattle.slr_run.specs.Running.{slr_ran, slr_answered}
+use Rattle.slr_run.specs.Running.{slr_ran}
 use Rattle.slr_run.specs.Demands.{SlrLeaves, SlrPremises}
 use Rattle.slr_run.proofs.Kept.{EndsSlrRun, SlrBegins, stackless, begins, number_done, taken_done, room_number, numbers, answer_steps, answer_depth}
 

@@ -2,31 +2,31 @@
 use mathlib.Core.Path.{◌≡◌, refl, sym, ◌∙◌, ap, subst}
 use mathlib.Core.Logic.{◌≢◌}
 use mathlib.Core.List.{List}
-use Prim.Native.Nat.{ℕ, zero, suc, ◌+◌, ◌*◌, ◌/◌, ◌%◌, ◌^◌, ◌≤◌, ◌<◌}
+use Prim.Native.Nat.{ℕ, zero, suc, ◌+◌, ◌*◌, ◌%◌, ◌^◌, ◌<◌}
 use native.Mathlib.Decide.{dec_lt}
 use native.Mathlib.Nat.{div-add-mod'}
 use native.Mathlib.Omega.{arith}
 use lib.Arith.{digits_lt, digits_mod}
 use lib.ListN.{length, get_or, replicate}
-use Rattle.grammar.specs.Grammar.{Form, Grammar, Column, token, endmark, Rule, WellFormed}
+use Rattle.grammar.specs.Grammar.{Grammar, Column, token, endmark, WellFormed}
 use Rattle.answers.specs.Answers.{done, refusal}
 use Rattle.answers.specs.declared.Answer.{Answer}
 use Rattle.answers.specs.Buffers.{counted, cleared, over}
 use Rattle.answers.specs.Checks.{passes, stops, goes}
 use Rattle.answers.proofs.Promise.{checked_goes}
-use Rattle.book.specs.Judging.{Judged, Serves}
+use Rattle.book.specs.Judging.{Judged}
 use Rattle.book.specs.declared.Reading.{Reading}
-use Rattle.book.specs.Columns.{production_at, productions_from, outline_in, outlined, Outlines, Lefts, Lengths}
+use Rattle.book.specs.Columns.{production_at, productions_from, outline_in, outlined, Lefts, Lengths}
 use Rattle.book.specs.declared.columns.Outline.{Outline}
 use Rattle.book.proofs.Promise.{production_found, production_missing, outlined_sized, is_of_rule, judged_done, judged_refused, reading_grammar, serves_well_formed}
 use Rattle.stack.proofs.Promise.{length_symbols}
 use Rattle.slr.specs.Cells.{action_in, move_in}
 use Rattle.slr.specs.RoomMachine.{Setting, SlrOffered, left_in, size_in, setting_of, slr_run}
 use Rattle.slr.specs.Ends.{slr_final}
-use Rattle.slr_run.specs.Fitting.{NumberFits, SlrFits}
+use Rattle.slr_run.specs.Fitting.{NumberFits}
 use Rattle.slr_run.specs.Running.{slr_ran, slr_answered, SlrBarred, bad_table, too_long, strange, SlrAdmits, SlrRunOutcome}
 use Rattle.slr_run.specs.Checking.{columns_in, rows_of, Counts, SlrChecked, CheckedFor}
-use Rattle.slr_run.specs.Stages.{numbers_of, setting_by, number_at, Grounds, stage_of, outcome_in}
+use Rattle.slr_run.specs.Stages.{numbers_of, setting_by, number_at, Grounds, stage_of}
 use Rattle.slr_run.specs.Reducing.{Ended}
 use Rattle.slr_run.specs.Answering.{Answers, RanFor}
 use Rattle.slr_run.specs.declared.Reply.{Reply}

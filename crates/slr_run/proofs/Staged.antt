@@ -1,14 +1,14 @@
 -- Where the machine stands, and where it stands after a reduction or a shift.
-use mathlib.Core.Path.{◌≡◌, refl, sym, ◌∙◌, ap}
+use mathlib.Core.Path.{◌≡◌, sym, ◌∙◌, ap}
 use mathlib.Core.List.{List, [], ◌∷◌, ◌++◌}
 use Prim.Native.Nat.{ℕ, suc, ◌+◌, ◌-◌, ◌≤◌, ◌<◌, max}
 use native.Mathlib.Decide.{dec_lt}
 use native.Mathlib.Numerals.{add-one}
 use native.Mathlib.Omega.{arith}
 use lib.ListN.{length, get_or, take, drop, set, length-set}
-use lib.Seq.{get_or-set_same, get_or-set_other, take-suc-set, drop-set-lt, drop-drop, length-take-le}
+use lib.Seq.{get_or-set_same, get_or-set_other, take-suc-set, drop-drop, length-take-le}
 use Rattle.answers.specs.Buffers.{counted}
-use Rattle.slr.specs.RoomMachine.{Progress, shifted, reduced}
+use Rattle.slr.specs.RoomMachine.{shifted, reduced}
 use Rattle.slr_run.specs.Stages.{held_by, stage_in, Held}
 use Rattle.slr_run.specs.Reducing.{reduced_to, shifted_to, Kept}
 use Rattle.slr_run.specs.declared.Stage.{Stage}

@@ -1,20 +1,19 @@
 -- The invariant of a run: from where it stands, the tokens that are left come to what the whole string comes to.
 use mathlib.Core.Path.{◌≡◌, refl, sym, ◌∙◌, ap, subst}
 use mathlib.Core.Logic.{◌≢◌}
-use mathlib.Core.List.{List, [], ◌∷◌, ◌++◌}
-use Prim.Native.Nat.{ℕ, suc, ◌+◌, ◌-◌, ◌≤◌, ◌<◌, min}
+use mathlib.Core.List.{List}
+use Prim.Native.Nat.{ℕ, suc, ◌+◌, ◌≤◌, ◌<◌}
 use native.Mathlib.Decide.{dec_lt}
 use native.Mathlib.Numerals.{add-one}
 use native.Mathlib.Omega.{arith}
 use lib.ListN.{length, get_or, take, drop, set, length-set, take-append-drop, drop_of_length-le}
 use lib.Seq.{drop-cons, get_or-set_same, length-take-le}
-use Rattle.grammar.specs.Grammar.{Column, token, endmark}
+use Rattle.grammar.specs.Grammar.{token, endmark}
 use Rattle.grammar.specs.Machine.{front}
-use Rattle.answers.specs.Buffers.{counted, over}
+use Rattle.answers.specs.Buffers.{counted}
 use Rattle.book.specs.declared.columns.Outline.{Outline}
-use Rattle.slr.specs.RoomMachine.{Setting, Progress, SlrOffered, taken, stopped, slr_begun, slr_run_from, slr_run}
+use Rattle.slr.specs.RoomMachine.{Setting, SlrOffered, slr_begun, slr_run_from, slr_run}
 use Rattle.slr.specs.Ends.{slr_final}
-use Rattle.slr_run.specs.Checking.{rows_of}
 use Rattle.slr_run.specs.Stages.{setting_by, column_at, held_by, stage_in, Held, stage_of, outcome_in}
 use Rattle.slr_run.specs.Reducing.{goes_on, continued, Kept, Offered, Ended}
 use Rattle.slr_run.specs.declared.Reply.TheVariants.{Taken, Stopped}

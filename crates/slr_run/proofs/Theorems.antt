@@ -1,6 +1,6 @@
 -- What is promised of bottom-up runs, one page: a call that keeps its promise meets the demands, each theorem under the
 -- sentence that it proves.
-use mathlib.Core.Path.{◌≡◌, ◌∙◌, ap}
+use mathlib.Core.Path.{◌≡◌}
 use mathlib.Core.Logic.{◌⊎◌}
 use mathlib.Core.List.{List}
 use Prim.Native.Nat.{ℕ}

@@ -1,18 +1,17 @@
 -- What a checked table says, and the machine's next turn by it.
-use mathlib.Core.Path.{◌≡◌, refl, sym, ◌∙◌, ap, subst}
+use mathlib.Core.Path.{◌≡◌, sym, ◌∙◌, ap, subst}
 use mathlib.Core.Logic.{◌≢◌}
-use mathlib.Core.Bool.{true, false}
-use mathlib.Core.List.{List, [], ◌∷◌}
-use mathlib.Core.Option.{Option, some, none}
-use Prim.Native.Nat.{ℕ, suc, ◌+◌, ◌-◌, ◌*◌, ◌≤◌, ◌<◌}
+use mathlib.Core.List.{List, ◌∷◌}
+use mathlib.Core.Option.{some}
+use Prim.Native.Nat.{ℕ, ◌+◌, ◌-◌, ◌*◌, ◌≤◌, ◌<◌}
 use native.Mathlib.Decide.{dec_lt}
 use native.Mathlib.Omega.{arith}
 use borrow.Author.Tests.{lt-ltb, le-ltb, ne_eqb}
 use lib.Arith.{digits_lt}
 use lib.ListN.{length, get_or, drop}
-use Rattle.grammar.specs.Grammar.{Column, token, endmark}
+use Rattle.grammar.specs.Grammar.{token, endmark}
 use Rattle.book.specs.declared.columns.Outline.{Outline}
-use Rattle.slr.specs.Actions.{Action, shift, reduce, accept}
+use Rattle.slr.specs.Actions.{shift, reduce}
 use Rattle.slr.specs.Cells.{code_of, action_of, move_of, action_in, move_in}
 use Rattle.slr.specs.RoomMachine.{Setting}
 use Rattle.slr.proofs.Promise.{coded_shift, coded_reduce, code_action}

@@ -1,17 +1,16 @@
 -- The invariant of one column's reductions: every string that begins with it runs from here as it ran from where they began.
-use mathlib.Core.Path.{◌≡◌, refl, sym, ◌∙◌, ap, subst}
-use mathlib.Core.Logic.{◌≢◌}
+use mathlib.Core.Path.{◌≡◌, refl, sym, ◌∙◌, ap}
 use mathlib.Core.List.{List, [], ◌∷◌}
 use mathlib.Core.Option.{some}
-use Prim.Native.Nat.{ℕ, suc, ◌+◌, ◌-◌, ◌≤◌, ◌<◌, min}
+use Prim.Native.Nat.{ℕ, suc, ◌+◌, ◌-◌, ◌≤◌, ◌<◌}
 use native.Mathlib.Omega.{arith}
-use lib.ListN.{length, drop, set, length-set}
+use lib.ListN.{length, set, length-set}
 use lib.Seq.{drop-set-lt}
 use Rattle.grammar.specs.Grammar.{Column, token, endmark}
 use Rattle.grammar.specs.Machine.{front}
 use Rattle.answers.specs.Buffers.{counted}
 use Rattle.slr.specs.Actions.{shift, accept}
-use Rattle.slr.specs.RoomMachine.{Setting, Progress, SlrOffered, taken, stopped, shifted, slr_run_from}
+use Rattle.slr.specs.RoomMachine.{Setting, Progress, stopped, slr_run_from}
 use Rattle.slr.proofs.Promise.{run_empty, run_bare, run_no_move, run_accepts, run_shifts, run_shift_full, run_reduces, run_list_full, run_stack_full}
 use Rattle.slr_run.specs.Stages.{held_by, stage_in, Held, stage_of, reason_in}
 use Rattle.slr_run.specs.Deciding.{Turns}
@@ -21,7 +20,6 @@ use Rattle.slr_run.specs.declared.Cause.{Cause}
 use Rattle.slr_run.specs.declared.Ending.TheVariants.{Shift, Accept, Stop}
 use Rattle.slr_run.specs.declared.Ending.{Ending}
 use Rattle.slr_run.specs.declared.Reply.TheVariants.{Taken, Stopped}
-use Rattle.slr_run.specs.declared.Reply.{Reply}
 use Rattle.slr_run.specs.declared.Stage.{Stage}
 use Rattle.slr_run.specs.declared.Turn.TheVariants.{Reduce, Finish}
 use Rattle.slr_run.specs.declared.Turn.{Turn}

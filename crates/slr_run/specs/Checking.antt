@@ -1,11 +1,10 @@
 -- What is checked before steps, by the numbers of an outline: the table, the number of tokens, the tokens, a stack
 -- cell.
 -- Document 02, W12. Only contracts inside the crate cite what stands here.
-use Rattle.std.specs.Prelude.{◌≡◌, List, ℕ, ◌+◌, ◌*◌, ◌/◌, ◌%◌, ◌≤◌, ◌<◌, length, get_or}
+use Rattle.std.specs.Prelude.{◌≡◌, List, ℕ, ◌+◌, ◌*◌, ◌/◌, ◌%◌, ◌≤◌, length, get_or}
 use Rattle.grammar.specs.Grammar.{Grammar}
 use Rattle.answers.specs.Answers.{done}
 use Rattle.answers.specs.Checks.{Checked}
-use Rattle.answers.specs.Lowest.{FirstFailing}
 use Rattle.answers.specs.declared.Answer.{Answer}
 use Rattle.book.specs.declared.columns.Outline.{Outline}
 use Rattle.table.specs.declared.fitting.Fitting.{Fitting}

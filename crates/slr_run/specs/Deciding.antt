@@ -1,6 +1,6 @@
 -- What the machine does next, one case each: what the state on top says to a column, and what the room allows.
 -- Document 02, W12. Only contracts inside the crate cite what stands here.
-use Rattle.std.specs.Prelude.{◌≡◌, List, [], ◌∷◌, ℕ, suc, ◌+◌, ◌-◌, ◌≤◌, ◌<◌, length, drop}
+use Rattle.std.specs.Prelude.{◌≡◌, List, [], ◌∷◌, ℕ, suc, ◌≤◌, ◌<◌, length, drop}
 use Rattle.std.proofs.Math.Option.{some, none}
 use Rattle.grammar.specs.Grammar.{Column, token, endmark}
 use Rattle.slr.specs.Actions.{shift, reduce, accept}

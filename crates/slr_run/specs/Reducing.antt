@@ -1,6 +1,6 @@
 -- One column offered to a run, and a whole token string, as the code has it: what becomes of counts and buffers.
 -- Document 02, W12. Only contracts inside the crate cite what stands here.
-use Rattle.std.specs.Prelude.{◌≡◌, ◌≢◌, List, [], ◌∷◌, ℕ, ◌+◌, ◌≤◌, ◌<◌, max, length, drop, set}
+use Rattle.std.specs.Prelude.{◌≡◌, ◌≢◌, List, [], ◌∷◌, ℕ, ◌+◌, ◌≤◌, max, length, drop, set}
 use Rattle.grammar.specs.Grammar.{Column, endmark}
 use Rattle.grammar.specs.Machine.{front}
 use Rattle.answers.specs.Buffers.{over, counted}

@@ -14,7 +14,7 @@ use Rattle.book.specs.Judging.{Refuses, Serves}
 use Rattle.offer.specs.Stops.{marking}
 use Rattle.run.specs.Running.{FirstStrange}
 use Rattle.slr.specs.Cells.{empty_cell, number_in, action_in, move_in}
-use Rattle.slr.specs.RoomMachine.{SlrReason, full_list, full_stack, wants, SlrOffered, taken, stopped, setting_of}
+use Rattle.slr.specs.RoomMachine.{full_list, full_stack, wants, SlrOffered, taken, stopped, setting_of}
 use Rattle.slr.specs.RoomMachine.{slr_run}
 use Rattle.slr.specs.Ends.{slr_final}
 use Rattle.slr_run.specs.Fitting.{SlrFits, SlrMisfit}

@@ -1,7 +1,6 @@
 -- Where a run stands as the code has it: its counts, the states in the stack's first cells and the list.
 -- Document 02, W12. Only contracts inside the crate cite what stands here.
 use Rattle.std.specs.Prelude.{◌≡◌, true, false, List, [], ◌∷◌, ℕ, zero, suc, ◌+◌, ◌-◌, ◌*◌, ◌≤◌, ◌<◌, ltb, length, get_or, take}
-use Rattle.std.proofs.Math.Option.{Option}
 use Rattle.grammar.specs.Grammar.{Grammar, Column, token, endmark}
 use Rattle.answers.specs.Buffers.{counted}
 use Rattle.book.specs.declared.columns.Outline.{Outline}

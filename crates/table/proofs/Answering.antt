@@ -10,14 +10,14 @@ use Rattle.grammar.specs.Grammar.{Grammar}
 use Rattle.answers.specs.declared.Answer.{Answer}
 use Rattle.answers.specs.Answers.{done, refusal}
 use Rattle.answers.specs.Refusals as refusals
-use Rattle.answers.specs.Buffers.{over, written}
-use Rattle.answers.specs.Checks.{Checked, because, Either, first_stops, next_stops, Lacking, Roomed}
+use Rattle.answers.specs.Buffers.{written}
+use Rattle.answers.specs.Checks.{because, Either, first_stops, next_stops, Lacking, Roomed}
 use Rattle.answers.proofs.Promise.{Refusing, lacking_refusing, either_refusing, checked_then}
 use Rattle.book.specs.declared.Reading.{Reading}
 use Rattle.book.specs.Judging.{Serves, Judged}
 use Rattle.book.proofs.Promise.{serves_unique}
 use Rattle.first.specs.Forms.{Given}
-use Rattle.first.proofs.Promise.{family_taken, left_is, rule_at, given_served, given_limits, given_indexes, given_count, Ready}
+use Rattle.first.proofs.Promise.{family_taken, left_is, rule_at, given_served, given_limits, given_indexes, given_count}
 use Rattle.first.proofs.Promise.{CheckedBook, refuses, stopped, ready, judged_checked, checked_ready, ready_number}
 use Rattle.follow.specs.Checks.{SetsLacking, SetsRoomed}
 use Rattle.follow.specs.WorkedOut.{WorkedOut}

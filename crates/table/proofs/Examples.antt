@@ -1,26 +1,21 @@
 -- The starred examples of this layer: H with its sets and its table, the conflicts of H1 and J, and the useless nonterminal of I.
 use mathlib.Core.Path.{refl}
-use mathlib.Core.List.{List, [], ◌∷◌}
+use mathlib.Core.List.{List}
 use Prim.Native.Nat.{ℕ, ◌≤◌}
 use lib.Dec.{lit<}
 use lib.ListN.{length}
-use Rattle.grammar.specs.declared.Symbol.TheVariants.{Nonterminal}
-use Rattle.grammar.specs.Grammar.{column, First, Follow}
 use Rattle.grammar.specs.House.{house}
-use Rattle.grammar.proofs.Sets.{first_not_end, follow_not_empty}
 use Rattle.grammar.proofs.Tests.{below}
 use Rattle.grammar.proofs.Worked.{first_test, follow_test}
 use Rattle.grammar.proofs.WorkedForm.{form_test}
 use Rattle.grammar.proofs.WorkedUseful.{productives, has}
-use Rattle.grammar.proofs.House.{house_first, house_follow, house_first_exact, house_follow_exact, house_cell, house_exact, house_no_conflict}
+use Rattle.grammar.proofs.House.{house_cell, house_exact, house_no_conflict}
 use Rattle.answers.specs.Answers.{done, refusal}
 use Rattle.answers.specs.Buffers.{over}
 use Rattle.reader.specs.Book.{wanted, marked, symbol_of, symbols, records, ending, spells}
 use Rattle.book.specs.Judging.{Serves}
 use Rattle.book.specs.Examples.{house_book}
 use Rattle.book.proofs.Promise.{house_serves}
-use Rattle.first.specs.Numbers.{FirstSets}
-use Rattle.follow.specs.Families.{FollowSets}
 use Rattle.table.specs.Table.{TableOf, FirstConflict, BuiltWithoutConflict}
 use Rattle.table.specs.Calls.{BuildOutcome, conflict, served}
 use Rattle.first.specs.Examples.{house_first_sets}

@@ -1,9 +1,9 @@
 -- Vacant cells: they are determined, and the first of them are vacant too.
 use mathlib.Core.Path.{◌≡◌, sym, ◌∙◌}
 use mathlib.Core.List.{List}
-use Prim.Native.Nat.{ℕ, ◌≤◌, ◌<◌}
+use Prim.Native.Nat.{ℕ, ◌≤◌}
 use native.Mathlib.Omega.{arith}
-use lib.ListN.{length, take, get_or, replicate, length-replicate, get_or-replicate}
+use lib.ListN.{length, take, replicate, length-replicate, get_or-replicate}
 use lib.Seq.{ext_get_or, length-take-le, get_or-take}
 use Rattle.table.specs.Vacancy.{Vacancy}
 

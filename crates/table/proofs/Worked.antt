@@ -1,18 +1,17 @@
 -- A small grammar worked out: its table and its first conflict, right wherever a test passes that computes.
 use mathlib.Core.Path.{◌≡◌, refl, sym, ap, ◌∙◌, subst}
-use mathlib.Core.Bool.{Bool, true, false, ◌||◌, false≢true}
-use mathlib.Core.Logic.{◌↔◌, ◌⊎◌, inl, inr, ⊎_elim}
+use mathlib.Core.Bool.{Bool, true, false, ◌||◌}
+use mathlib.Core.Logic.{◌↔◌, ◌⊎◌, inl, inr}
 use mathlib.Core.List.{List, [], ◌∷◌}
 use mathlib.Core.Option.{Option, some, none}
-use Prim.Native.Nat.{ℕ, ◌^◌, ◌≤◌, ◌<◌}
-use native.Mathlib.Omega.{arith}
-use lib.Dec.{T, eqb, leb, ltb, eqb→eq, leb→le, ltb→lt}
+use Prim.Native.Nat.{ℕ, ◌≤◌, ◌<◌}
+use lib.Dec.{T, eqb, leb, eqb→eq, leb→le}
 use lib.ListN.{length, get_or, get_elem?}
-use Rattle.grammar.specs.Grammar.{Production, Grammar, Column, Member, Every, nothing, each, Cell, Reachable, Useful, WellFormed}
+use Rattle.grammar.specs.Grammar.{Production, Grammar, Column, Every, Cell, Reachable, Useful, WellFormed}
 use Rattle.grammar.specs.Machine.{Exact}
 use Rattle.grammar.proofs.Sets.{FirstOf, FollowOf, first_exact, follow_exact}
-use Rattle.grammar.proofs.Tests.{or_left, or_right, or_elim, all, any, all_every, any_of, below, below_each}
-use Rattle.grammar.proofs.Worked.{Entry, same, same_is, same_self, In, Among, row_of, row_every, in_every, in_row, in_self, ruled}
+use Rattle.grammar.proofs.Tests.{or_elim, all, any, all_every, any_of, below, below_each}
+use Rattle.grammar.proofs.Worked.{Entry, In, in_every, ruled}
 use Rattle.grammar.proofs.Worked.{first_sets, follow_sets, first_test, follow_test, first_sets_sound, first_test_closed, follow_sets_sound}
 use Rattle.grammar.proofs.Worked.{follow_test_closed}
 use Rattle.grammar.proofs.WorkedForm.{form_test, form_tested}

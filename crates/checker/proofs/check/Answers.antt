@@ -1,5 +1,4 @@
 -- The outcome without the sets.
-use borrow.Author.Rules.{rules}
 use Rattle.checker.proofs.Answering.{checked_outcome}
 use Rattle.checker.proofs.check.Goals as goal
 

@@ -1,6 +1,5 @@
 -- The book's refusal, then the misfit, then what the two passes find.
 use mathlib.Core.Path.{sym}
-use borrow.Author.Rules.{rules}
 use Rattle.follow.proofs.Promise.{worked_sized}
 use Rattle.checker.proofs.Answering.{check_refused, check_misfit, check_comparable, check_served}
 use Rattle.checker.proofs.check_with_first.Goals as goal

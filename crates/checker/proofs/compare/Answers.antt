@@ -1,5 +1,4 @@
 -- The first pass seeks a conflict, the second a difference.
-use borrow.Author.Rules.{rules}
 use Rattle.checker.proofs.Compared.{compare_countable, compare_contested, compare_conflict, compare_differs, compare_passed}
 use Rattle.checker.proofs.compare.Goals as goal
 

@@ -2,7 +2,6 @@
 use mathlib.Core.Logic.{⊎_elim}
 use borrow.Author.Tests.{ltb-true, ltb-false}
 use native.Mathlib.Omega.{arith}
-use borrow.Author.Rules.{rules}
 use Rattle.desk.specs.Desk.{short}
 use Rattle.desk.proofs.AnswerBytes.{answer_size_is}
 use Rattle.desk.proofs.Calls.{set_call}

@@ -1,6 +1,5 @@
 -- The run's answer is written, or the answer buffer is too short.
 use native.Mathlib.Omega.{arith}
-use borrow.Author.Rules.{rules}
 use Rattle.desk.specs.Desk.{short}
 use Rattle.desk.proofs.AnswerBytes.{answer_size_is}
 use Rattle.desk.proofs.Calls.{answered_call}

@@ -1,6 +1,5 @@
 -- Every cell is cleared first; then FIRST is found, of a refused book without a record.
 use mathlib.Core.Path.{refl}
-use borrow.Author.Rules.{rules}
 use Rattle.first.proofs.Judged.{judged_readable}
 use Rattle.first.proofs.Served.{found_first}
 use Rattle.first.proofs.find_first.Goals as goal

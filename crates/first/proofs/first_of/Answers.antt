@@ -1,9 +1,6 @@
 -- The symbols decide between a refusal and the trail of the form that they spell.
 use mathlib.Core.Path.{sym}
-use borrow.Author.Rules.{rules}
-use Rattle.first.specs.Checks.{SymbolString}
 use Rattle.first.proofs.Trail.{single_empty}
-use Rattle.first.proofs.Judged.{Ready}
 use Rattle.first.proofs.Served.{first_judged, first_sized, spelled_ready, first_refused, first_served}
 use Rattle.first.proofs.first_of.Goals as goal
 

@@ -1,6 +1,5 @@
 -- No member is the number 0, and with it no symbol vanishes.
 use mathlib.Core.Path.{refl}
-use borrow.Author.Rules.{rules}
 use Rattle.sets.proofs.Promise.{none_is, number_unique}
 use Rattle.first.proofs.no_set.Goals as goal
 

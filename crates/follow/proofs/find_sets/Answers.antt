@@ -1,5 +1,4 @@
 -- FIRST is worked out with the judgement; FOLLOW only of a book that is not refused.
-use borrow.Author.Rules.{rules}
 use Rattle.first.proofs.Promise.{judged_given, given_count, first_judged}
 use Rattle.follow.proofs.Walking.{given_walkable}
 use Rattle.follow.proofs.Served.{found_none, found_sets}

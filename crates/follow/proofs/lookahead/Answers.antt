@@ -1,8 +1,6 @@
 -- The number decides between a refusal and the lookahead.
 use mathlib.Core.Path.{sym}
-use Prim.Native.Nat.{◌<◌}
-use borrow.Author.Rules.{rules}
-use Rattle.first.proofs.Promise.{Ready, given_readable}
+use Rattle.first.proofs.Promise.{given_readable}
 use Rattle.follow.proofs.Served.{numbered_ready, lookahead_refused, lookahead_served}
 use Rattle.follow.proofs.lookahead.Goals as goal
 

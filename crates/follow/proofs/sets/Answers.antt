@@ -1,8 +1,7 @@
 -- With room for both, the first N cells of each family are written.
 use native.Mathlib.Omega.{arith}
-use borrow.Author.Rules.{rules}
 use Rattle.first.proofs.Promise.{given_nonterminals, given_part}
-use Rattle.follow.proofs.Served.{SetsReady, sets_ready, sets_refused, sets_served}
+use Rattle.follow.proofs.Served.{sets_ready, sets_refused, sets_served}
 use Rattle.follow.proofs.sets.Goals as goal
 
 pub slice_bounds-begins-end : goal.slice_bounds-begins-end

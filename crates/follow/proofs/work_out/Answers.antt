@@ -1,6 +1,5 @@
 -- Every cell is cleared first; then both families are found, and the lookahead of each record.
 use mathlib.Core.Path.{refl}
-use borrow.Author.Rules.{rules}
 use Rattle.first.proofs.Promise.{judged_readable}
 use Rattle.follow.proofs.Served.{found_worked_out}
 use Rattle.follow.proofs.work_out.Goals as goal

@@ -1,6 +1,5 @@
 -- The member is added to none.
 use mathlib.Core.Path.{◌∙◌}
-use borrow.Author.Rules.{rules}
 use Rattle.sets.proofs.single.Goals as goal
 
 pub returns : goal.returns

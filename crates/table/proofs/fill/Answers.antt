@@ -1,5 +1,4 @@
 -- Where the table is entered, the sets are written too.
-use borrow.Author.Rules.{rules}
 use Rattle.first.proofs.Promise.{given_part}
 use Rattle.table.proofs.Answering.{fill_refused, fill_served}
 use Rattle.table.proofs.fill.Goals as goal

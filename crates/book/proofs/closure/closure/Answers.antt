@@ -1,11 +1,7 @@
-use Prim.Native.Nat.{◌-◌, ◌^◌}
 use native.Mathlib.Omega.{arith}
-use borrow.Author.Tests.{not-true, not-false}
 use borrow.Author.Rules.{rules}
-use Rattle.sets.specs.Sets.{width}
-use Rattle.sets.specs.Calls.{number}
 use Rattle.sets.proofs.Promise.{decides_true, decides_false}
-use Rattle.book.proofs.Passes.{ClosureRound, round_first, round_next, round_grows, round_last}
+use Rattle.book.proofs.Passes.{round_first, round_next, round_grows, round_last}
 use Rattle.book.proofs.closure.closure.Goals as goal
 
 pub loop-reached-init : goal.loop-reached-init

@@ -1,8 +1,5 @@
-use Prim.Native.Nat.{◌-◌, ◌≤◌}
 use native.Mathlib.Nat.{le_antisymm}
 use borrow.Author.Rules.{rules}
-use Rattle.sets.specs.Calls.{number}
-use Rattle.book.specs.Closure.{Passed}
 use Rattle.book.proofs.Passes.{passed_none, passed_next}
 use Rattle.book.proofs.closure.pass.Goals as goal
 

@@ -1,10 +1,7 @@
 -- The invariant: the rules gone through so far make a pass.
 use Prim.Native.Nat.{◌-◌, ◌≤◌}
-use native.Mathlib.Nat.{le_antisymm}
-use borrow.Author.Rules.{rules}
 use Rattle.sets.specs.Calls.{number}
 use Rattle.book.specs.Closure.{Passed}
-use Rattle.book.proofs.Passes.{passed_none, passed_next}
 use Rattle.book.proofs.closure.pass.Given as goal
 
 abbrev pub invariant-loop-p : goal.invariant-loop-p

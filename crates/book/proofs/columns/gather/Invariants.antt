@@ -1,10 +1,7 @@
 -- The invariant: what is gathered so far.
 use Prim.Native.Nat.{ℕ, ◌+◌, ◌-◌, ◌≤◌}
-use native.Mathlib.Omega.{arith}
 use lib.ListN.{get_or}
-use borrow.Author.Rules.{rules}
 use Rattle.book.specs.Columns.{Gathered}
-use Rattle.book.proofs.ColumnLaws.{gathered_none, gathered_turn, gathered_all}
 use Rattle.book.proofs.columns.gather.Given as goal
 
 abbrev pub invariant-loop-p : goal.invariant-loop-p

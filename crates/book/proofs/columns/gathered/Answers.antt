@@ -2,7 +2,6 @@
 use mathlib.Core.Path.{sym}
 use native.Mathlib.Omega.{arith}
 use lib.ListN.{get_or-eq_default}
-use borrow.Author.Rules.{rules}
 use Rattle.book.proofs.columns.gathered.Goals as goal
 
 pub returns-else-i-column : goal.returns-else-i-column

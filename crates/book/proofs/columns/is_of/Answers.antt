@@ -1,6 +1,5 @@
 -- What the column holds decides; past the last production there is no left side.
 use native.Mathlib.Omega.{arith}
-use borrow.Author.Rules.{rules}
 use Rattle.book.proofs.ColumnLaws.{is_of_decided}
 use Rattle.book.proofs.columns.is_of.Goals as goal
 

@@ -1,5 +1,4 @@
 -- A verdict that goes on means that the book spells a grammar.
-use borrow.Author.Rules.{rules}
 use Rattle.book.specs.Judging.{refuses, misread}
 use Rattle.reader.proofs.Promise.{verdict_reads, verdict_refused}
 use Rattle.book.proofs.judging.judge.Goals as goal

@@ -1,6 +1,5 @@
 -- The first closure is the productive nonterminals, the second the useful ones.
 use mathlib.Core.Path.{sym, ◌∙◌}
-use borrow.Author.Rules.{rules}
 use Rattle.sets.proofs.Promise.{none_is}
 use Rattle.book.proofs.Filling.{single_exactly}
 use Rattle.book.proofs.Usefulness.{tells_lowest, tells_all}

@@ -1,10 +1,7 @@
 -- The invariant: the sets gone through are kept or emptied, and the others are as they were.
 use Prim.Native.Nat.{◌-◌, ◌≤◌}
-use mathlib.Core.Path.{sym, ◌∙◌}
-use native.Mathlib.Nat.{le_antisymm}
-use borrow.Author.Rules.{rules}
 use Rattle.sets.specs.Calls.{number}
-use Rattle.book.proofs.Filling.{Keeping, keeping_none, keeping_next}
+use Rattle.book.proofs.Filling.{Keeping}
 use Rattle.book.proofs.useful.keep_productive.Given as goal
 
 abbrev pub invariant-loop-p : goal.invariant-loop-p

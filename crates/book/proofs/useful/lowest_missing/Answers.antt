@@ -1,12 +1,8 @@
-use mathlib.Core.Path.{◌≡◌, sym, ◌∙◌}
-use mathlib.Core.Bool.{true, true≢false}
-use Prim.Native.Nat.{ℕ, ◌-◌, ◌≤◌, ◌<◌}
+use mathlib.Core.Path.{sym, ◌∙◌}
+use mathlib.Core.Bool.{true≢false}
 use native.Mathlib.Omega.{arith}
-use borrow.Author.Tests.{not-true, not-false}
 use borrow.Author.Count.{below_more}
 use borrow.Author.Rules.{rules}
-use Rattle.sets.specs.Sets.{member}
-use Rattle.sets.specs.Calls.{number}
 use Rattle.book.proofs.useful.lowest_missing.Goals as goal
 
 pub loop-k-init : goal.loop-k-init

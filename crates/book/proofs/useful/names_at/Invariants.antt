@@ -1,13 +1,8 @@
 -- The invariant: the names among the symbols gone through.
 use Prim.Native.Nat.{◌-◌, ◌≤◌}
-use native.Mathlib.Nat.{le_antisymm}
-use native.Mathlib.Omega.{arith}
-use borrow.Author.Rules.{rules}
 use Rattle.sets.specs.Sets.{width, Exactly}
 use Rattle.sets.specs.Calls.{number}
-use Rattle.reader.specs.Fields.{symbol_at}
 use Rattle.book.specs.Useful.{NamedAt}
-use Rattle.book.proofs.Filling.{none_exactly, named_next}
 use Rattle.book.proofs.useful.names_at.Given as goal
 
 abbrev pub invariant-loop-i : goal.invariant-loop-i

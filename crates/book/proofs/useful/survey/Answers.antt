@@ -1,11 +1,8 @@
 use mathlib.Core.Path.{sym, ◌∙◌}
-use Prim.Native.Nat.{◌+◌, ◌-◌, ◌≤◌, ◌<◌}
+use Prim.Native.Nat.{◌+◌}
 use native.Mathlib.Omega.{arith}
-use lib.ListN.{length}
-use borrow.Author.Rules.{rules}
-use Rattle.reader.specs.Fields.{length_at}
 use Rattle.book.proofs.Filling.{single_exactly}
-use Rattle.book.proofs.Surveying.{Surveying, survey_none, record_there, survey_next, survey_all}
+use Rattle.book.proofs.Surveying.{survey_none, record_there, survey_next, survey_all}
 use Rattle.book.proofs.useful.survey.Goals as goal
 
 pub loop-p-init : goal.loop-p-init

@@ -1,5 +1,4 @@
 -- The row's set before, the union that is stored, and the first cell that they share.
-use borrow.Author.Rules.{rules}
 use Rattle.sets.proofs.Promise.{union_is}
 use Rattle.checker.proofs.Rivalry.{claims_added}
 use Rattle.checker.proofs.contests.add_claims.Goals as goal

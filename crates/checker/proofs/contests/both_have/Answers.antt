@@ -1,5 +1,4 @@
 -- The answer is true exactly if each of the two is.
-use borrow.Author.Rules.{rules}
 use Rattle.checker.proofs.Rivalry.{both_decided}
 use Rattle.checker.proofs.contests.both_have.Goals as goal
 

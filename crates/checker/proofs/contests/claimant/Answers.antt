@@ -1,11 +1,7 @@
-use Prim.Native.Nat.{◌-◌, ◌≤◌}
 use native.Mathlib.Omega.{arith}
 use borrow.Author.Rules.{rules}
-use Rattle.sets.specs.Calls.{set_at}
 use Rattle.sets.proofs.Promise.{decides_true, decides_false}
-use Rattle.answers.proofs.Promise.{Searched, search_next, search_found, search_over}
-use Rattle.table.specs.Claims.{ClaimsAt, left_of}
-use Rattle.checker.specs.Checking.{From}
+use Rattle.answers.proofs.Promise.{search_next, search_found, search_over}
 use Rattle.checker.proofs.contests.claimant.Goals as goal
 
 pub loop-p-init : goal.loop-p-init
@@ -18,12 +14,11 @@ returns-then-is_claimant c =
     (record { reached = c.loop-p.invariant.0; claim = decides_true _ c.is_claimant.result c.is_claimant.ensures c.if-is_claimant.true })
 
 pub loop-p-preserved : goal.loop-p-preserved
-loop-p-preserved c =
-    (
-      omega (arith, c.loop-p.invariant.0),
-      search_next c.loop-p.invariant.1 c.loop-p-test.true
-          (λ k. decides_false _ c.is_claimant.result c.is_claimant.ensures c.if-is_claimant.false k.claim),
-    )
+loop-p-preserved c = (
+  omega (arith, c.loop-p.invariant.0),
+  search_next c.loop-p.invariant.1 c.loop-p-test.true
+      (λ k. decides_false _ c.is_claimant.result c.is_claimant.ensures c.if-is_claimant.false k.claim),
+)
 
 pub returns : goal.returns
 returns c = search_over c.loop-p.invariant.1 c.loop-p-test.false

@@ -1,10 +1,7 @@
 -- The invariant: none from the first on that was passed is a claimant.
 use Prim.Native.Nat.{◌-◌, ◌≤◌}
-use native.Mathlib.Omega.{arith}
-use borrow.Author.Rules.{rules}
 use Rattle.sets.specs.Calls.{set_at}
-use Rattle.sets.proofs.Promise.{decides_true, decides_false}
-use Rattle.answers.proofs.Promise.{Searched, search_next, search_found, search_over}
+use Rattle.answers.proofs.Promise.{Searched}
 use Rattle.table.specs.Claims.{ClaimsAt, left_of}
 use Rattle.checker.specs.Checking.{From}
 use Rattle.checker.proofs.contests.claimant.Given as goal

@@ -2,7 +2,6 @@
 use Prim.Native.Nat.{◌+◌}
 use native.Mathlib.Nat.{mod-lt}
 use native.Mathlib.Omega.{arith}
-use borrow.Author.Rules.{rules}
 use Rattle.sets.specs.Calls.{set_at}
 use Rattle.table.specs.Claims.{left_of}
 use Rattle.checker.proofs.Rivalry.{claimant_there, conflict_told}

@@ -1,13 +1,10 @@
 use mathlib.Core.Path.{◌≡◌, refl, sym}
-use Prim.Native.Nat.{◌-◌, ◌≤◌, ◌<◌}
+use Prim.Native.Nat.{◌<◌}
 use native.Mathlib.Nat.{le_antisymm}
 use native.Mathlib.Omega.{arith}
 use lib.ListN.{length}
 use borrow.Author.Rules.{rules}
-use Rattle.sets.specs.Calls.{set_at}
-use Rattle.answers.specs.Lowest.{Lowest}
 use Rattle.table.specs.Claims.{left_of}
-use Rattle.checker.specs.Checking.{Twice, claims_before, Tallied}
 use Rattle.checker.proofs.Rivalry.{tallied_none, tallied_next, contested_none, contested_next}
 use Rattle.checker.proofs.contests.first_contested.Goals as goal
 
@@ -17,8 +14,7 @@ loop-p-init c =
 
 pub loop-p-preserved : goal.loop-p-preserved
 loop-p-preserved c =
-    let looks = sym c.load.ensures.loaded in
-    (
+    let looks = sym c.load.ensures.loaded in (
       search rules,
       omega (arith, c.add_claims-contested.auto.claimed, c.loop-p.invariant.1),
       tallied_next c.loop-p.invariant.2 (let sided : left_of c.args.book.now c.args.places.now c.loop-p.p ≡ c.left_at-row.result = rw (c.left_at-row.ensures, c.place_at.ensures) in sided) looks (let inside : c.left_at-row.result < length c.loop-p.claimed = omega (arith, (let sided : left_of c.args.book.now c.args.places.now c.loop-p.p ≡ c.left_at-row.result = rw (c.left_at-row.ensures, c.place_at.ensures) in sided), c.loop-p.invariant.1, c.requires.rows _ c.loop-p-test.true) in inside) c.add_claims-contested.ensures.united,

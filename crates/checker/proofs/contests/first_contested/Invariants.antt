@@ -1,15 +1,11 @@
 -- The invariant: the claims of the productions gone through are added.
-use mathlib.Core.Path.{◌≡◌, refl, sym}
-use Prim.Native.Nat.{◌-◌, ◌≤◌, ◌<◌}
-use native.Mathlib.Nat.{le_antisymm}
-use native.Mathlib.Omega.{arith}
+use mathlib.Core.Path.{◌≡◌}
+use Prim.Native.Nat.{◌-◌, ◌≤◌}
 use lib.ListN.{length}
-use borrow.Author.Rules.{rules}
 use Rattle.sets.specs.Calls.{set_at}
 use Rattle.answers.specs.Lowest.{Lowest}
 use Rattle.table.specs.Claims.{left_of}
 use Rattle.checker.specs.Checking.{Twice, claims_before, Tallied}
-use Rattle.checker.proofs.Rivalry.{tallied_none, tallied_next, contested_none, contested_next}
 use Rattle.checker.proofs.contests.first_contested.Given as goal
 
 abbrev pub invariant-loop-p : goal.invariant-loop-p

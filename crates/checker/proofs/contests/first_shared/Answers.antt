@@ -1,10 +1,8 @@
 use mathlib.Core.Path.{subst}
-use Prim.Native.Nat.{ℕ, ◌+◌, ◌-◌}
-use borrow.Author.Rules.{rules}
-use Rattle.sets.specs.Sets.{column_place}
+use Prim.Native.Nat.{ℕ}
 use Rattle.sets.specs.Calls.{number}
 use Rattle.sets.proofs.Promise.{decides_true, decides_false}
-use Rattle.answers.proofs.Promise.{Searched, search_begun, search_next, search_found, search_over}
+use Rattle.answers.proofs.Promise.{search_begun, search_next, search_found, search_over}
 use Rattle.checker.specs.Checking.{Both}
 use Rattle.checker.proofs.contests.first_shared.Goals as goal
 

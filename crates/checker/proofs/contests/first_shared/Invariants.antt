@@ -1,11 +1,8 @@
 -- The invariant: no column passed has its bit in both sets.
-use mathlib.Core.Path.{subst}
-use Prim.Native.Nat.{ℕ, ◌+◌, ◌-◌}
-use borrow.Author.Rules.{rules}
+use Prim.Native.Nat.{◌+◌, ◌-◌}
 use Rattle.sets.specs.Sets.{column_place}
 use Rattle.sets.specs.Calls.{number}
-use Rattle.sets.proofs.Promise.{decides_true, decides_false}
-use Rattle.answers.proofs.Promise.{Searched, search_begun, search_next, search_found, search_over}
+use Rattle.answers.proofs.Promise.{Searched}
 use Rattle.checker.specs.Checking.{Both}
 use Rattle.checker.proofs.contests.first_shared.Given as goal
 

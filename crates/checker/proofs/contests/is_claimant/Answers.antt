@@ -1,6 +1,5 @@
 -- Of another row it claims nothing; of this one, what its lookahead says.
 use mathlib.Core.Path.{◌∙◌, ap}
-use borrow.Author.Rules.{rules}
 use Rattle.sets.specs.Sets.{member}
 use Rattle.sets.specs.Calls.{set_at}
 use Rattle.table.specs.Claims.{left_of}

@@ -1,6 +1,5 @@
 -- A vacant cell differs by the row's claims, a filled one by the lookahead of its production.
 use mathlib.Core.Path.{◌∙◌, ap}
-use borrow.Author.Rules.{rules}
 use Rattle.sets.specs.Sets.{member}
 use Rattle.checker.proofs.Compared.{vacant_differs, filled_differs}
 use Rattle.checker.proofs.differences.differs.Goals as goal

@@ -1,9 +1,5 @@
-use Prim.Native.Nat.{◌-◌}
-use lib.ListN.{length}
-use borrow.Author.Rules.{rules}
 use Rattle.sets.proofs.Promise.{decides_true, decides_false}
-use Rattle.answers.proofs.Promise.{Searched, search_begun, search_next, search_found, search_over}
-use Rattle.checker.specs.Checking.{DiffersAt}
+use Rattle.answers.proofs.Promise.{search_begun, search_next, search_found, search_over}
 use Rattle.checker.proofs.differences.first_different.Goals as goal
 
 pub loop-i-init : goal.loop-i-init

@@ -1,9 +1,7 @@
 -- The invariant: no cell passed differs.
 use Prim.Native.Nat.{◌-◌}
 use lib.ListN.{length}
-use borrow.Author.Rules.{rules}
-use Rattle.sets.proofs.Promise.{decides_true, decides_false}
-use Rattle.answers.proofs.Promise.{Searched, search_begun, search_next, search_found, search_over}
+use Rattle.answers.proofs.Promise.{Searched}
 use Rattle.checker.specs.Checking.{DiffersAt}
 use Rattle.checker.proofs.differences.first_different.Given as goal
 

@@ -1,6 +1,5 @@
 -- Five words, one after the other.
 use native.Mathlib.Omega.{arith}
-use borrow.Author.Rules.{rules}
 use Rattle.desk.proofs.AnswerBytes.{answer_size_is, words_written}
 use Rattle.desk.proofs.words.write_answer.Goals as goal
 

@@ -1,10 +1,9 @@
 use mathlib.Core.Path.{◌≡◌, refl}
-use Prim.Native.Nat.{◌+◌, ◌-◌, ◌≤◌}
+use Prim.Native.Nat.{◌-◌}
 use native.Mathlib.Nat.{add-zero}
 use native.Mathlib.Omega.{arith}
 use borrow.Author.Rules.{rules}
-use lib.ListN.{length, length-set}
-use lib.Seq.{sets}
+use lib.ListN.{length-set}
 use Rattle.desk.specs.Desk.{little_endian}
 use Rattle.desk.proofs.LittleEndian.{little_endian_next}
 use Rattle.desk.proofs.words.write_word.Goals as goal

@@ -1,13 +1,9 @@
 -- The bytes that are left, written from here on, make the whole word.
-use mathlib.Core.Path.{◌≡◌, refl}
+use mathlib.Core.Path.{◌≡◌}
 use Prim.Native.Nat.{◌+◌, ◌-◌, ◌≤◌}
-use native.Mathlib.Nat.{add-zero}
-use native.Mathlib.Omega.{arith}
-use borrow.Author.Rules.{rules}
-use lib.ListN.{length, length-set}
+use lib.ListN.{length}
 use lib.Seq.{sets}
 use Rattle.desk.specs.Desk.{little_endian}
-use Rattle.desk.proofs.LittleEndian.{little_endian_next}
 use Rattle.desk.proofs.words.write_word.Given as goal
 
 abbrev pub invariant-loop-i : goal.invariant-loop-i

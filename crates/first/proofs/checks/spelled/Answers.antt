@@ -1,6 +1,5 @@
 -- A refusal passes through; then the length, then each byte.
 use native.Mathlib.Omega.{arith}
-use borrow.Author.Rules.{rules}
 use Rattle.answers.specs.Checks.{passes, stops, goes}
 use Rattle.first.specs.Checks.{too_long, strange}
 use Rattle.first.proofs.SymbolStrings.{something}

@@ -1,10 +1,5 @@
-use Prim.Native.Nat.{◌-◌}
-use lib.ListN.{length, get_or}
-use borrow.Author.Tests.{not-true, not-false}
-use borrow.Author.Rules.{rules}
 use Rattle.sets.proofs.Promise.{decides_true, decides_false}
-use Rattle.reader.specs.Book.{IsSymbol}
-use Rattle.answers.proofs.Promise.{Searched, search_begun, search_next, search_found, search_over}
+use Rattle.answers.proofs.Promise.{search_begun, search_next, search_found, search_over}
 use Rattle.first.proofs.checks.stranger.Goals as goal
 
 pub loop-i-init : goal.loop-i-init

@@ -1,11 +1,8 @@
 -- The invariant: every byte gone through is a symbol.
 use Prim.Native.Nat.{◌-◌}
 use lib.ListN.{length, get_or}
-use borrow.Author.Tests.{not-true, not-false}
-use borrow.Author.Rules.{rules}
-use Rattle.sets.proofs.Promise.{decides_true, decides_false}
 use Rattle.reader.specs.Book.{IsSymbol}
-use Rattle.answers.proofs.Promise.{Searched, search_begun, search_next, search_found, search_over}
+use Rattle.answers.proofs.Promise.{Searched}
 use Rattle.first.proofs.checks.stranger.Given as goal
 
 abbrev pub invariant-loop-i : goal.invariant-loop-i

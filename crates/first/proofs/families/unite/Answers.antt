@@ -1,5 +1,4 @@
 -- The set that is stored is the union of what was loaded with x, and what is loaded then is compared with what was loaded before.
-use borrow.Author.Rules.{rules}
 use Rattle.sets.proofs.Promise.{union_is}
 use Rattle.first.proofs.Growth.{made_united}
 use Rattle.first.proofs.families.unite.Goals as goal

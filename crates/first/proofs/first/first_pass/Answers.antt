@@ -1,10 +1,8 @@
-use mathlib.Core.Path.{◌≡◌, refl}
-use Prim.Native.Nat.{◌-◌, ◌≤◌}
+use mathlib.Core.Path.{refl}
 use native.Mathlib.Nat.{le_antisymm}
 use native.Mathlib.Omega.{arith}
-use lib.ListN.{length}
 use borrow.Author.Rules.{rules}
-use Rattle.first.specs.Steps.{Made, first_steps, passed}
+use Rattle.first.specs.Steps.{passed}
 use Rattle.first.proofs.Growth.{made_next}
 use Rattle.first.proofs.Found.{first_expands}
 use Rattle.first.proofs.first.first_pass.Goals as goal
@@ -22,12 +20,11 @@ first_step-settled-requires c =
     c.requires.each _ c.loop-p-test.true
 
 pub loop-p-preserved : goal.loop-p-preserved
-loop-p-preserved c =
-    (
-      search rules,
-      omega (arith, c.first_step-settled.auto.first),
-      made_next (first_expands _ c.args.places.now) c.loop-p.p _ _ c.loop-p.invariant.2 c.first_step-settled.ensures,
-    )
+loop-p-preserved c = (
+  search rules,
+  omega (arith, c.first_step-settled.auto.first),
+  made_next (first_expands _ c.args.places.now) c.loop-p.p _ _ c.loop-p.invariant.2 c.first_step-settled.ensures,
+)
 
 pub returns : goal.returns
 returns c = rw (le_antisymm c.loop-p.invariant.0 c.loop-p-test.false) at c.loop-p.invariant.2

@@ -1,13 +1,8 @@
 -- The invariant: the records gone through, and whether they changed nothing.
-use mathlib.Core.Path.{◌≡◌, refl}
+use mathlib.Core.Path.{◌≡◌}
 use Prim.Native.Nat.{◌-◌, ◌≤◌}
-use native.Mathlib.Nat.{le_antisymm}
-use native.Mathlib.Omega.{arith}
 use lib.ListN.{length}
-use borrow.Author.Rules.{rules}
 use Rattle.first.specs.Steps.{Made, first_steps, passed}
-use Rattle.first.proofs.Growth.{made_next}
-use Rattle.first.proofs.Found.{first_expands}
 use Rattle.first.proofs.first.first_pass.Given as goal
 
 abbrev pub invariant-loop-p : goal.invariant-loop-p

@@ -1,7 +1,6 @@
 -- What is united is the trail of the right side.
 use Prim.Native.Nat.{◌+◌}
 use native.Mathlib.Omega.{arith}
-use borrow.Author.Rules.{rules}
 use Rattle.first.specs.Steps.{first_step}
 use Rattle.first.proofs.Trail.{single_empty}
 use Rattle.first.proofs.Spelled.{right_part}

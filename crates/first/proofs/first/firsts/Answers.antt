@@ -1,11 +1,5 @@
-use Prim.Native.Nat.{◌-◌, ◌*◌, ◌^◌}
-use borrow.Author.Tests.{not-true, not-false}
-use borrow.Author.Rules.{rules}
-use Rattle.sets.specs.Sets.{width}
-use Rattle.answers.specs.Limits.{most_nonterminals}
-use Rattle.first.proofs.Growth.{total}
-use Rattle.first.proofs.Rounds.{Round, round_next, round_nearer, round_last}
-use Rattle.first.proofs.Found.{FirstSoFar, first_refines, first_begun, first_found}
+use Rattle.first.proofs.Rounds.{round_next, round_nearer, round_last}
+use Rattle.first.proofs.Found.{first_refines, first_begun, first_found}
 use Rattle.first.proofs.first.firsts.Goals as goal
 
 pub loop-init : goal.loop-init

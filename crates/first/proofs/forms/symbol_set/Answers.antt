@@ -1,5 +1,4 @@
 -- A byte below 128 is a token, whose set is itself; any other a nonterminal, whose set stands in the family.
-use borrow.Author.Rules.{rules}
 use Rattle.reader.proofs.Promise.{symbol_token, symbol_nonterminal}
 use Rattle.first.specs.Trail.{symbol_set}
 use Rattle.first.proofs.Trail.{single_token}

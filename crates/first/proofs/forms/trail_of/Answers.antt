@@ -1,12 +1,8 @@
 use mathlib.Core.Path.{refl, sym, ap, ◌∙◌}
-use Prim.Native.Nat.{◌-◌}
-use lib.ListN.{length}
-use borrow.Author.Tests.{not-true, not-false}
-use borrow.Author.Rules.{rules}
 use Rattle.sets.specs.Sets.{empty_string, member, joined}
 use Rattle.sets.specs.Calls.{number}
 use Rattle.sets.proofs.Promise.{join_is}
-use Rattle.first.proofs.Trail.{single_empty, Begun, begun_none, begun_next, begun_stops, begun_over}
+use Rattle.first.proofs.Trail.{single_empty, begun_none, begun_next, begun_stops, begun_over}
 use Rattle.first.proofs.forms.trail_of.Goals as goal
 
 pub loop-j-init : goal.loop-j-init

@@ -1,8 +1,6 @@
-use Prim.Native.Nat.{◌-◌, ◌≤◌}
 use native.Mathlib.Nat.{le_antisymm}
 use native.Mathlib.Omega.{arith}
 use borrow.Author.Rules.{rules}
-use Rattle.follow.specs.Walks.{AheadFilled}
 use Rattle.follow.proofs.Lookaheads.{ahead_none, ahead_next}
 use Rattle.follow.proofs.ahead.fill_ahead.Goals as goal
 

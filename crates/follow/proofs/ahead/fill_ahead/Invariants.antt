@@ -1,10 +1,6 @@
 -- The invariant: the lookaheads of the records gone through, and no member beyond them.
 use Prim.Native.Nat.{◌-◌, ◌≤◌}
-use native.Mathlib.Nat.{le_antisymm}
-use native.Mathlib.Omega.{arith}
-use borrow.Author.Rules.{rules}
 use Rattle.follow.specs.Walks.{AheadFilled}
-use Rattle.follow.proofs.Lookaheads.{ahead_none, ahead_next}
 use Rattle.follow.proofs.ahead.fill_ahead.Given as goal
 
 abbrev pub invariant-loop-p : goal.invariant-loop-p

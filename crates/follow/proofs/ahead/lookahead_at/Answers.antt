@@ -1,7 +1,6 @@
 -- The trail of the right side starts as the FOLLOW set that was loaded.
 use Prim.Native.Nat.{◌+◌}
 use native.Mathlib.Omega.{arith}
-use borrow.Author.Rules.{rules}
 use Rattle.first.proofs.Promise.{right_part}
 use Rattle.follow.proofs.ahead.lookahead_at.Goals as goal
 

@@ -1,5 +1,4 @@
 -- A refusal passes through; a number that is not below P is refused.
-use borrow.Author.Rules.{rules}
 use Rattle.answers.specs.Checks.{passes, stops, goes, because}
 use Rattle.follow.proofs.checks.numbered.Goals as goal
 

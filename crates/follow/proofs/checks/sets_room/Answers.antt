@@ -1,5 +1,4 @@
 -- The two checks of room, one after the other.
-use borrow.Author.Rules.{rules}
 use Rattle.answers.proofs.Promise.{lacking_refusing, checked_then}
 use Rattle.follow.proofs.checks.sets_room.Goals as goal
 

@@ -1,14 +1,9 @@
 -- The invariant: the records gone through, and whether they changed nothing.
-use mathlib.Core.Path.{◌≡◌, refl}
+use mathlib.Core.Path.{◌≡◌}
 use Prim.Native.Nat.{◌-◌, ◌≤◌}
-use native.Mathlib.Nat.{le_antisymm}
-use native.Mathlib.Omega.{arith}
 use lib.ListN.{length}
-use borrow.Author.Rules.{rules}
 use Rattle.first.specs.Steps.{Made, passed}
-use Rattle.first.proofs.Promise.{made_next}
 use Rattle.follow.specs.Walks.{follow_steps}
-use Rattle.follow.proofs.Following.{follow_expands}
 use Rattle.follow.proofs.follow.follow_pass.Given as goal
 
 abbrev pub invariant-loop-p : goal.invariant-loop-p

@@ -1,10 +1,8 @@
 use mathlib.Core.Path.{refl}
 use Prim.Native.Nat.{◌+◌}
 use native.Mathlib.Omega.{arith}
-use borrow.Author.Rules.{rules}
-use Rattle.sets.specs.Calls.{number}
 use Rattle.reader.proofs.Promise.{every_in}
-use Rattle.follow.proofs.Following.{Walking, walking_begun, walking_next, walking_over}
+use Rattle.follow.proofs.Following.{walking_begun, walking_next, walking_over}
 use Rattle.follow.proofs.follow.follow_step.Goals as goal
 
 pub bounds-book-at : goal.bounds-book-at

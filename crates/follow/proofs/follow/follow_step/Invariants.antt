@@ -1,11 +1,6 @@
 -- The invariant: the right side is walked from the right to a position.
-use mathlib.Core.Path.{refl}
-use Prim.Native.Nat.{◌+◌}
-use native.Mathlib.Omega.{arith}
-use borrow.Author.Rules.{rules}
 use Rattle.sets.specs.Calls.{number}
-use Rattle.reader.proofs.Promise.{every_in}
-use Rattle.follow.proofs.Following.{Walking, walking_begun, walking_next, walking_over}
+use Rattle.follow.proofs.Following.{Walking}
 use Rattle.follow.proofs.follow.follow_step.Given as goal
 
 abbrev pub invariant-loop-j : goal.invariant-loop-j

@@ -1,13 +1,9 @@
-use Prim.Native.Nat.{◌-◌, ◌*◌, ◌^◌}
 use native.Mathlib.Omega.{arith}
 use lib.ListN.{replicate}
-use borrow.Author.Tests.{not-true, not-false}
-use borrow.Author.Rules.{rules}
-use Rattle.sets.specs.Sets.{width}
-use Rattle.answers.specs.Limits.{most_nonterminals, most_productions}
-use Rattle.first.proofs.Promise.{no_member, total, Round, round_next, round_nearer}
+use Rattle.answers.specs.Limits.{most_productions}
+use Rattle.first.proofs.Promise.{no_member, round_next, round_nearer}
 use Rattle.follow.proofs.Halting.{single_end}
-use Rattle.follow.proofs.Following.{whole_walkable, tails_walkable, FollowSoFar, follow_refines, follow_begun_round, follow_settled}
+use Rattle.follow.proofs.Following.{whole_walkable, tails_walkable, follow_refines, follow_begun_round, follow_settled}
 use Rattle.follow.proofs.follow.follows.Goals as goal
 
 pub follow_pass-requires : goal.follow_pass-requires

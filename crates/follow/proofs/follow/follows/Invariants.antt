@@ -1,14 +1,9 @@
 -- The invariant: 64 sets that are sound so far and have the end mark behind the start symbol.
 use Prim.Native.Nat.{◌-◌, ◌*◌, ◌^◌}
-use native.Mathlib.Omega.{arith}
-use lib.ListN.{replicate}
-use borrow.Author.Tests.{not-true, not-false}
-use borrow.Author.Rules.{rules}
 use Rattle.sets.specs.Sets.{width}
-use Rattle.answers.specs.Limits.{most_nonterminals, most_productions}
-use Rattle.first.proofs.Promise.{no_member, total, Round, round_next, round_nearer}
-use Rattle.follow.proofs.Halting.{single_end}
-use Rattle.follow.proofs.Following.{whole_walkable, tails_walkable, FollowSoFar, follow_refines, follow_begun_round, follow_settled}
+use Rattle.answers.specs.Limits.{most_nonterminals}
+use Rattle.first.proofs.Promise.{total, Round}
+use Rattle.follow.proofs.Following.{FollowSoFar}
 use Rattle.follow.proofs.follow.follows.Given as goal
 
 abbrev pub invariant-loop-from : goal.invariant-loop-from

@@ -1,7 +1,6 @@
 -- A token is not the empty string, so what lies behind it goes no further.
 use mathlib.Core.Path.{refl, sym, ◌∙◌}
 use mathlib.Core.Bool.{true, and-true}
-use borrow.Author.Rules.{rules}
 use Rattle.sets.proofs.Promise.{join_is}
 use Rattle.reader.proofs.Promise.{symbol_token, symbol_nonterminal}
 use Rattle.first.specs.Trail.{symbol_set}

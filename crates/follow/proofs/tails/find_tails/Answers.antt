@@ -1,10 +1,8 @@
-use mathlib.Core.Path.{◌≡◌, refl}
-use Prim.Native.Nat.{◌-◌, ◌≤◌}
+use mathlib.Core.Path.{refl}
 use native.Mathlib.Nat.{le_antisymm}
 use native.Mathlib.Omega.{arith}
-use lib.ListN.{length, length-set}
+use lib.ListN.{length-set}
 use borrow.Author.Rules.{rules}
-use Rattle.follow.specs.Walks.{Tails}
 use Rattle.follow.proofs.Following.{tails_next}
 use Rattle.follow.proofs.tails.find_tails.Goals as goal
 
@@ -24,12 +22,11 @@ bounds-tails-p c =
     omega (arith, c.loop-p.invariant.1, c.requires.1)
 
 pub loop-p-preserved : goal.loop-p-preserved
-loop-p-preserved c =
-    (
-      search rules,
-      rw length-set c.loop-p.invariant.1,
-      tails_next (omega (arith, c.loop-p.invariant.1, c.requires.1)) c.loop-p.invariant.2 c.tail_at.ensures,
-    )
+loop-p-preserved c = (
+  search rules,
+  rw length-set c.loop-p.invariant.1,
+  tails_next (omega (arith, c.loop-p.invariant.1, c.requires.1)) c.loop-p.invariant.2 c.tail_at.ensures,
+)
 
 pub shape_of-tails : goal.shape_of-tails
 shape_of-tails c = c.loop-p.invariant.1

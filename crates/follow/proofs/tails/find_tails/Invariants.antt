@@ -1,12 +1,8 @@
 -- The invariant: the positions of the records gone through.
-use mathlib.Core.Path.{◌≡◌, refl}
+use mathlib.Core.Path.{◌≡◌}
 use Prim.Native.Nat.{◌-◌, ◌≤◌}
-use native.Mathlib.Nat.{le_antisymm}
-use native.Mathlib.Omega.{arith}
-use lib.ListN.{length, length-set}
-use borrow.Author.Rules.{rules}
+use lib.ListN.{length}
 use Rattle.follow.specs.Walks.{Tails}
-use Rattle.follow.proofs.Following.{tails_next}
 use Rattle.follow.proofs.tails.find_tails.Given as goal
 
 abbrev pub invariant-loop-p : goal.invariant-loop-p

@@ -1,11 +1,7 @@
 use mathlib.Core.Path.{◌≡◌, sym, ◌∙◌}
 use mathlib.Core.Bool.{false}
-use Prim.Native.Nat.{◌≤◌}
 use native.Mathlib.Omega.{arith}
-use borrow.Author.Tests.{not-true}
-use borrow.Author.Rules.{rules}
 use Rattle.sets.specs.Sets.{empty_string, member}
-use Rattle.reader.specs.Fields.{length_at}
 use Rattle.reader.proofs.Promise.{form_turn}
 use Rattle.first.specs.Trail.{symbol_set}
 use Rattle.follow.specs.Walks.{halts_here}

@@ -1,5 +1,4 @@
 -- What comes next decides.
-use borrow.Author.Rules.{rules}
 use Rattle.offer.proofs.Deciding.{bottom_next, bottom_end}
 use Rattle.offer.proofs.moves.at_bottom.Goals as goal
 

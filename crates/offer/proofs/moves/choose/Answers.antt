@@ -1,7 +1,6 @@
 -- One case of `Chosen` for each answer.
 use Prim.Native.Nat.{◌-◌}
 use native.Mathlib.Omega.{arith}
-use borrow.Author.Rules.{rules}
 use Rattle.book.proofs.Promise.{outlined_sized}
 use Rattle.stack.proofs.Promise.{right_side, spelled_none, spelled_top, replaced_length}
 use Rattle.offer.proofs.Choosing.{chosen_bottom, chosen_finish, chosen_full_list, chosen_full_stack, chosen_use}

@@ -1,6 +1,5 @@
 -- One case of `Faces` for each answer.
 use mathlib.Core.Path.{sym, ◌∙◌}
-use borrow.Author.Rules.{rules}
 use Rattle.table.proofs.Promise.{held_vacant, held_filled}
 use Rattle.offer.specs.Moves.{matches, unmatched, vacant, filled}
 use Rattle.offer.proofs.Deciding.{meets_true, meets_false}

@@ -1,6 +1,5 @@
 -- The two cases of `meets`.
 use mathlib.Core.Path.{sym}
-use borrow.Author.Rules.{rules}
 use Rattle.offer.proofs.Deciding.{next_meets, end_meets}
 use Rattle.offer.proofs.moves.is_next.Goals as goal
 

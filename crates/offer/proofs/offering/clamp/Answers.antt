@@ -1,7 +1,6 @@
 -- Each count is lowered to its bound.
 use mathlib.Core.Path.{ap, ◌∙◌}
 use Prim.Native.Nat.{min}
-use borrow.Author.Rules.{rules}
 use Rattle.offer.specs.Resuming.{clamped}
 use Rattle.offer.proofs.offering.clamp.Goals as goal
 

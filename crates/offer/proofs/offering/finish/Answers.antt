@@ -1,6 +1,5 @@
 -- One case of `finished` for each ending.
 use native.Mathlib.Omega.{arith}
-use borrow.Author.Rules.{rules}
 use Rattle.offer.specs.Offering.{finished, finished_stack}
 use Rattle.offer.proofs.offering.finish.Goals as goal
 

@@ -1,5 +1,4 @@
 -- The refusal of the reading, or the offer on the grammar that it tells of.
-use borrow.Author.Rules.{rules}
 use Rattle.offer.specs.Resuming.{refused, offered}
 use Rattle.offer.proofs.offering.offer.Goals as goal
 

@@ -1,10 +1,7 @@
 use mathlib.Core.Path.{◌∙◌, ap}
-use Prim.Native.Nat.{◌-◌}
 use native.Mathlib.Omega.{arith}
 use lib.ListN.{length}
-use borrow.Author.Rules.{rules}
-use Rattle.answers.specs.Buffers.{counted}
-use Rattle.offer.proofs.Turning.{finished_length, Turning, turning_start, use_fits, turning_use, turning_finish, match_some}
+use Rattle.offer.proofs.Turning.{finished_length, turning_start, use_fits, turning_use, turning_finish, match_some}
 use Rattle.offer.proofs.offering.offer_at.Goals as goal
 
 pub loop-p-init : goal.loop-p-init

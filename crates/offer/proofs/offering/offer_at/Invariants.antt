@@ -1,11 +1,7 @@
 -- The invariant: whatever state the buffers held, they hold what the machine makes of it.
-use mathlib.Core.Path.{◌∙◌, ap}
 use Prim.Native.Nat.{◌-◌}
-use native.Mathlib.Omega.{arith}
-use lib.ListN.{length}
-use borrow.Author.Rules.{rules}
 use Rattle.answers.specs.Buffers.{counted}
-use Rattle.offer.proofs.Turning.{finished_length, Turning, turning_start, use_fits, turning_use, turning_finish, match_some}
+use Rattle.offer.proofs.Turning.{Turning}
 use Rattle.offer.proofs.offering.offer_at.Given as goal
 
 abbrev pub invariant-loop-p : goal.invariant-loop-p

@@ -1,5 +1,4 @@
 -- The offer to the state that the buffers spell.
-use borrow.Author.Rules.{rules}
 use Rattle.offer.proofs.Resumed.{clamped_ready, offer_resumed}
 use Rattle.offer.proofs.offering.offer_on.Goals as goal
 

@@ -1,9 +1,6 @@
-use mathlib.Core.Logic.{⊎_elim}
-use Prim.Native.Nat.{◌-◌}
 use native.Mathlib.Omega.{arith}
-use lib.ListN.{length}
 use borrow.Author.Rules.{rules}
-use Rattle.offer.proofs.Steps.{Running, running_start, running_ready, running_stopped, running_over, running_next, stepped_from}
+use Rattle.offer.proofs.Steps.{running_start, running_ready, running_stopped, running_over, running_next, stepped_from}
 use Rattle.offer.proofs.strings.offer_all.Goals as goal
 
 pub loop-next-init : goal.loop-next-init

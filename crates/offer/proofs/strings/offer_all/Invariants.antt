@@ -1,10 +1,7 @@
 -- The invariant: from the state that the buffers hold the machine comes to the run's outcome.
-use mathlib.Core.Logic.{⊎_elim}
 use Prim.Native.Nat.{◌-◌}
-use native.Mathlib.Omega.{arith}
 use lib.ListN.{length}
-use borrow.Author.Rules.{rules}
-use Rattle.offer.proofs.Steps.{Running, running_start, running_ready, running_stopped, running_over, running_next, stepped_from}
+use Rattle.offer.proofs.Steps.{Running}
 use Rattle.offer.proofs.strings.offer_all.Given as goal
 
 abbrev pub invariant-loop-next : goal.invariant-loop-next

@@ -1,6 +1,5 @@
 -- Nothing is done without a stack cell; otherwise the steps, and the cleared stack.
 use native.Mathlib.Omega.{arith}
-use borrow.Author.Rules.{rules}
 use Rattle.offer.specs.Strings.{no_stack}
 use Rattle.offer.proofs.Steps.{stepped_cleared}
 use Rattle.offer.proofs.strings.offer_string.Goals as goal

@@ -1,5 +1,4 @@
 -- The left sides differ, or the first bytes decide.
-use borrow.Author.Rules.{rules}
 use Rattle.profile.proofs.Breaking.{not_alike, alike_decided}
 use Rattle.profile.proofs.breaks.alike.Goals as goal
 

@@ -1,5 +1,4 @@
 -- An empty right side, a nonterminal in front, or a lower production that is alike.
-use borrow.Author.Rules.{rules}
 use Rattle.profile.proofs.Breaking.{breaks_empty, breaks_named, breaks_shared}
 use Rattle.profile.proofs.breaks.breaks.Goals as goal
 

@@ -1,10 +1,5 @@
-use Prim.Native.Nat.{◌-◌}
-use borrow.Author.Rules.{rules}
-use Rattle.grammar.specs.Plain.{Breaks}
 use Rattle.sets.proofs.Promise.{decides_true, decides_false}
-use Rattle.sets.specs.Calls.{Decides}
-use Rattle.answers.proofs.Promise.{Searched, search_begun, search_next, search_found, search_over}
-use Rattle.book.specs.Columns.{outlined}
+use Rattle.answers.proofs.Promise.{search_begun, search_next, search_found, search_over}
 use Rattle.profile.proofs.breaks.first_break.Goals as goal
 
 pub loop-p-init : goal.loop-p-init

@@ -1,8 +1,6 @@
-use Prim.Native.Nat.{ℕ, ◌-◌, ◌≤◌, ◌<◌}
 use borrow.Author.Count.{below_none, below_more}
 use borrow.Author.Rules.{rules}
 use Rattle.sets.proofs.Promise.{decides_true, decides_false}
-use Rattle.profile.specs.Breaking.{Alike}
 use Rattle.profile.proofs.Breaking.{shared_found, shared_none}
 use Rattle.profile.proofs.breaks.shares.Goals as goal
 

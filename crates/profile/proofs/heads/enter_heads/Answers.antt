@@ -1,11 +1,8 @@
-use mathlib.Core.Path.{◌≡◌, refl}
-use Prim.Native.Nat.{◌-◌, ◌≤◌}
+use mathlib.Core.Path.{refl}
 use native.Mathlib.Nat.{le_antisymm}
-use lib.ListN.{length}
 use borrow.Author.Rules.{rules}
-use Rattle.book.specs.Columns.{outlined}
 use Rattle.table.proofs.Promise.{cells_fit}
-use Rattle.profile.proofs.Entering.{Entered, cell_small, entered_none, head_inside, head_entered, heads_table}
+use Rattle.profile.proofs.Entering.{cell_small, entered_none, head_inside, head_entered, heads_table}
 use Rattle.profile.proofs.heads.enter_heads.Goals as goal
 
 pub loop-p-init : goal.loop-p-init
@@ -22,12 +19,11 @@ bounds-cells-row c =
     rw (c.left_at-row.ensures, c.byte_at-head.ensures, c.place_at-at.ensures) (head_inside _ _ _ c.requires c.loop-p-test.true c.loop-p.invariant.2)
 
 pub loop-p-preserved : goal.loop-p-preserved
-loop-p-preserved c =
-    (
-      search rules,
-      search rules,
-      rw (c.left_at-row.ensures, c.byte_at-head.ensures, c.place_at-at.ensures) (head_entered _ _ _ c.requires c.loop-p-test.true c.loop-p.invariant.2),
-    )
+loop-p-preserved c = (
+  search rules,
+  search rules,
+  rw (c.left_at-row.ensures, c.byte_at-head.ensures, c.place_at-at.ensures) (head_entered _ _ _ c.requires c.loop-p-test.true c.loop-p.invariant.2),
+)
 
 pub returns : goal.returns
 returns c =

@@ -1,5 +1,4 @@
 -- The profile of what judging gives.
-use borrow.Author.Rules.{rules}
 use Rattle.profile.proofs.plain.plain.Goals as goal
 
 pub returns : goal.returns

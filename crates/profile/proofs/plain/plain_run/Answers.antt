@@ -1,5 +1,4 @@
 -- What the profile refuses is refused, and a plain book is run.
-use borrow.Author.Rules.{rules}
 use Rattle.profile.proofs.Outcomes.{told_refused, told_plain}
 use Rattle.profile.proofs.plain.plain_run.Goals as goal
 

@@ -1,5 +1,4 @@
 -- Refused, or the lowest production that breaks the profile, or none.
-use borrow.Author.Rules.{rules}
 use Rattle.profile.proofs.Breaking.{profile_refused, profile_unfit, profile_fits}
 use Rattle.profile.proofs.plain.profile_of.Goals as goal
 

@@ -1,5 +1,4 @@
 -- The heads are the table of the book, so what is refused of the string, and the run on the judged book, are the run's.
-use borrow.Author.Rules.{rules}
 use Rattle.profile.proofs.Outcomes.{ready_heads, entered_barred, entered_ran}
 use Rattle.profile.proofs.plain.run_entered.Goals as goal
 

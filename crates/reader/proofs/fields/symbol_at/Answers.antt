@@ -3,7 +3,6 @@ use Prim.Native.Nat.{◌+◌}
 use native.Mathlib.Nat.{add_assoc}
 use native.Mathlib.Omega.{arith}
 use lib.ListN.{get_or-eq_default}
-use borrow.Author.Rules.{rules}
 use Rattle.reader.specs.Fields.{symbol_of_byte, symbol_at}
 use Rattle.reader.proofs.fields.symbol_at.Goals as goal
 

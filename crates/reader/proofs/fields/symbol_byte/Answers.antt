@@ -2,7 +2,6 @@
 use mathlib.Core.Path.{sym, ◌∙◌}
 use native.Mathlib.Omega.{arith}
 use lib.ListN.{get_or-eq_default}
-use borrow.Author.Rules.{rules}
 use Rattle.reader.specs.Fields.{symbol_at}
 use Rattle.reader.proofs.Forms.{byte_of_symbol}
 use Rattle.reader.proofs.fields.symbol_byte.Goals as goal

@@ -1,5 +1,4 @@
 -- The two cases of `cutOff`.
-use borrow.Author.Rules.{rules}
 use Rattle.reader.specs.Positional.{cut_off, and_then}
 use Rattle.reader.proofs.spelling.cut_off.Goals as goal
 

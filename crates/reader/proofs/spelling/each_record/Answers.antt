@@ -1,9 +1,6 @@
-use mathlib.Core.Path.{◌≡◌, sym, ◌∙◌}
-use Prim.Native.Nat.{◌-◌, ◌≤◌}
+use mathlib.Core.Path.{sym, ◌∙◌}
 use native.Mathlib.Nat.{sub-zero}
 use borrow.Author.Rules.{rules}
-use Rattle.reader.specs.declared.Verdict.TheVariants.{Next}
-use Rattle.reader.specs.Positional.{each_record_from}
 use Rattle.reader.proofs.Turns.{records_over}
 use Rattle.reader.proofs.Guards.{records_go, records_stop}
 use Rattle.reader.proofs.spelling.each_record.Goals as goal

@@ -1,12 +1,8 @@
 -- The invariant: the records that are left come to what the whole comes to.
-use mathlib.Core.Path.{◌≡◌, sym, ◌∙◌}
+use mathlib.Core.Path.{◌≡◌}
 use Prim.Native.Nat.{◌-◌, ◌≤◌}
-use native.Mathlib.Nat.{sub-zero}
-use borrow.Author.Rules.{rules}
 use Rattle.reader.specs.declared.Verdict.TheVariants.{Next}
 use Rattle.reader.specs.Positional.{each_record_from}
-use Rattle.reader.proofs.Turns.{records_over}
-use Rattle.reader.proofs.Guards.{records_go, records_stop}
 use Rattle.reader.proofs.spelling.each_record.Given as goal
 
 abbrev pub invariant-loop-p : goal.invariant-loop-p

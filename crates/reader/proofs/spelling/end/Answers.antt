@@ -1,6 +1,5 @@
 -- The three cases of `endFrom`.
 use borrow.Author.Tests.{lt-ltb, le-ltb}
-use borrow.Author.Rules.{rules}
 use Rattle.reader.specs.Positional.{end_from, and_then}
 use Rattle.reader.proofs.spelling.end.Goals as goal
 

@@ -1,14 +1,11 @@
 -- The six bytes in order: the first that is missing or wrong decides.
 use mathlib.Core.Path.{sym, ◌∙◌}
-use mathlib.Core.List.{List}
-use Prim.Native.Nat.{ℕ, suc, ◌+◌}
+use Prim.Native.Nat.{suc, ◌+◌}
 use native.Mathlib.Omega.{arith}
-use borrow.Author.Rules.{rules}
 use Rattle.answers.specs.Limits.{most_productions}
-use Rattle.reader.specs.declared.Verdict.{Verdict}
 use Rattle.reader.specs.Positional.{within_at}
 use Rattle.reader.proofs.Guards.{told_right, told_wrong, told_inside}
-use Rattle.reader.proofs.Heads.{Reaches, on_second, on_tokens, on_nonterminals, on_start, on_productions, first_wrong, first_right, second_wrong, second_right, third_wrong, third_right, fourth_wrong, fourth_right, fifth_wrong, fifth_right, sixth_wrong, sixth_right}
+use Rattle.reader.proofs.Heads.{first_wrong, first_right, second_wrong, second_right, third_wrong, third_right, fourth_wrong, fourth_right, fifth_wrong, fifth_right, sixth_wrong, sixth_right}
 use Rattle.reader.proofs.spelling.header.Goals as goal
 
 pub returns-then-not-is_mark : goal.returns-then-not-is_mark

@@ -1,14 +1,9 @@
 -- The bytes are there or not, and where they are, the first that is not right decides.
-use mathlib.Core.Path.{◌≡◌}
-use mathlib.Core.Bool.{true}
-use mathlib.Core.List.{List}
-use Prim.Native.Nat.{ℕ, ◌+◌, ◌<◌}
+use Prim.Native.Nat.{◌+◌}
 use native.Mathlib.Omega.{arith}
-use lib.Dec.{ltb}
-use lib.ListN.{length, get_or}
+use lib.ListN.{length}
 use borrow.Author.Tests.{ltb-true}
-use borrow.Author.Rules.{rules}
-use Rattle.reader.specs.Positional.{within, head_at}
+use Rattle.reader.specs.Positional.{head_at}
 use Rattle.reader.proofs.Guards.{told_right, told_wrong}
 use Rattle.reader.proofs.spelling.is_head.Goals as goal
 

@@ -1,5 +1,4 @@
 -- The two cases of `verdictPlace`.
-use borrow.Author.Rules.{rules}
 use Rattle.reader.specs.Verdicts.{verdict_place}
 use Rattle.reader.proofs.spelling.place_of.Goals as goal
 

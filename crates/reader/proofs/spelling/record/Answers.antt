@@ -1,7 +1,6 @@
 -- The four bytes that begin a record are right, and the symbols follow; or they are not, and the first wrong one is refused.
 use mathlib.Core.Path.{sym, ◌∙◌}
 use native.Mathlib.Omega.{arith}
-use borrow.Author.Rules.{rules}
 use Rattle.reader.proofs.Heads.{head_inside, record_whole}
 use Rattle.reader.proofs.spelling.record.Goals as goal
 

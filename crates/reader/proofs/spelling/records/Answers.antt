@@ -1,6 +1,5 @@
 -- T, N and P are read from the header, and a refusal stays.
 use mathlib.Core.Path.{sym}
-use borrow.Author.Rules.{rules}
 use Rattle.reader.specs.Positional.{records_from, resumed_at, and_then}
 use Rattle.reader.proofs.Passing.{records_pass}
 use Rattle.reader.proofs.spelling.records.Goals as goal

@@ -3,7 +3,6 @@ use mathlib.Core.Path.{sym, ◌∙◌}
 use Prim.Native.Nat.{◌+◌}
 use native.Mathlib.Omega.{arith}
 use lib.ListN.{length}
-use borrow.Author.Rules.{rules}
 use Rattle.reader.specs.Positional.{checked_at}
 use Rattle.reader.proofs.Guards.{standing}
 use Rattle.reader.proofs.spelling.refused.Goals as goal

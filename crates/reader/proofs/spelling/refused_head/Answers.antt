@@ -1,10 +1,5 @@
 -- The first byte that is missing or wrong decides; where three are right, it is the fourth.
-use mathlib.Core.Path.{◌≡◌, sym, ◌∙◌}
-use mathlib.Core.Bool.{true}
-use mathlib.Core.List.{List}
-use Prim.Native.Nat.{ℕ, ◌+◌}
-use borrow.Author.Rules.{rules}
-use Rattle.reader.specs.Positional.{within_at}
+use mathlib.Core.Path.{sym, ◌∙◌}
 use Rattle.reader.proofs.Guards.{told_right, told_wrong}
 use Rattle.reader.proofs.Heads.{record_first, record_second, record_third, record_fourth, head_fourth}
 use Rattle.reader.proofs.spelling.refused_head.Goals as goal

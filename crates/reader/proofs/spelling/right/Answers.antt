@@ -3,8 +3,6 @@ use mathlib.Core.Path.{◌≡◌, sym, ◌∙◌, ap}
 use Prim.Native.Nat.{◌+◌, ◌-◌}
 use native.Mathlib.Omega.{arith}
 use lib.ListN.{length}
-use borrow.Author.Rules.{rules}
-use Rattle.reader.specs.declared.Verdict.{Verdict}
 use Rattle.reader.specs.declared.Verdict.TheVariants.{Next}
 use Rattle.reader.specs.Positional.{symbols_from, cut_off}
 use Rattle.reader.proofs.Guards.{symbols_cut}

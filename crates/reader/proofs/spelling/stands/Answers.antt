@@ -4,7 +4,6 @@ use Prim.Native.Nat.{◌+◌}
 use native.Mathlib.Omega.{arith}
 use lib.ListN.{length}
 use borrow.Author.Tests.{le-ltb}
-use borrow.Author.Rules.{rules}
 use Rattle.reader.proofs.Guards.{below_rest}
 use Rattle.reader.proofs.spelling.stands.Goals as goal
 

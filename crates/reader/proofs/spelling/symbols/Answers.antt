@@ -1,9 +1,5 @@
-use mathlib.Core.Path.{◌≡◌, refl, sym, ◌∙◌}
-use Prim.Native.Nat.{◌-◌, ◌≤◌}
-use borrow.Author.Tests.{not-true, not-false}
+use mathlib.Core.Path.{refl, sym, ◌∙◌}
 use borrow.Author.Rules.{rules}
-use Rattle.reader.specs.declared.Verdict.TheVariants.{Next}
-use Rattle.reader.specs.Positional.{symbols_from}
 use Rattle.reader.proofs.Joined.{told_symbol}
 use Rattle.reader.proofs.Turns.{symbols_over}
 use Rattle.reader.proofs.Guards.{symbols_go, symbols_stop}

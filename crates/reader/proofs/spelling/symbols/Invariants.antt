@@ -1,13 +1,8 @@
 -- The invariant: the bytes that are left come to what the whole comes to.
-use mathlib.Core.Path.{◌≡◌, refl, sym, ◌∙◌}
+use mathlib.Core.Path.{◌≡◌}
 use Prim.Native.Nat.{◌-◌, ◌≤◌}
-use borrow.Author.Tests.{not-true, not-false}
-use borrow.Author.Rules.{rules}
 use Rattle.reader.specs.declared.Verdict.TheVariants.{Next}
 use Rattle.reader.specs.Positional.{symbols_from}
-use Rattle.reader.proofs.Joined.{told_symbol}
-use Rattle.reader.proofs.Turns.{symbols_over}
-use Rattle.reader.proofs.Guards.{symbols_go, symbols_stop}
 use Rattle.reader.proofs.spelling.symbols.Given as goal
 
 abbrev pub invariant-loop-at : goal.invariant-loop-at

@@ -1,5 +1,4 @@
 -- The values, with the most stack cells held.
-use borrow.Author.Rules.{rules}
 use Rattle.run.proofs.Expected.{answers_at}
 use Rattle.run.proofs.answering.answer_of.Goals as goal
 

@@ -1,5 +1,4 @@
 -- One case of `expected` for each reason.
-use borrow.Author.Rules.{rules}
 use Rattle.run.proofs.Expected.{expects_list, expects_stack, expects_end, expects_token, expects_row}
 use Rattle.run.proofs.answering.expects.Goals as goal
 

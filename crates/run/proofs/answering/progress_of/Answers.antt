@@ -1,6 +1,5 @@
 -- The counts of what is taken and what stops; none of a refusal.
 use mathlib.Core.Path.{sym, ap}
-use borrow.Author.Rules.{rules}
 use Rattle.run.specs.Answering.{progress_in}
 use Rattle.run.proofs.answering.progress_of.Goals as goal
 

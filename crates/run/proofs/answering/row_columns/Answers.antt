@@ -1,10 +1,5 @@
-use mathlib.Core.Path.{◌≡◌}
-use Prim.Native.Nat.{◌+◌, ◌-◌, ◌≤◌}
 use borrow.Author.Rules.{rules}
-use Rattle.grammar.specs.Grammar.{Grammar}
-use Rattle.sets.specs.Calls.{number}
 use Rattle.sets.proofs.Promise.{none_is}
-use Rattle.book.specs.Columns.{Outlines}
 use Rattle.offer.specs.Stops.{filled_below}
 use Rattle.run.proofs.Expected.{rows_over}
 use Rattle.run.proofs.answering.row_columns.Goals as goal

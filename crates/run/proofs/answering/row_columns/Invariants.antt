@@ -1,13 +1,10 @@
 -- The invariant: the columns passed are collected.
 use mathlib.Core.Path.{◌≡◌}
 use Prim.Native.Nat.{◌+◌, ◌-◌, ◌≤◌}
-use borrow.Author.Rules.{rules}
 use Rattle.grammar.specs.Grammar.{Grammar}
 use Rattle.sets.specs.Calls.{number}
-use Rattle.sets.proofs.Promise.{none_is}
 use Rattle.book.specs.Columns.{Outlines}
 use Rattle.offer.specs.Stops.{filled_below}
-use Rattle.run.proofs.Expected.{rows_over}
 use Rattle.run.proofs.answering.row_columns.Given as goal
 
 abbrev pub invariant-loop-j : goal.invariant-loop-j

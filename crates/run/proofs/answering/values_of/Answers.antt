@@ -1,6 +1,5 @@
 -- The values of each kind of reply.
 use mathlib.Core.Path.{refl}
-use borrow.Author.Rules.{rules}
 use Rattle.run.proofs.Expected.{values_done, values_stop, values_refused}
 use Rattle.run.proofs.answering.values_of.Goals as goal
 

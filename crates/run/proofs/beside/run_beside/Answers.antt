@@ -1,5 +1,4 @@
 -- The account's words, and the rest of the tokens.
-use borrow.Author.Rules.{rules}
 use Rattle.run.proofs.RunAnswers.{account_inside, account_shown}
 use Rattle.run.proofs.beside.run_beside.Goals as goal
 

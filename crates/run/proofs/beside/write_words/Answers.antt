@@ -1,6 +1,5 @@
 -- The words one by one.
 use mathlib.Core.Path.{refl}
-use borrow.Author.Rules.{rules}
 use Rattle.run.specs.Running.{words_of}
 use Rattle.run.proofs.beside.write_words.Goals as goal
 

@@ -1,5 +1,4 @@
 -- One case of `Checked` for each answer.
-use borrow.Author.Rules.{rules}
 use Rattle.book.proofs.Promise.{outlined_sized}
 use Rattle.run.proofs.Checks.{check_table, check_barred, check_no_stack, check_done}
 use Rattle.run.proofs.checking.check.Goals as goal

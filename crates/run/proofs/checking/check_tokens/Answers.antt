@@ -1,5 +1,4 @@
 -- One case of `Checked` for each answer.
-use borrow.Author.Rules.{rules}
 use Rattle.run.proofs.Checks.{tokens_long, tokens_strange, tokens_known}
 use Rattle.run.proofs.checking.check_tokens.Goals as goal
 

@@ -1,9 +1,6 @@
-use Prim.Native.Nat.{◌-◌}
 use native.Mathlib.Omega.{arith}
-use lib.ListN.{length}
 use borrow.Author.Rules.{rules}
-use Rattle.answers.proofs.Promise.{Searched, search_begun, search_next, search_found, search_over}
-use Rattle.run.specs.Running.{Strange}
+use Rattle.answers.proofs.Promise.{search_begun, search_next, search_found, search_over}
 use Rattle.run.proofs.checking.first_above.Goals as goal
 
 pub returns-then-highest-limit : goal.returns-then-highest-limit

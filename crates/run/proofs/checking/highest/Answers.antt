@@ -1,6 +1,4 @@
-use Prim.Native.Nat.{ℕ, ◌-◌, ◌≤◌, ◌<◌}
 use native.Mathlib.Omega.{arith}
-use lib.ListN.{length, get_or}
 use borrow.Author.Count.{below_none}
 use borrow.Author.Rules.{rules}
 use Rattle.run.proofs.Checks.{highest_turn}

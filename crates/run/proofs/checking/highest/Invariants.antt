@@ -1,10 +1,6 @@
 -- The invariant: no token passed is higher.
 use Prim.Native.Nat.{ℕ, ◌-◌, ◌≤◌, ◌<◌}
-use native.Mathlib.Omega.{arith}
 use lib.ListN.{length, get_or}
-use borrow.Author.Count.{below_none}
-use borrow.Author.Rules.{rules}
-use Rattle.run.proofs.Checks.{highest_turn}
 use Rattle.run.proofs.checking.highest.Given as goal
 
 abbrev pub invariant-loop-i : goal.invariant-loop-i

@@ -1,5 +1,4 @@
 -- Refused, or accounted for on the grammar that the book serves.
-use borrow.Author.Rules.{rules}
 use Rattle.run.proofs.RunAnswers.{account_refused, account_served}
 use Rattle.run.proofs.running.account.Goals as goal
 

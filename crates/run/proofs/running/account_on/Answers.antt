@@ -1,7 +1,6 @@
 -- Barred, or steps made and counted.
 use mathlib.Core.Path.{refl}
 use native.Mathlib.Omega.{arith}
-use borrow.Author.Rules.{rules}
 use Rattle.book.proofs.Promise.{outlined_sized}
 use Rattle.run.proofs.RunAnswers.{checked_admits, account_barred, account_stepped, string_countable}
 use Rattle.run.proofs.running.account_on.Goals as goal

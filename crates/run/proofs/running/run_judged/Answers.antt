@@ -1,5 +1,4 @@
 -- The refusal of the reading, or the run on the grammar that it tells of.
-use borrow.Author.Rules.{rules}
 use Rattle.run.specs.Judged.{refused, ran_on}
 use Rattle.run.proofs.running.run_judged.Goals as goal
 

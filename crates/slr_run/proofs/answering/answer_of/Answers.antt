@@ -1,5 +1,4 @@
 -- The values, with the most states held.
-use borrow.Author.Rules.{rules}
 use Rattle.slr_run.proofs.Expected.{answers_at}
 use Rattle.slr_run.proofs.answering.answer_of.Goals as goal
 

@@ -1,10 +1,5 @@
-use mathlib.Core.Path.{◌≡◌}
-use Prim.Native.Nat.{◌+◌, ◌-◌, ◌≤◌}
 use borrow.Author.Rules.{rules}
-use Rattle.grammar.specs.Grammar.{Grammar}
-use Rattle.sets.specs.Calls.{number}
 use Rattle.sets.proofs.Promise.{none_is}
-use Rattle.book.specs.Columns.{Outlines}
 use Rattle.slr_run.specs.Running.{slr_filled_below}
 use Rattle.slr_run.proofs.Expected.{columns_over}
 use Rattle.slr_run.proofs.answering.expects.Goals as goal

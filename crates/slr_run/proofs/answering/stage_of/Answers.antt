@@ -1,6 +1,5 @@
 -- Where each kind of reply stands.
 use mathlib.Core.Path.{sym, ap}
-use borrow.Author.Rules.{rules}
 use Rattle.slr_run.specs.Stages.{stage_of}
 use Rattle.slr_run.proofs.answering.stage_of.Goals as goal
 

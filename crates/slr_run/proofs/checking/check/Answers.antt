@@ -1,5 +1,4 @@
 -- One case of `Checked` for each answer.
-use borrow.Author.Rules.{rules}
 use Rattle.slr_run.proofs.Checks.{check_misfit, check_long, check_strange, check_no_stack, check_done}
 use Rattle.slr_run.proofs.checking.check.Goals as goal
 

@@ -1,7 +1,5 @@
 -- One case of the check for each answer.
 use mathlib.Core.Path.{refl}
-use native.Mathlib.Omega.{arith}
-use borrow.Author.Rules.{rules}
 use Rattle.slr_run.proofs.Checks.{not_whole, no_row, many_rows, whole_rows, cell_misfits, table_fits}
 use Rattle.slr_run.proofs.checking.check_table.Goals as goal
 

@@ -1,8 +1,5 @@
-use Prim.Native.Nat.{◌-◌}
 use native.Mathlib.Omega.{arith}
-use lib.ListN.{length}
-use borrow.Author.Rules.{rules}
-use Rattle.slr_run.proofs.Rowwise.{Rowwise, rowwise_begun, row_inside, rowwise_found, rowwise_next, rowwise_over}
+use Rattle.slr_run.proofs.Rowwise.{rowwise_begun, row_inside, rowwise_found, rowwise_next, rowwise_over}
 use Rattle.slr_run.proofs.checking.first_misfit.Goals as goal
 
 pub loop-base-init : goal.loop-base-init

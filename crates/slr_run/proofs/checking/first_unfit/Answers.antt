@@ -1,10 +1,7 @@
-use Prim.Native.Nat.{ℕ, ◌-◌, ◌≤◌, ◌<◌}
 use native.Mathlib.Omega.{arith}
 use borrow.Author.Count.{below_none, below_more}
 use borrow.Author.Rules.{rules}
-use borrow.Author.Tests.{not-true, not-false}
 use Rattle.sets.proofs.Promise.{decides_true, decides_false}
-use Rattle.slr_run.specs.Checking.{RowFits}
 use Rattle.slr_run.proofs.Fitting.{read_fits}
 use Rattle.slr_run.proofs.checking.first_unfit.Goals as goal
 

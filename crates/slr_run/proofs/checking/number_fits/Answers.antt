@@ -1,5 +1,4 @@
 -- One law for each test.
-use native.Mathlib.Omega.{arith}
 use borrow.Author.Rules.{rules}
 use Rattle.slr_run.specs.Fitting.{empty}
 use Rattle.slr_run.proofs.Fitting.{fits_state, fits_no_move, fits_accept, fits_nothing, fits_reduce}

@@ -1,7 +1,6 @@
 -- One case of `Turns` for each answer.
 use mathlib.Core.Path.{refl}
 use native.Mathlib.Omega.{arith}
-use borrow.Author.Rules.{rules}
 use Rattle.answers.specs.Buffers.{counted}
 use Rattle.slr_run.proofs.Told.{left_inside, reduction_bare, reduction_none, to_row, reduction_list_full, reduction_stack_full, reduction_made}
 use Rattle.slr_run.proofs.deciding.reduction.Goals as goal

@@ -1,12 +1,8 @@
 use mathlib.Core.Path.{◌∙◌, ap}
-use Prim.Native.Nat.{◌-◌}
 use native.Mathlib.Omega.{arith}
 use lib.ListN.{length}
-use borrow.Author.Rules.{rules}
-use Rattle.answers.specs.Buffers.{counted}
-use Rattle.slr_run.specs.Stages.{column_at}
 use Rattle.slr_run.proofs.Turning.{turning_start, finished_length}
-use Rattle.slr_run.proofs.Loop.{Looping, loop_fits, loop_shifts, loop_reduce, loop_listed, loop_finish}
+use Rattle.slr_run.proofs.Loop.{loop_fits, loop_shifts, loop_reduce, loop_listed, loop_finish}
 use Rattle.slr_run.proofs.reducing.reduce_all.Goals as goal
 
 pub loop-p-init : goal.loop-p-init

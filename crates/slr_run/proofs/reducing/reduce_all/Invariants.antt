@@ -1,13 +1,8 @@
 -- The invariant: whatever begins with the column runs from here as it ran from where the reductions began.
-use mathlib.Core.Path.{◌∙◌, ap}
 use Prim.Native.Nat.{◌-◌}
-use native.Mathlib.Omega.{arith}
-use lib.ListN.{length}
-use borrow.Author.Rules.{rules}
 use Rattle.answers.specs.Buffers.{counted}
 use Rattle.slr_run.specs.Stages.{column_at}
-use Rattle.slr_run.proofs.Turning.{turning_start, finished_length}
-use Rattle.slr_run.proofs.Loop.{Looping, loop_fits, loop_shifts, loop_reduce, loop_listed, loop_finish}
+use Rattle.slr_run.proofs.Loop.{Looping}
 use Rattle.slr_run.proofs.reducing.reduce_all.Given as goal
 
 abbrev pub invariant-loop-p : goal.invariant-loop-p

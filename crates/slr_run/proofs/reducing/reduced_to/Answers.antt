@@ -1,5 +1,4 @@
 -- The counts one by one.
-use borrow.Author.Rules.{rules}
 use Rattle.slr_run.specs.Reducing.{reduced_to}
 use Rattle.slr_run.proofs.reducing.reduced_to.Goals as goal
 

@@ -1,7 +1,6 @@
 -- The token, or the end mark.
 use mathlib.Core.Path.{refl}
 use native.Mathlib.Omega.{arith}
-use borrow.Author.Rules.{rules}
 use Rattle.slr_run.proofs.running.column_of.Goals as goal
 
 pub returns-then-i-tokens : goal.returns-then-i-tokens

@@ -1,5 +1,4 @@
 -- Refused, or run on the grammar that the book serves.
-use borrow.Author.Rules.{rules}
 use Rattle.slr_run.proofs.Served.{run_formed, run_refused, run_served}
 use Rattle.slr_run.proofs.running.run.Goals as goal
 

@@ -1,10 +1,8 @@
 use mathlib.Core.Path.{refl}
-use Prim.Native.Nat.{◌-◌}
 use native.Mathlib.Omega.{arith}
-use lib.ListN.{length}
 use borrow.Author.Rules.{rules}
 use Rattle.slr_run.proofs.Strings.{running_start}
-use Rattle.slr_run.proofs.Whole.{Walking, walk_low, walk_stopped, walk_over, walk_next}
+use Rattle.slr_run.proofs.Whole.{walk_low, walk_stopped, walk_over, walk_next}
 use Rattle.slr_run.proofs.running.run_all.Goals as goal
 
 pub bounds-stack-0 : goal.bounds-stack-0

@@ -1,11 +1,7 @@
 -- The invariant: the tokens that are left come to what the whole string comes to.
-use mathlib.Core.Path.{refl}
 use Prim.Native.Nat.{◌-◌}
-use native.Mathlib.Omega.{arith}
 use lib.ListN.{length}
-use borrow.Author.Rules.{rules}
-use Rattle.slr_run.proofs.Strings.{running_start}
-use Rattle.slr_run.proofs.Whole.{Walking, walk_low, walk_stopped, walk_over, walk_next}
+use Rattle.slr_run.proofs.Whole.{Walking}
 use Rattle.slr_run.proofs.running.run_all.Given as goal
 
 abbrev pub invariant-loop-next : goal.invariant-loop-next

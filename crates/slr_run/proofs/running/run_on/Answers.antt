@@ -1,5 +1,4 @@
 -- Barred, or the steps and the cleared stack.
-use borrow.Author.Rules.{rules}
 use Rattle.slr_run.proofs.Served.{ran_barred, ran_admits, admitted_known, admitted_grounds, ended_countable, ran_ended}
 use Rattle.slr_run.proofs.running.run_on.Goals as goal
 

@@ -1,11 +1,6 @@
 -- Each way out is a case of the claim.
-use mathlib.Core.Path.{◌≡◌, sym, ◌∙◌}
-use mathlib.Core.Bool.{true}
+use mathlib.Core.Path.{sym, ◌∙◌}
 use native.Mathlib.Omega.{arith}
-use borrow.Author.Tests.{not-true, not-false}
-use borrow.Author.Rules.{rules}
-use Rattle.sets.specs.Sets.{member}
-use Rattle.sets.specs.Calls.{number}
 use Rattle.table.specs.Claims.{passes, enters, contests, follows}
 use Rattle.table.proofs.claims.claim.Goals as goal
 

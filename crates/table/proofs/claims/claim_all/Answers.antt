@@ -1,10 +1,7 @@
-use mathlib.Core.Path.{◌≡◌, refl, sym}
-use Prim.Native.Nat.{◌-◌, ◌≤◌}
+use mathlib.Core.Path.{refl, sym}
 use native.Mathlib.Nat.{le_antisymm}
 use native.Mathlib.Omega.{arith}
-use lib.ListN.{length}
 use borrow.Author.Rules.{rules}
-use Rattle.table.specs.Claims.{left_of, book_claims, Laid, Ledger}
 use Rattle.table.proofs.Rows.{laid_none}
 use Rattle.table.proofs.claims.claim_all.Goals as goal
 
@@ -20,12 +17,11 @@ claim_row-contest-requires c =
     (rw (c.left_at-row.ensures, c.place_at.ensures, c.loop-p.invariant.1) (c.requires.rows _ c.loop-p-test.true), omega (arith, c.requires.numbered))
 
 pub loop-p-preserved : goal.loop-p-preserved
-loop-p-preserved c =
-    (
-      search rules,
-      omega (arith, c.claim_row-contest.auto.table, c.loop-p.invariant.1),
-      c.claim_row-contest.ensures.laid _ _ (rw (c.left_at-row.ensures, c.place_at.ensures)) (sym c.load.ensures.loaded) c.loop-p.invariant.2,
-    )
+loop-p-preserved c = (
+  search rules,
+  omega (arith, c.claim_row-contest.auto.table, c.loop-p.invariant.1),
+  c.claim_row-contest.ensures.laid _ _ (rw (c.left_at-row.ensures, c.place_at.ensures)) (sym c.load.ensures.loaded) c.loop-p.invariant.2,
+)
 
 pub returns : goal.returns
 returns c = rw (le_antisymm c.loop-p.invariant.0 c.loop-p-test.false) at c.loop-p.invariant.2

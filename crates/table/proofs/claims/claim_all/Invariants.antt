@@ -1,12 +1,8 @@
 -- The invariant: the claims of the productions gone through are laid.
-use mathlib.Core.Path.{◌≡◌, refl, sym}
+use mathlib.Core.Path.{◌≡◌}
 use Prim.Native.Nat.{◌-◌, ◌≤◌}
-use native.Mathlib.Nat.{le_antisymm}
-use native.Mathlib.Omega.{arith}
 use lib.ListN.{length}
-use borrow.Author.Rules.{rules}
-use Rattle.table.specs.Claims.{left_of, book_claims, Laid, Ledger}
-use Rattle.table.proofs.Rows.{laid_none}
+use Rattle.table.specs.Claims.{book_claims, Laid, Ledger}
 use Rattle.table.proofs.claims.claim_all.Given as goal
 
 abbrev pub invariant-loop-p : goal.invariant-loop-p

@@ -1,13 +1,12 @@
 use mathlib.Core.Path.{◌≡◌, refl}
-use Prim.Native.Nat.{ℕ, ◌+◌, ◌*◌, ◌-◌, ◌≤◌, ◌<◌}
+use Prim.Native.Nat.{ℕ, ◌+◌, ◌*◌, ◌<◌}
 use native.Mathlib.Omega.{arith}
 use lib.Arith.{digits_lt}
 use lib.ListN.{length}
 use borrow.Author.Tests.{lt-ltb, le-ltb}
 use borrow.Author.Rules.{rules}
-use Rattle.sets.specs.Calls.{number}
 use Rattle.table.proofs.Answering.{cells_fit}
-use Rattle.table.proofs.Rows.{RowSoFar, row_begun, row_next, row_over}
+use Rattle.table.proofs.Rows.{row_begun, row_next, row_over}
 use Rattle.table.proofs.claims.claim_row.Goals as goal
 use Rattle.table.proofs.claims.claim_row.Goals.{At-loop-column}
 
@@ -30,12 +29,11 @@ pub claim-contest-requires : goal.claim-contest-requires
 claim-contest-requires c = in_row (goal.at.claim-contest-requires c).At-loop-column _ (omega (arith, c.loop-column-test.true))
 
 pub loop-column-preserved : goal.loop-column-preserved
-loop-column-preserved c =
-    (
-      search rules,
-      omega (arith, c.claim-contest.auto.table, c.loop-column.invariant.1),
-      row_next c.loop-column.invariant.2 (omega (arith, c.loop-column-test.true)) (in_row (goal.at.loop-column-preserved c).At-loop-column _ (omega (arith, c.loop-column-test.true))) c.requires.1 c.claim-contest.ensures (rw (lt-ltb _ _ c.loop-column-test.true)),
-    )
+loop-column-preserved c = (
+  search rules,
+  omega (arith, c.claim-contest.auto.table, c.loop-column.invariant.1),
+  row_next c.loop-column.invariant.2 (omega (arith, c.loop-column-test.true)) (in_row (goal.at.loop-column-preserved c).At-loop-column _ (omega (arith, c.loop-column-test.true))) c.requires.1 c.claim-contest.ensures (rw (lt-ltb _ _ c.loop-column-test.true)),
+)
 
 pub overflow_add-from-2 : goal.overflow_add-from-2
 overflow_add-from-2 c = omega (arith, in_row (goal.at.overflow_add-from-2 c).At-loop-column c.args.tokens (omega arith))

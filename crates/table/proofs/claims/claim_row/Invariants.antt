@@ -1,14 +1,9 @@
 -- The invariant: the claims on the columns gone through are laid.
-use mathlib.Core.Path.{◌≡◌, refl}
-use Prim.Native.Nat.{ℕ, ◌+◌, ◌*◌, ◌-◌, ◌≤◌, ◌<◌}
-use native.Mathlib.Omega.{arith}
-use lib.Arith.{digits_lt}
+use mathlib.Core.Path.{◌≡◌}
+use Prim.Native.Nat.{◌-◌, ◌≤◌}
 use lib.ListN.{length}
-use borrow.Author.Tests.{lt-ltb, le-ltb}
-use borrow.Author.Rules.{rules}
 use Rattle.sets.specs.Calls.{number}
-use Rattle.table.proofs.Answering.{cells_fit}
-use Rattle.table.proofs.Rows.{RowSoFar, row_begun, row_next, row_over}
+use Rattle.table.proofs.Rows.{RowSoFar}
 use Rattle.table.proofs.claims.claim_row.Given as goal
 
 abbrev pub invariant-loop-column : goal.invariant-loop-column

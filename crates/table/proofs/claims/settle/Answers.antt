@@ -1,5 +1,4 @@
 -- The answer is that of the case.
-use borrow.Author.Rules.{rules}
 use Rattle.table.specs.Claims.{contested, uncontested}
 use Rattle.table.proofs.claims.settle.Goals as goal
 

@@ -1,5 +1,4 @@
 -- What is written are the cells on which all claims are laid.
-use borrow.Author.Rules.{rules}
 use Rattle.table.proofs.Ledgers.{tabulated_refused, tabulated_written}
 use Rattle.table.proofs.claims.tabulate.Goals as goal
 

@@ -1,7 +1,6 @@
 -- Past the end the cell is the default of `get_or`.
 use mathlib.Core.Path.{sym}
 use lib.ListN.{get_or-eq_default}
-use borrow.Author.Rules.{rules}
 use Rattle.table.proofs.Claimed.{get_d_inside}
 use Rattle.table.proofs.fitting.cell_at.Goals as goal
 

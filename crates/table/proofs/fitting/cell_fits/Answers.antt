@@ -1,6 +1,5 @@
 -- A cell that is filled fits if its production is of the cell's row.
 use native.Mathlib.Omega.{arith}
-use borrow.Author.Rules.{rules}
 use Rattle.table.proofs.TableFits.{vacant_fits, filled_fits, row_below}
 use Rattle.table.proofs.fitting.cell_fits.Goals as goal
 

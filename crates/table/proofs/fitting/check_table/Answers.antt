@@ -1,5 +1,4 @@
 -- One case of `TableFitting` for each answer.
-use borrow.Author.Rules.{rules}
 use Rattle.book.proofs.Promise.{outlined_sized}
 use Rattle.table.proofs.TableFits.{misfit_length, misfit_cell, fit_whole}
 use Rattle.table.proofs.fitting.check_table.Goals as goal

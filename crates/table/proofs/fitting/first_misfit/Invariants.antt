@@ -1,11 +1,6 @@
 -- The invariant: the cells passed fit.
 use Prim.Native.Nat.{ℕ, ◌-◌, ◌≤◌, ◌<◌}
-use native.Mathlib.Omega.{arith}
 use lib.ListN.{length}
-use borrow.Author.Count.{below_none, below_more}
-use borrow.Author.Rules.{rules}
-use borrow.Author.Tests.{not-true, not-false}
-use Rattle.sets.proofs.Promise.{decides_true, decides_false}
 use Rattle.book.specs.Columns.{outlined}
 use Rattle.table.specs.Fitting.{Fits}
 use Rattle.table.proofs.fitting.first_misfit.Given as goal
