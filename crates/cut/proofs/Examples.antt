@@ -12,7 +12,7 @@ use Rattle.pattern.specs.Pattern.{Pattern}
 use Rattle.states.specs.Machine.{rows_of}
 use Rattle.pieces.specs.declared.Ending.{Ending}
 use Rattle.pieces.specs.declared.Ending.TheVariants.{Whole, NoToken}
-use Rattle.pieces.specs.Cut.{space, numbers_of, NoTokenAt, Cut, end_of_line, space_dropped, no_token_lem, answer_of}
+use Rattle.pieces.specs.Cut.{space, numbers_of, NoTokenAt, Cut, end_of_line, space_dropped, no_token_starts, answer_of}
 use Rattle.pieces.specs.Laid.{FirstByte}
 use Rattle.cut.specs.Calls.{CutOutcome, cut}
 use Rattle.cut.proofs.Nothing.{nothing_accepted, nothing_found}
@@ -28,7 +28,7 @@ stops_at {room} (b ∷ line) zero place first =
     let here : b ≡ first.byte = some-injective b first.byte first.at in
     let at : place ≡ place + 0 = omega arith in
     subst (λ (i : ℕ). Cut (Pattern []) room place (b ∷ line) [] (NoToken i)) at
-    (no_token_lem (λ e. first.no_space (sym here ∙ e)) (nothing_matches (b ∷ line)))
+    (no_token_starts (λ e. first.no_space (sym here ∙ e)) (nothing_matches (b ∷ line)))
 stops_at {room} (b ∷ line) (suc start) place first =
     let dropped : b ≡ space = some-injective b space (first.spaces 0 (omega arith) (omega arith)) in
     let rest : FirstByte line 0 start =

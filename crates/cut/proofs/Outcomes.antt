@@ -18,7 +18,7 @@ use Rattle.patterns.specs.Calls.{RefusesPatterns, many_patterns, bad_pattern, ma
 use Rattle.patterns.proofs.Promise.{accepted_length}
 use Rattle.pieces.specs.declared.Ending.{Ending}
 use Rattle.pieces.specs.declared.Ending.TheVariants.{Whole, NoToken, NoRoom}
-use Rattle.pieces.specs.Cut.{Piece, piece, numbers_of, Cut, end_of_line, space_dropped, token_cut, no_token_lem, no_room, answer_of}
+use Rattle.pieces.specs.Cut.{Piece, piece, numbers_of, Cut, end_of_line, space_dropped, token_cut, no_token_starts, no_room, answer_of}
 use Rattle.pieces.specs.Laid.{LaidOut, StandsIn, end_before}
 use Rattle.pieces.proofs.Promise.{cut_keeps_all, cut_ends, cut_matches, room_lacking}
 use Rattle.cut.specs.Calls.{CutOutcome, refused, too_many, no_cells, cut}
@@ -85,7 +85,7 @@ number_below {rs} (token_cut {place = place} {k = k} no_space t c) zero p e =
     let number : k ≡ p.number = ap (λ (q : Piece). q.number) same in
     omega (arith, below_length rs k t.matches.at)
 number_below (token_cut no_space t c) (suc i) p e = number_below c i p e
-number_below (no_token_lem no_space none) i p e = absurd (none-ne-some p e)
+number_below (no_token_starts no_space none) i p e = absurd (none-ne-some p e)
 number_below (no_room no_space t) i p e = absurd (none-ne-some p e)
 
 numbers_at : (pieces : List Piece) (i : ℕ) {p : Piece} → get_elem? pieces i ≡ some p → get_elem? (numbers_of pieces) i ≡ some p.number

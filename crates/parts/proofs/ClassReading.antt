@@ -13,7 +13,7 @@ use Rattle.pattern.specs.Pattern.{Range, Class, one}
 use Rattle.pattern.specs.Marks.{open_class, close_class, backslash, dash, special_in_class, among}
 use Rattle.pattern.specs.Written.{range, any_number, at_least_once, at_most_once}
 use Rattle.pattern.specs.Kinds.{Kind, kind_in, kind_of}
-use Rattle.pattern.specs.Reader.{Begun, Pending, outside, in_class_lem, in_range, standing, behind-backslash, settled, elements, class_read, range_read, marked, moved, move, ended, refused, read_from, says}
+use Rattle.pattern.specs.Reader.{Begun, Pending, outside, in_class, in_range, standing, behind-backslash, settled, elements, class_read, range_read, marked, moved, move, ended, refused, read_from, says}
 use Rattle.pattern.proofs.Promise.{says_moves, says_stops, says_short, says_kind, says_no_kind, plain_kind}
 use Rattle.pattern.proofs.Promise.{KindIs, plain_is, dash_is, backslash_is, close_class_is, open_class_is, open_group_is, close_group_is, bar_is, sign_is, kind_is, impossible}
 use Rattle.parts.specs.Letters.{LetterIs, letter_plain, letter_escaped, letter_mark, letter_missing, letter_cut_off}
@@ -28,7 +28,7 @@ module _ (room : ℕ) (around : List Begun) (a : Begun) where
       → among b special_in_class ≡ true
       → b ≢ backslash
       → (b ≡ close_class → c ≡ [])
-      → moved room around a (in_class_lem c none) b k ≡ none
+      → moved room around a (in_class c none) b k ≡ none
   unfolding moved elements class_read
   mark_in_class (plain_is e) mark escape end = impossible (sym mark ∙ e)
   mark_in_class dash_is mark escape end = refl
@@ -60,7 +60,7 @@ module _ (room : ℕ) (around : List Begun) (a : Begun) where
   range_rises : (c : Class) {low byte : ℕ}
       → low ≤ byte
       → range_read room around a c low byte
-      ≡ some (standing room around a (in_class_lem (c ++ (range low byte ∷ [])) none))
+      ≡ some (standing room around a (in_class (c ++ (range low byte ∷ [])) none))
   unfolding range_read
   range_rises c {low} {byte} h = rw (le-leb low byte h, range_read)
 
@@ -83,59 +83,59 @@ module _ (text : List ℕ) (room : ℕ) (around : List Begun) (a : Begun) (at : 
 
   pub class_opens : get_or text at 0 ≡ open_class
       → says text (standing room around a (outside none)) at
-      ≡ says text (standing room around a (in_class_lem [] none)) (suc at)
+      ≡ says text (standing room around a (in_class [] none)) (suc at)
   unfolding moved marked settled kind_of kind_in
   class_opens here =
       says_kind text room around a (outside none) at (mark_inside text at here) (ap kind_of here) refl
 
   module _ (c : Class) where
     pub class_closes : (r : Range) → get_or text at 0 ≡ close_class
-        → says text (standing room around a (in_class_lem (r ∷ c) none)) at
+        → says text (standing room around a (in_class (r ∷ c) none)) at
         ≡ says text (standing room around a (outside (some (one (r ∷ c))))) (suc at)
     unfolding moved elements class_read kind_of kind_in
     class_closes r here =
-        says_kind text room around a (in_class_lem (r ∷ c) none) at (mark_inside text at here) (ap kind_of here) refl
+        says_kind text room around a (in_class (r ∷ c) none) at (mark_inside text at here) (ap kind_of here) refl
 
     pub class_letter_passes : {next byte : ℕ}
         → LetterIs text at special_in_class true next byte
-        → says text (standing room around a (in_class_lem c none)) at
-        ≡ says text (standing room around a (in_class_lem c (some byte))) next
+        → says text (standing room around a (in_class c none)) at
+        ≡ says text (standing room around a (in_class c (some byte))) next
     unfolding moved elements move
     class_letter_passes (letter_plain inside plain) =
-        says_kind text room around a (in_class_lem c none) at inside (plain_kind (get_or text at 0) plain) refl
+        says_kind text room around a (in_class c none) at inside (plain_kind (get_or text at 0) plain) refl
     class_letter_passes (letter_escaped here inside) =
-        escape_opens (in_class_lem c none) here
-        ∙ says_moves text (behind-backslash room around a (in_class_lem c none)) (suc at) inside refl
+        escape_opens (in_class c none) here
+        ∙ says_moves text (behind-backslash room around a (in_class c none)) (suc at) inside refl
 
     pub class_letter_stops : {next byte : ℕ}
         → MayGoOn text at c
         → LetterIs text at special_in_class false next byte
-        → says text (standing room around a (in_class_lem c none)) at ≡ refused next
+        → says text (standing room around a (in_class c none)) at ≡ refused next
     unfolding ended
     class_letter_stops goes (letter_mark inside mark escape) =
-        says_no_kind text room around a (in_class_lem c none) at inside refl
+        says_no_kind text room around a (in_class c none) at inside refl
         (mark_in_class room around a (kind_is (get_or text at 0)) mark escape (end goes))
       where
         end : MayGoOn text at c → get_or text at 0 ≡ close_class → c ≡ []
         end (no_element e) here = e
         end (no_end other) here = absurd (other here)
     class_letter_stops goes (letter_missing end) =
-        says_short text (standing room around a (in_class_lem c none)) at end refl
-    class_letter_stops goes (letter_cut_off here end) = escape_stops (in_class_lem c none) here end
+        says_short text (standing room around a (in_class c none)) at end refl
+    class_letter_stops goes (letter_cut_off here end) = escape_stops (in_class c none) here end
 
     module _ (low : ℕ) where
       pub dash_passes : get_or text at 0 ≡ dash
-          → says text (standing room around a (in_class_lem c (some low))) at
+          → says text (standing room around a (in_class c (some low))) at
           ≡ says text (standing room around a (in_range c low)) (suc at)
       unfolding moved kind_of kind_in
       dash_passes here =
-          says_kind text room around a (in_class_lem c (some low)) at (mark_inside text at here) (ap kind_of here) refl
+          says_kind text room around a (in_class c (some low)) at (mark_inside text at here) (ap kind_of here) refl
 
       pub range_passes : {next byte : ℕ}
           → low ≤ byte
           → LetterIs text at special_in_class true next byte
           → says text (standing room around a (in_range c low)) at
-          ≡ says text (standing room around a (in_class_lem (c ++ (range low byte ∷ [])) none)) next
+          ≡ says text (standing room around a (in_class (c ++ (range low byte ∷ [])) none)) next
       unfolding moved move
       range_passes rises (letter_plain inside plain) =
           says_kind text room around a (in_range c low) at inside (plain_kind (get_or text at 0) plain)
@@ -172,10 +172,10 @@ module _ (text : List ℕ) (room : ℕ) (around : List Begun) (a : Begun) (at : 
 -- where no dash follows, the last byte of a class is an element by itself
 module _ (room : ℕ) (around : List Begun) (a : Begun) (c : Class) (low : ℕ) where
   abbrev settled_then : Pending
-  settled_then = in_class_lem (c ++ (range low low ∷ [])) none
+  settled_then = in_class (c ++ (range low low ∷ [])) none
 
   escape_settles : (at : ℕ) (v : List ℕ)
-      → read_from (behind-backslash room around a (in_class_lem c (some low))) at v
+      → read_from (behind-backslash room around a (in_class c (some low))) at v
       ≡ read_from (behind-backslash room around a settled_then) at v
   unfolding read_from ended move moved elements
   escape_settles at [] = refl
@@ -185,7 +185,7 @@ module _ (room : ℕ) (around : List Begun) (a : Begun) (c : Class) (low : ℕ) 
       → KindIs b k
       → kind_of b ≡ k
       → b ≢ dash
-      → read_from (standing room around a (in_class_lem c (some low))) at (b ∷ v)
+      → read_from (standing room around a (in_class c (some low))) at (b ∷ v)
       ≡ read_from (standing room around a settled_then) at (b ∷ v)
   unfolding read_from move moved elements kind_of kind_in
   kind_settles at v (plain_is h) e other = rw (e, read_from, move, moved)
@@ -201,12 +201,12 @@ module _ (room : ℕ) (around : List Begun) (a : Begun) (c : Class) (low : ℕ) 
   kind_settles at v (sign_is at_most_once) e other = refl
 
   settles : (at : ℕ) (v : List ℕ) → get_or v 0 0 ≢ dash
-      → read_from (standing room around a (in_class_lem c (some low))) at v ≡ read_from (standing room around a settled_then) at v
+      → read_from (standing room around a (in_class c (some low))) at v ≡ read_from (standing room around a settled_then) at v
   unfolding read_from ended
   settles at [] other = refl
   settles at (b ∷ v) other = kind_settles at v (kind_is b) refl other
 
   pub class_settles : (text : List ℕ) (at : ℕ) → get_or text at 0 ≢ dash
-      → says text (standing room around a (in_class_lem c (some low))) at ≡ says text (standing room around a settled_then) at
+      → says text (standing room around a (in_class c (some low))) at ≡ says text (standing room around a settled_then) at
   unfolding says
   class_settles text at other = settles at (drop at text) (rw (get_or-drop, add-zero) other)

@@ -9,7 +9,7 @@ use native.Mathlib.Omega.{arith}
 use lib.ListN.{length, get_or}
 use Rattle.pattern.specs.Pattern.{Class}
 use Rattle.pattern.specs.Marks.{dash, special_in_class}
-use Rattle.pattern.specs.Reader.{Begun, in_class_lem, in_range, standing, says}
+use Rattle.pattern.specs.Reader.{Begun, in_class, in_range, standing, says}
 use Rattle.parts.specs.Letters.{LetterIs, letter_plain, letter_escaped, letter_mark, letter_missing, letter_cut_off}
 use Rattle.parts.specs.Classes.{one_if, SpanRead, no_span}
 use Rattle.parts.proofs.Marks.{mark_inside}
@@ -61,7 +61,7 @@ module _ (text : List ℕ) (at : ℕ) {good : Bool} {next low : ℕ}
       within = omega (arith, letter_moves l, letter_moves h, mark_inside text next here)
 
       to_the_dash : (room : ℕ) (around : List Begun) (a : Begun) (c : Class)
-          → says text (standing room around a (in_class_lem c none)) at
+          → says text (standing room around a (in_class c none)) at
           ≡ says text (standing room around a (in_range c low)) (suc next)
       to_the_dash room around a c =
           class_letter_passes text room around a at c (was is) ∙ dash_passes text room around a next c low here

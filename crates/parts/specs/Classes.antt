@@ -7,7 +7,7 @@ use Rattle.answers.specs.Limits.{most_positions, position_words}
 use Rattle.pattern.specs.Pattern.{Range, Class, InClass, one}
 use Rattle.pattern.specs.Marks.{close_class}
 use Rattle.pattern.specs.Written.{range}
-use Rattle.pattern.specs.Reader.{Begun, Pending, outside, in_class_lem, standing, refused, says}
+use Rattle.pattern.specs.Reader.{Begun, Pending, outside, in_class, standing, refused, says}
 use Rattle.parts.specs.declared.classes.Span.{Span}
 use Rattle.parts.specs.declared.classes.Place.{Place}
 use Rattle.parts.specs.Rows.{Rows}
@@ -28,12 +28,12 @@ pub record SpanRead (text : List ℕ) (at : ℕ) (r : Span) : Type 0 where
   pub inside : r.at ≤ max at (length text)
   pub passed : r.good ≡ true
       → (room : ℕ) (around : List Begun) (a : Begun) (c : Class)
-      → says text (standing room around a (in_class_lem c none)) at
-      ≡ says text (standing room around a (in_class_lem (c ++ (range r.low r.high ∷ [])) none)) r.at
+      → says text (standing room around a (in_class c none)) at
+      ≡ says text (standing room around a (in_class (c ++ (range r.low r.high ∷ [])) none)) r.at
   pub stopped : r.good ≡ false
       → (room : ℕ) (around : List Begun) (a : Begun) (c : Class)
       → MayGoOn text at c
-      → says text (standing room around a (in_class_lem c none)) at ≡ refused r.at
+      → says text (standing room around a (in_class c none)) at ≡ refused r.at
 
 -- no element, refused at a place
 abbrev pub no_span : ℕ → Span
@@ -48,8 +48,8 @@ Spread low high position readers after =
 pub record ElementMeant (text : List ℕ) (at position : ℕ) (readers : List ℕ) (next : ℕ) (after : List ℕ) : Type 0 where
   pub element : Range
   pub passed : (room : ℕ) (around : List Begun) (a : Begun) (c : Class)
-      → says text (standing room around a (in_class_lem c none)) at
-      ≡ says text (standing room around a (in_class_lem (c ++ (element ∷ [])) none)) next
+      → says text (standing room around a (in_class c none)) at
+      ≡ says text (standing room around a (in_class (c ++ (element ∷ [])) none)) next
   pub reads : Spread element.low element.high position readers after
 
 pub record ElementRead (text : List ℕ) (at position : ℕ) (readers : List ℕ) (r : Place) (after : List ℕ) : Type 0 where
@@ -59,7 +59,7 @@ pub record ElementRead (text : List ℕ) (at position : ℕ) (readers : List ℕ
   pub stopped : r.good ≡ false
       → (room : ℕ) (around : List Begun) (a : Begun) (c : Class)
       → MayGoOn text at c
-      → says text (standing room around a (in_class_lem c none)) at ≡ refused r.at
+      → says text (standing room around a (in_class c none)) at ≡ refused r.at
 
 -- a class, or its elements so far: at least one, after which `to` is pending
 pub record ClassMeant (text : List ℕ) (at : ℕ) (to : Class → Pending) (position : ℕ) (readers : List ℕ)
@@ -67,7 +67,7 @@ pub record ClassMeant (text : List ℕ) (at : ℕ) (to : Class → Pending) (pos
   pub head : Range
   pub tail : Class
   pub passed : (room : ℕ) (around : List Begun) (a : Begun)
-      → says text (standing room around a (in_class_lem [] none)) at
+      → says text (standing room around a (in_class [] none)) at
       ≡ says text (standing room around a (to (head ∷ tail))) next
   pub reads : position < most_positions
       → Rows position_words readers after (λ b p. InClass (head ∷ tail) b × (p ≡ position))
@@ -79,7 +79,7 @@ pub record ClassRead (text : List ℕ) (at : ℕ) (to : Class → Pending) (posi
   pub meant : r.good ≡ true → ClassMeant text at to position readers r.at after
   pub stopped : r.good ≡ false
       → (room : ℕ) (around : List Begun) (a : Begun)
-      → says text (standing room around a (in_class_lem [] none)) at ≡ refused r.at
+      → says text (standing room around a (in_class [] none)) at ≡ refused r.at
 
 -- an element was read and the class does not end behind it
 pub record ElementFollows (text : List ℕ) (good : Bool) (at : ℕ) : Type 0 where
@@ -88,7 +88,7 @@ pub record ElementFollows (text : List ℕ) (good : Bool) (at : ℕ) : Type 0 wh
 
 -- what is pending behind elements, and behind the end of a class
 abbrev pub elements_pending : Class → Pending
-elements_pending c = in_class_lem c none
+elements_pending c = in_class c none
 
 abbrev pub class_pending : Class → Pending
 class_pending c = outside (some (one c))

@@ -10,7 +10,7 @@ use Rattle.pattern.specs.Pattern.{Range, Class, Expression, one, cat, alt}
 use Rattle.pattern.specs.Marks.{most_open_groups, open_group, close_group, open_class, close_class, bar, backslash, dash, special, special_in_class}
 use Rattle.pattern.specs.Written.{Byte, plain, escaped, range, Element, single, from_to, Elements, only, more, Sign, Sort, alternation, sequence, repetition, item, Written, alternative, or_else, alone, followed, unsigned, signed, one_byte, class, group, IsPattern}
 use Rattle.pattern.specs.Kinds.{is_plain, kind_of, kind_in}
-use Rattle.pattern.specs.Reader.{Begun, Pending, outside, in_class_lem, in_range, standing, behind-backslash, nothing_begun, start, joined, with_item, settled, alternation_of, elements, byte_read, class_read, range_read, opened, closed, divided, marked, moved, move, ended, after, means, read_from, says, read_pattern}
+use Rattle.pattern.specs.Reader.{Begun, Pending, outside, in_class, in_range, standing, behind-backslash, nothing_begun, start, joined, with_item, settled, alternation_of, elements, byte_read, class_read, range_read, opened, closed, divided, marked, moved, move, ended, after, means, read_from, says, read_pattern}
 use Rattle.pattern.proofs.ByteKinds.{plain_kind, sign_kind}
 use Rattle.pattern.proofs.Steps.{move_plain, after_move, after_append, after_one, read_after, read_end}
 
@@ -41,12 +41,12 @@ module _ (room : ℕ) (around : List Begun) (a : Begun) where
   record InClassAfter (c : Class) (last : Option ℕ) (s : List ℕ) (all : Class) : Type 0 where
     pub read_elements : Class
     pub last_byte : Option ℕ
-    pub read : after (standing room around a (in_class_lem c last)) s ≡ some (standing room around a (in_class_lem read_elements last_byte))
+    pub read : after (standing room around a (in_class c last)) s ≡ some (standing room around a (in_class read_elements last_byte))
     pub holds : elements read_elements last_byte ≡ all
 
   range_after : (c : Class) {low high : ℕ}
       → low ≤ high
-      → range_read room around a c low high ≡ some (standing room around a (in_class_lem (c ++ (range low high ∷ [])) none))
+      → range_read room around a c low high ≡ some (standing room around a (in_class (c ++ (range low high ∷ [])) none))
   unfolding range_read
   range_after c {low} {high} h = rw (le-leb low high (omega arith), range_read)
 
@@ -54,14 +54,14 @@ module _ (room : ℕ) (around : List Begun) (a : Begun) where
       → Element s r
       → InClassAfter c last s (elements c last ++ (r ∷ []))
   unfolding elements move moved kind_of kind_in
-  element_after c last (single {b = b} e) = record { read_elements = elements c last; last_byte = some b; read = byte_after (in_class_lem c last) e; holds = refl }
+  element_after c last (single {b = b} e) = record { read_elements = elements c last; last_byte = some b; read = byte_after (in_class c last) e; holds = refl }
   element_after c last (from_to {s = s} {t = t} {low = low} {high = high} e f h) =
       record {
         read_elements = elements c last ++ (range low high ∷ []);
         last_byte = none;
         read =
-            after_append s (dash ∷ t) (standing room around a (in_class_lem c last)) (byte_after (in_class_lem c last) e)
-            ∙ (after_move (standing room around a (in_class_lem (elements c last) (some low))) dash t refl
+            after_append s (dash ∷ t) (standing room around a (in_class c last)) (byte_after (in_class c last) e)
+            ∙ (after_move (standing room around a (in_class (elements c last) (some low))) dash t refl
             ∙ (byte_after (in_range (elements c last) low) f
             ∙ range_after (elements c last) {low = low} {high = high} (omega arith)));
         holds = refl;
@@ -77,7 +77,7 @@ module _ (room : ℕ) (around : List Begun) (a : Begun) where
       record {
         read_elements = all.read_elements;
         last_byte = all.last_byte;
-        read = after_append s t (standing room around a (in_class_lem c last)) one_more.read ∙ all.read;
+        read = after_append s t (standing room around a (in_class c last)) one_more.read ∙ all.read;
         holds = all.holds ∙ (ap (λ (d : Class). d ++ cs) one_more.holds ∙ append_assoc (elements c last) (r ∷ []) cs);
       }
 
@@ -90,12 +90,12 @@ module _ (room : ℕ) (around : List Begun) (a : Begun) where
 
   class_after : {s : List ℕ} {c : Class}
       → Elements s c
-      → after (standing room around a (in_class_lem [] none)) (s ++ (close_class ∷ [])) ≡ some (standing room around a (outside (some (one c))))
+      → after (standing room around a (in_class [] none)) (s ++ (close_class ∷ [])) ≡ some (standing room around a (outside (some (one c))))
   unfolding elements move moved kind_of kind_in
   class_after {s} {c} es =
       let all : InClassAfter [] none s c = elements_after [] none es in
-      after_append s (close_class ∷ []) (standing room around a (in_class_lem [] none)) all.read
-      ∙ (after_one (standing room around a (in_class_lem all.read_elements all.last_byte)) close_class
+      after_append s (close_class ∷ []) (standing room around a (in_class [] none)) all.read
+      ∙ (after_one (standing room around a (in_class all.read_elements all.last_byte)) close_class
       ∙ (ap (class_read room around a) all.holds ∙ class_read_lem es))
 
 -- from the last item on it comes to where this is begun, with its last item

@@ -10,14 +10,14 @@ use Rattle.pattern.specs.Pattern.{Range, Class, Expression, one}
 use Rattle.pattern.specs.Marks.{close_group, close_class, backslash}
 use Rattle.pattern.specs.Written.{range}
 use Rattle.pattern.specs.Kinds.{kind_in, kind_of}
-use Rattle.pattern.specs.Reader.{Begun, Pending, outside, in_class_lem, in_range, Standing, standing, behind-backslash, with_item, settled, alternation_of, elements, closed, marked, byte_read, class_read, range_read, moved, move, ended, means, read_from}
+use Rattle.pattern.specs.Reader.{Begun, Pending, outside, in_class, in_range, Standing, standing, behind-backslash, with_item, settled, alternation_of, elements, closed, marked, byte_read, class_read, range_read, moved, move, ended, means, read_from}
 use Rattle.pattern.specs.Text.{Bytes, no_byte, and_byte}
 use Rattle.pattern.proofs.Steps.{read_move, read_end}
 
 -- the lower end of a range begun is a byte
 abbrev pub LowerEnd : Pending → Type 0
 LowerEnd (outside last) = Unit {0}
-LowerEnd (in_class_lem c last) = Unit {0}
+LowerEnd (in_class c last) = Unit {0}
 LowerEnd (in_range c low) = low < 256
 
 abbrev pub LowerByte : Standing → Type 0
@@ -61,7 +61,7 @@ module _ (d : ℕ) (around : List Begun) (a : Begun) where
   class_closes [] r = refl
   class_closes (k ∷ c) r = refl
 
-  class_completed : (c : Class) (last : Option ℕ) → Completed (standing d around a (in_class_lem c last))
+  class_completed : (c : Class) (last : Option ℕ) → Completed (standing d around a (in_class c last))
   unfolding letter move moved elements kind_of kind_in
   class_completed c last =
       completed_move letter refl (λ h. (omega arith, tt))
@@ -70,14 +70,14 @@ module _ (d : ℕ) (around : List Begun) (a : Begun) where
   range_completed : (c : Class) (low : ℕ) → Completed (behind-backslash d around a (in_range c low))
   unfolding move moved range_read
   range_completed c low =
-      completed_move low {t = standing d around a (in_class_lem (c ++ (range low low ∷ [])) none)}
+      completed_move low {t = standing d around a (in_class (c ++ (range low low ∷ [])) none)}
       (rw (le-leb low low (omega arith), range_read)) (λ h. (h, tt)) (class_completed (c ++ (range low low ∷ [])) none)
 
 pub completed : (s : Standing) → Completed s
 unfolding letter move moved byte_read kind_of kind_in
 completed (standing d around a (outside last)) = completed_move letter refl (λ h. (omega arith, tt)) (item_completed d around (settled a last) _)
-completed (standing d around a (in_class_lem c last)) = class_completed d around a c last
+completed (standing d around a (in_class c last)) = class_completed d around a c last
 completed (standing d around a (in_range c low)) = completed_move backslash refl (λ h. (omega arith, h)) (range_completed d around a c low)
 completed (behind-backslash d around a (outside last)) = completed_move letter refl (λ h. (omega arith, tt)) (item_completed d around (settled a last) _)
-completed (behind-backslash d around a (in_class_lem c last)) = completed_move letter refl (λ h. (omega arith, tt)) (class_completed d around a _ _)
+completed (behind-backslash d around a (in_class c last)) = completed_move letter refl (λ h. (omega arith, tt)) (class_completed d around a _ _)
 completed (behind-backslash d around a (in_range c low)) = range_completed d around a c low

@@ -12,7 +12,7 @@ use Rattle.pattern.specs.Pattern.{Class, Expression}
 use Rattle.pattern.specs.Marks.{open_group, close_group, open_class, close_class, bar, backslash, dash, special, special_in_class, among}
 use Rattle.pattern.specs.Written.{Byte, plain, escaped, from_to, Sign, signed, one_byte, class, group, IsPattern}
 use Rattle.pattern.specs.Kinds.{Kind, is_plain, is-dash, closes-class, marks, Mark, repeats}
-use Rattle.pattern.specs.Reader.{Begun, Pending, outside, in_class_lem, in_range, Standing, standing, start, settled, alternation_of, elements, opened, closed, divided, marked, byte_read, class_read, range_read, moved, move, ended, after, means, read_from, says, read_pattern}
+use Rattle.pattern.specs.Reader.{Begun, Pending, outside, in_class, in_range, Standing, standing, start, settled, alternation_of, elements, opened, closed, divided, marked, byte_read, class_read, range_read, moved, move, ended, after, means, read_from, says, read_pattern}
 use Rattle.pattern.proofs.ByteKinds.{KindIs, plain_is, dash_is, backslash_is, close_class_is, open_class_is, open_group_is, close_group_is, bar_is, sign_is, kind_is, byte_outside}
 use Rattle.pattern.proofs.Steps.{after_move, after_stop, read_end, read_short, Passed, means_passed}
 use Rattle.pattern.proofs.Spelled.{no_item, behind_bar, BegunBy, ElementsBy, no_element, some_elements, PendingBy, nothing_pending, item_pending, class_pending_lem, byte_pending, range_pending, Around, outermost, inner, Spells, spells, spells_backslash, nothing_begun_lem, begun_with, begun_settled, begun_alternation, elements_snoc, ClassBy, class_begun, class_by, ended_pattern}
@@ -52,7 +52,7 @@ module _ {d : ℕ} {around : List Begun} {a : Begun} {s t : List ℕ} (r : Aroun
   class_byte_spells : {c : Class} {last : Option ℕ} {u w : List ℕ} {b : ℕ}
       → ClassBy c last u
       → Byte special_in_class w b
-      → Spells (standing d around a (in_class_lem (elements c last) (some b))) ((s ++ (t ++ u)) ++ w)
+      → Spells (standing d around a (in_class (elements c last) (some b))) ((s ++ (t ++ u)) ++ w)
   class_byte_spells (class_begun es) e = respell (spells r g (byte_pending es e)) (simp append_assoc)
 
   plain_spells : {p : Pending} {u w : List ℕ} {b : ℕ}
@@ -61,7 +61,7 @@ module _ {d : ℕ} {around : List Begun} {a : Begun} {s t : List ℕ} (r : Aroun
       → MaySpell (moved d around a p b is_plain) ((s ++ (t ++ u)) ++ w)
   unfolding MaySpell moved
   plain_spells {p = outside last} p e = byte_spells p (byte_outside e)
-  plain_spells {p = in_class_lem c last} p e = class_byte_spells (class_by p) e
+  plain_spells {p = in_class c last} p e = class_byte_spells (class_by p) e
   plain_spells {p = in_range c low} (range_pending es f) e = range_spells es f e
 
   class_spells : {c : Class} {last : Option ℕ} {u : List ℕ}
@@ -106,7 +106,7 @@ closed_spells {x = some x} (inner r h) g e = respell (spells r h (item_pending (
 module _ {d : ℕ} {around : List Begun} {a : Begun} {s t : List ℕ} (r : Around d around s) (g : BegunBy d a t) where
   open_class_spells : {last : Option Expression} {u : List ℕ}
       → PendingBy d (outside last) u
-      → Spells (standing d around (settled a last) (in_class_lem [] none)) ((s ++ (t ++ u)) ++ (open_class ∷ []))
+      → Spells (standing d around (settled a last) (in_class [] none)) ((s ++ (t ++ u)) ++ (open_class ∷ []))
   open_class_spells p = respell (spells r (begun_settled g p) (class_pending_lem no_element)) (simp append_assoc)
 
   sign_spells : {last : Option Expression} {u : List ℕ} {b : ℕ} {f : Expression → Expression}
@@ -144,7 +144,7 @@ module _ {d : ℕ} {around : List Begun} {a : Begun} {s t : List ℕ} (r : Aroun
       → MaySpell (moved d around a p b (marks m)) ((s ++ (t ++ u)) ++ (b ∷ []))
   unfolding MaySpell moved
   mark_spells {p = outside last} p k = outside_spells p k
-  mark_spells {p = in_class_lem c last} p k = tt
+  mark_spells {p = in_class c last} p k = tt
   mark_spells {p = in_range c low} p k = tt
 
   close_class_spells : {p : Pending} {u : List ℕ}
@@ -152,7 +152,7 @@ module _ {d : ℕ} {around : List Begun} {a : Begun} {s t : List ℕ} (r : Aroun
       → MaySpell (moved d around a p close_class closes-class) ((s ++ (t ++ u)) ++ (close_class ∷ []))
   unfolding MaySpell moved
   close_class_spells {p = outside last} p = tt
-  close_class_spells {p = in_class_lem c last} p = class_spells r g (class_by p)
+  close_class_spells {p = in_class c last} p = class_spells r g (class_by p)
   close_class_spells {p = in_range c low} p = tt
 
   moved_spells : {p : Pending} {u : List ℕ} {b : ℕ} {k : Kind}

@@ -7,7 +7,7 @@ use native.Mathlib.Omega.{arith}
 use Rattle.pattern.specs.Pattern.{Range, Class, Expression, cat, alt}
 use Rattle.pattern.specs.Marks.{most_open_groups, open_group, open_class, bar, backslash, dash, special_in_class}
 use Rattle.pattern.specs.Written.{Byte, Element, single, Elements, only, more, alternation, sequence, repetition, item, Written, alternative, or_else, alone, followed, unsigned, IsPattern}
-use Rattle.pattern.specs.Reader.{Begun, Pending, outside, in_class_lem, in_range, Standing, standing, behind-backslash, nothing_begun, joined, with_item, settled, alternation_of, elements, ended}
+use Rattle.pattern.specs.Reader.{Begun, Pending, outside, in_class, in_range, Standing, standing, behind-backslash, nothing_begun, joined, with_item, settled, alternation_of, elements, ended}
 
 -- alternatives, each with its bar behind it
 pub data Divided (d : ℕ) : Option Expression → List ℕ → Type 0 where
@@ -32,11 +32,11 @@ pub data ElementsBy : Class → List ℕ → Type 0 where
 pub data PendingBy (d : ℕ) : Pending → List ℕ → Type 0 where
   nothing_pending : PendingBy d (outside none) []
   item_pending : {s : List ℕ} {x : Expression} → Written item d s x → PendingBy d (outside (some x)) s
-  class_pending_lem : {s : List ℕ} {c : Class} → ElementsBy c s → PendingBy d (in_class_lem c none) (open_class ∷ s)
+  class_pending_lem : {s : List ℕ} {c : Class} → ElementsBy c s → PendingBy d (in_class c none) (open_class ∷ s)
   byte_pending : {s t : List ℕ} {c : Class} {b : ℕ}
       → ElementsBy c s
       → Byte special_in_class t b
-      → PendingBy d (in_class_lem c (some b)) (open_class ∷ (s ++ t))
+      → PendingBy d (in_class c (some b)) (open_class ∷ (s ++ t))
   range_pending : {s t : List ℕ} {c : Class} {b : ℕ}
       → ElementsBy c s
       → Byte special_in_class t b
@@ -131,7 +131,7 @@ elements_snoc (some_elements es) e = go es e
 pub data ClassBy (c : Class) (last : Option ℕ) : List ℕ → Type 0 where
   class_begun : {s : List ℕ} → ElementsBy (elements c last) s → ClassBy c last (open_class ∷ s)
 
-pub class_by : {d : ℕ} {c : Class} {last : Option ℕ} {s : List ℕ} → PendingBy d (in_class_lem c last) s → ClassBy c last s
+pub class_by : {d : ℕ} {c : Class} {last : Option ℕ} {s : List ℕ} → PendingBy d (in_class c last) s → ClassBy c last s
 unfolding elements
 class_by (class_pending_lem es) = class_begun es
 class_by (byte_pending es e) = class_begun (some_elements (elements_snoc es (single e)))
@@ -141,6 +141,6 @@ pub ended_pattern : {s : Standing} {u : List ℕ} {x : Expression} → Spells s 
 unfolding ended
 ended_pattern (spells {around = []} {p = outside last} outermost g p) e = begun_alternation (begun_settled g p) e
 ended_pattern (spells {around = f ∷ fs} {p = outside last} r g p) e = no_meaning e
-ended_pattern (spells {p = in_class_lem c last} r g p) e = no_meaning e
+ended_pattern (spells {p = in_class c last} r g p) e = no_meaning e
 ended_pattern (spells {p = in_range c low} r g p) e = no_meaning e
 ended_pattern (spells_backslash p) e = no_meaning e

@@ -17,7 +17,7 @@ pub record Begun : Type 0 where
 -- so far and the last byte, if a dash may still follow it; in a range the elements before it and its lower end
 pub data Pending : Type 0 where
   outside : Option Expression → Pending
-  in_class_lem : Class → Option ℕ → Pending
+  in_class : Class → Option ℕ → Pending
   in_range : Class → ℕ → Pending
 
 -- where the reader stands, perhaps behind a backslash: how many groups may still open; what was begun before each open
@@ -72,7 +72,7 @@ module _ (room : ℕ) (around : List Begun) (a : Begun) where
   unfoldable pub marked : Option Expression → Mark → Option Standing
   marked last opens-group = opened room around (settled a last)
   marked last closes-group = closed room around (alternation_of (settled a last))
-  marked last opens-class = some (standing room around (settled a last) (in_class_lem [] none))
+  marked last opens-class = some (standing room around (settled a last) (in_class [] none))
   marked last divides = divided room around (alternation_of (settled a last))
   marked none (repeats f) = none
   marked (some x) (repeats f) = some (standing room around (with_item a (f x)) (outside none))
@@ -88,7 +88,7 @@ module _ (room : ℕ) (around : List Begun) (a : Begun) where
   unfoldable pub range_read : Class → ℕ → ℕ → Option Standing
   range_read c low high =
       elim (leb low high)
-      [ true ↦ some (standing room around a (in_class_lem (c ++ (range low high ∷ [])) none)) | false ↦ none ]
+      [ true ↦ some (standing room around a (in_class (c ++ (range low high ∷ [])) none)) | false ↦ none ]
 
   unfoldable pub moved : Pending → ℕ → Kind → Option Standing
   moved p b is-backslash = some (behind-backslash room around a p)
@@ -96,11 +96,11 @@ module _ (room : ℕ) (around : List Begun) (a : Begun) where
   moved (outside last) b is-dash = byte_read last b
   moved (outside last) b closes-class = none
   moved (outside last) b (marks m) = marked last m
-  moved (in_class_lem c last) b is_plain = some (standing room around a (in_class_lem (elements c last) (some b)))
-  moved (in_class_lem c none) b is-dash = none
-  moved (in_class_lem c (some low)) b is-dash = some (standing room around a (in_range c low))
-  moved (in_class_lem c last) b closes-class = class_read (elements c last)
-  moved (in_class_lem c last) b (marks m) = none
+  moved (in_class c last) b is_plain = some (standing room around a (in_class (elements c last) (some b)))
+  moved (in_class c none) b is-dash = none
+  moved (in_class c (some low)) b is-dash = some (standing room around a (in_range c low))
+  moved (in_class c last) b closes-class = class_read (elements c last)
+  moved (in_class c last) b (marks m) = none
   moved (in_range c low) b is_plain = range_read c low b
   moved (in_range c low) b is-dash = none
   moved (in_range c low) b closes-class = none
@@ -114,7 +114,7 @@ move (behind-backslash room around a p) b = moved room around a p b is_plain
 unfoldable pub ended : Standing → Option Expression
 ended (standing room [] a (outside last)) = alternation_of (settled a last)
 ended (standing room (f ∷ around) a (outside last)) = none
-ended (standing room around a (in_class_lem c last)) = none
+ended (standing room around a (in_class c last)) = none
 ended (standing room around a (in_range c low)) = none
 ended (behind-backslash room around a p) = none
 

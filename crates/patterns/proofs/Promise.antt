@@ -134,7 +134,7 @@ module _ {patterns lengths : List ℕ} where
     read_done (no_room lack) e = absurd (omega arith)
     read_done (tables-refused fit r) e = absurd (not_served r e)
     read_done (tables-served {rs = rs} fit accept k l tables) e =
-        record { meanings = rs; accepted = accept; readers_length_lem = k; follow_length_lem = l; tables = tables }
+        record { meanings = rs; accepted = accept; readers_sized = k; follow_sized = l; tables = tables }
 
     pub read_no_room : {a : Answer} {xs ys : List ℕ}
         → ReadOutcome patterns lengths readers follow a xs ys

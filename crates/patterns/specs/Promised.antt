@@ -32,8 +32,8 @@ module _ (patterns lengths : List ℕ) where
   pub record ReadServed (readers follow xs ys : List ℕ) : Type 0 where
     pub meanings : List Expression
     pub accepted : Accepted patterns lengths meanings
-    pub readers_length_lem : length xs ≡ length readers
-    pub follow_length_lem : length ys ≡ length follow
+    pub readers_sized : length xs ≡ length readers
+    pub follow_sized : length ys ≡ length follow
     pub tables : TablesOf meanings xs ys
 
   -- refused for what the patterns are, with every word 0

@@ -13,7 +13,7 @@ use Rattle.answers.specs.Limits.{most_patterns, byte_values}
 use Rattle.pieces.specs.declared.Ending.{Ending}
 use Rattle.pieces.specs.declared.Ending.TheVariants.{Whole, NoToken, NoRoom}
 use Rattle.pieces.specs.Cut.{space, Piece, piece, numbers_of, ends_of, answer_of}
-use Rattle.pieces.specs.Cut.{TokenAt, Cut, end_of_line, space_dropped, token_cut, no_token_lem, no_room}
+use Rattle.pieces.specs.Cut.{TokenAt, Cut, end_of_line, space_dropped, token_cut, no_token_starts, no_room}
 use Rattle.pieces.specs.Calls.{CutWithOutcome}
 use Rattle.pieces.specs.Meanings.{TokenKnown}
 use Rattle.pieces.specs.Rows.{rows_in, cell_at, Walk, here, on, Says}
@@ -39,7 +39,7 @@ module _ (M : ℕ → List ℕ → Type 0) where
         let rest = shorter room (suc place) w (omega arith) in
         (rest.0, rest.1, subst (λ (c : ℕ). Cut M room place (c ∷ w) rest.0 rest.1) (sym is-space) (space_dropped rest.2))
     cut_byte room place (inl t) (no no_space) = cut_token room place no_space t.2
-    cut_byte room place (inr none) (no no_space) = ([], NoToken place, no_token_lem no_space none)
+    cut_byte room place (inr none) (no no_space) = ([], NoToken place, no_token_starts no_space none)
 
   module _ (decided : (w : List ℕ) → TokenKnown M w) where
     -- where shorter lines are cut, so is this one

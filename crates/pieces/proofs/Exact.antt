@@ -7,7 +7,7 @@ use native.Mathlib.Decide.{dec_lt}
 use native.Mathlib.Omega.{arith}
 use lib.ListN.{take}
 use Rattle.pieces.specs.declared.Ending.{Ending}
-use Rattle.pieces.specs.Cut.{Piece, TokenAt, NoTokenAt, Cut, end_of_line, space_dropped, token_cut, no_token_lem, no_room}
+use Rattle.pieces.specs.Cut.{Piece, TokenAt, NoTokenAt, Cut, end_of_line, space_dropped, token_cut, no_token_starts, no_room}
 use Rattle.pieces.specs.Meanings.{Agree, Picks}
 
 module _ {M N : ℕ → List ℕ → Type 0} where
@@ -20,7 +20,7 @@ module _ {M N : ℕ → List ℕ → Type 0} where
   along tokens nones end_of_line = end_of_line
   along tokens nones (space_dropped cut) = space_dropped (along tokens nones cut)
   along tokens nones (token_cut no_space t cut) = token_cut no_space (tokens _ _ _ t) (along tokens nones cut)
-  along tokens nones (no_token_lem no_space none) = no_token_lem no_space (nones _ none)
+  along tokens nones (no_token_starts no_space none) = no_token_starts no_space (nones _ none)
   along tokens nones (no_room no_space t) = no_room no_space (tokens _ _ _ t)
 
   token_agree : Agree M N → (w : List ℕ) (k n : ℕ) → TokenAt M w k n → TokenAt N w k n

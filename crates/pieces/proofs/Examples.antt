@@ -12,7 +12,7 @@ use Rattle.answers.specs.Limits.{most_patterns, byte_values}
 use Rattle.answers.specs.Refusals.{no_token, room, token_room}
 use Rattle.pieces.specs.declared.Ending.TheVariants.{Whole, NoToken, NoRoom}
 use Rattle.pieces.specs.Cut.{space, piece, numbers_of, ends_of, answer_of}
-use Rattle.pieces.specs.Cut.{TokenAt, NoTokenAt, end_of_line, space_dropped, token_cut, no_token_lem, no_room}
+use Rattle.pieces.specs.Cut.{TokenAt, NoTokenAt, end_of_line, space_dropped, token_cut, no_token_starts, no_room}
 use Rattle.pieces.specs.Calls.{CutWithOutcome}
 use Rattle.pieces.specs.Examples.{line, one_row}
 use Rattle.pieces.specs.Rows.{rows_in, cell_at, Walk, here, on, Says}
@@ -94,7 +94,7 @@ refused_there none =
     record {
       pieces = [];
       ending = NoToken 1;
-      cut = space_dropped (no_token_lem first_is_no_space none);
+      cut = space_dropped (no_token_starts first_is_no_space none);
       answered = refl;
       numbers = refl;
       places = refl;

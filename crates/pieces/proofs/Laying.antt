@@ -8,7 +8,7 @@ use lib.ListN.{length, take, length-append, take-append-drop}
 use lib.Seq.{length-take-le}
 use Rattle.pieces.specs.declared.Ending.{Ending}
 use Rattle.pieces.specs.declared.Ending.TheVariants.{Whole}
-use Rattle.pieces.specs.Cut.{space, Piece, piece, Cut, end_of_line, space_dropped, token_cut, no_token_lem, no_room}
+use Rattle.pieces.specs.Cut.{space, Piece, piece, Cut, end_of_line, space_dropped, token_cut, no_token_starts, no_room}
 use Rattle.pieces.specs.Laid.{LaidOut, last_spaces, next_piece, Ends, nothing_left, no_token_there, no_room_left, CutStopped}
 
 -- one space more in front
@@ -50,7 +50,7 @@ module _ {M : ℕ → List ℕ → Type 0} where
       → Cut M room place w pieces ending
       → CutStopped M room place w pieces ending
   cut_stops end_of_line = stopped_here nothing_left
-  cut_stops (no_token_lem no_space none) = stopped_here (no_token_there no_space none)
+  cut_stops (no_token_starts no_space none) = stopped_here (no_token_there no_space none)
   cut_stops (no_room no_space t) = stopped_here (no_room_left no_space t)
   cut_stops (space_dropped {place = place} cut) =
       let rest = cut_stops cut in

@@ -8,7 +8,7 @@ use lib.ListN.{length, take, get_elem?, length-drop}
 use Rattle.pieces.specs.declared.Ending.{Ending}
 use Rattle.pieces.specs.declared.Ending.TheVariants.{NoRoom}
 use Rattle.answers.specs.Answers.{done, stop}
-use Rattle.pieces.specs.Cut.{Piece, piece, Cut, end_of_line, space_dropped, token_cut, no_token_lem, no_room, answer_of}
+use Rattle.pieces.specs.Cut.{Piece, piece, Cut, end_of_line, space_dropped, token_cut, no_token_starts, no_room, answer_of}
 
 module _ {M : ℕ → List ℕ → Type 0} where
   -- what a piece's number says of its bytes
@@ -18,7 +18,7 @@ module _ {M : ℕ → List ℕ → Type 0} where
       → get_elem? pieces i ≡ some p
       → M p.number p.bytes
   cut_matches end_of_line i p at = let bad : ◌≡◌ {A = ℕ} 0 1 = cc in absurd (omega arith)
-  cut_matches (no_token_lem no_space none) i p at = let bad : ◌≡◌ {A = ℕ} 0 1 = cc in absurd (omega arith)
+  cut_matches (no_token_starts no_space none) i p at = let bad : ◌≡◌ {A = ℕ} 0 1 = cc in absurd (omega arith)
   cut_matches (no_room no_space t) i p at = let bad : ◌≡◌ {A = ℕ} 0 1 = cc in absurd (omega arith)
   cut_matches (space_dropped cut) i p at = cut_matches cut i p at
   cut_matches (token_cut {place = place} {b} {k} {n} {w} no_space t cut) zero p at =
@@ -43,7 +43,7 @@ module _ {M : ℕ → List ℕ → Type 0} where
   pieces_few (space_dropped cut) = omega (arith, pieces_few cut)
   pieces_few (token_cut {b = b} {n = n} {w = w} no_space t cut) =
       omega (arith, pieces_few cut, length-drop n (b ∷ w), t.some_byte, t.within)
-  pieces_few (no_token_lem no_space none) = omega arith
+  pieces_few (no_token_starts no_space none) = omega arith
   pieces_few (no_room no_space t) = omega arith
 
   -- and the place that the answer names lies in it, or at its end
@@ -56,5 +56,5 @@ module _ {M : ℕ → List ℕ → Type 0} where
   place_inside (space_dropped cut) n = omega (arith, place_inside cut n)
   place_inside (token_cut {b = b} {n = m} {w = w} no_space t cut) n =
       omega (arith, place_inside cut n, length-drop m (b ∷ w), t.within)
-  place_inside (no_token_lem no_space none) n = omega arith
+  place_inside (no_token_starts no_space none) n = omega arith
   place_inside (no_room no_space t) n = omega arith

@@ -11,7 +11,7 @@ use Rattle.pieces.specs.declared.Ending.TheVariants as endings
 use Rattle.pieces.specs.declared.Match.{Match}
 use Rattle.pieces.specs.declared.Match.TheVariants.{Token, Nothing}
 use Rattle.pieces.specs.declared.Move.TheVariants.{Skip, Take, Stop}
-use Rattle.pieces.specs.Cut.{space, Piece, piece, TokenAt, NoTokenAt, Cut, end_of_line, space_dropped, token_cut, no_token_lem, no_room}
+use Rattle.pieces.specs.Cut.{space, Piece, piece, TokenAt, NoTokenAt, Cut, end_of_line, space_dropped, token_cut, no_token_starts, no_room}
 use Rattle.pieces.specs.Moves.{Starts, Matched, token, nothing, DoneAt, ends, skips, takes, finds_nothing, lacks_room}
 
 -- what is left of the line where a byte stands
@@ -59,7 +59,7 @@ module _ {M : ℕ → List ℕ → Type 0} where
       → Cut M room at (drop at line) [] ending
   stop_cuts {line} {at} (ends past) = rw (drop_of_length-le line past) end_of_line
   stop_cuts {line} {at} (finds_nothing starts none) =
-      rw (left_is line at starts.inside) (no_token_lem starts.no_space (rw (left_is line at starts.inside) at none))
+      rw (left_is line at starts.inside) (no_token_starts starts.no_space (rw (left_is line at starts.inside) at none))
   stop_cuts {line} {at} (lacks_room starts t) =
       rw (left_is line at starts.inside) (no_room starts.no_space (rw (left_is line at starts.inside) at t))
 

@@ -5,7 +5,7 @@ use Prim.Native.Nat.{ℕ, suc, ◌+◌}
 use lib.ListN.{drop}
 use lib.Seq.{drop-drop}
 use Rattle.pieces.specs.declared.Ending.{Ending}
-use Rattle.pieces.specs.Cut.{Piece, TokenAt, NoTokenAt, Cut, end_of_line, space_dropped, token_cut, no_token_lem, no_room}
+use Rattle.pieces.specs.Cut.{Piece, TokenAt, NoTokenAt, Cut, end_of_line, space_dropped, token_cut, no_token_starts, no_room}
 use Rattle.pieces.specs.Meanings.{Only, OfParts}
 
 module _ {Q : List ℕ → Type 0} where
@@ -50,7 +50,7 @@ module _ {M : ℕ → List ℕ → Type 0} {Q : List ℕ → Type 0} where
   cut_only has (space_dropped {w = w} cut) = space_dropped (cut_only (parts_next _ w has) cut)
   cut_only has (token_cut {b = b} {n = n} {w = w} no_space t cut) =
       token_cut no_space (token_only (b ∷ w) has t) (cut_only (parts_drop n (b ∷ w) has) cut)
-  cut_only has (no_token_lem {b = b} {w = w} no_space none) = no_token_lem no_space (none_only (b ∷ w) none)
+  cut_only has (no_token_starts {b = b} {w = w} no_space none) = no_token_starts no_space (none_only (b ∷ w) none)
   cut_only has (no_room {b = b} {w = w} no_space t) = no_room no_space (token_only (b ∷ w) has t)
 
   cut_any : {room place : ℕ} {w : List ℕ} {pieces : List Piece} {ending : Ending}
@@ -61,7 +61,7 @@ module _ {M : ℕ → List ℕ → Type 0} {Q : List ℕ → Type 0} where
   cut_any has (space_dropped {w = w} cut) = space_dropped (cut_any (parts_next _ w has) cut)
   cut_any has (token_cut {b = b} {n = n} {w = w} no_space t cut) =
       token_cut no_space (token_any (b ∷ w) has t) (cut_any (parts_drop n (b ∷ w) has) cut)
-  cut_any has (no_token_lem {b = b} {w = w} no_space none) = no_token_lem no_space (none_any (b ∷ w) has none)
+  cut_any has (no_token_starts {b = b} {w = w} no_space none) = no_token_starts no_space (none_any (b ∷ w) has none)
   cut_any has (no_room {b = b} {w = w} no_space t) = no_room no_space (token_any (b ∷ w) has t)
 
   -- where every part of the line has Q, a meaning cuts it as the same meaning of the strings that have Q

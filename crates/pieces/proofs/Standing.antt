@@ -10,7 +10,7 @@ use lib.ListN.{length, take, drop, get_elem?, get_or, length-append, take-append
 use lib.Seq.{length-take-le, drop_at}
 use Rattle.pieces.specs.declared.Ending.{Ending}
 use Rattle.pieces.specs.Cut.{space, Piece, piece, behind, ends_of}
-use Rattle.pieces.specs.Cut.{TokenAt, Cut, end_of_line, space_dropped, token_cut, no_token_lem, no_room}
+use Rattle.pieces.specs.Cut.{TokenAt, Cut, end_of_line, space_dropped, token_cut, no_token_starts, no_room}
 use Rattle.pieces.specs.Laid.{FirstByte, StandsIn, end_before}
 
 some_same : {a b : ℕ} → ◌≡◌ {A = Option ℕ} (some a) (some b) → a ≡ b
@@ -76,7 +76,7 @@ module _ {M : ℕ → List ℕ → Type 0} where
       → StandsIn (before ++ w) (get_or (place ∷ ends_of pieces) i 0) p
   unfolding ends_of
   stands before end_of_line e i p at = let bad : ◌≡◌ {A = ℕ} 0 1 = cc in absurd (omega arith)
-  stands before (no_token_lem no_space none) e i p at = let bad : ◌≡◌ {A = ℕ} 0 1 = cc in absurd (omega arith)
+  stands before (no_token_starts no_space none) e i p at = let bad : ◌≡◌ {A = ℕ} 0 1 = cc in absurd (omega arith)
   stands before (no_room no_space t) e i p at = let bad : ◌≡◌ {A = ℕ} 0 1 = cc in absurd (omega arith)
   stands before (space_dropped {place = place} {w = w} cut) e zero p at =
       let rest = rw append_assoc at (stands (before ++ (space ∷ [])) cut (simp length-append (omega arith)) zero p at) in

@@ -9,7 +9,7 @@ use Rattle.answers.specs.declared.Answer.{Answer}
 use Rattle.answers.specs.Buffers.{over}
 use Rattle.pieces.specs.declared.Ending.{Ending}
 use Rattle.pieces.specs.Cut.{Piece, piece, numbers_of, ends_of, answer_of}
-use Rattle.pieces.specs.Cut.{TokenAt, NoTokenAt, Cut, end_of_line, space_dropped, token_cut, no_token_lem, no_room}
+use Rattle.pieces.specs.Cut.{TokenAt, NoTokenAt, Cut, end_of_line, space_dropped, token_cut, no_token_starts, no_room}
 use Rattle.pieces.specs.Calls.{CutWithOutcome}
 
 module _ {M : ℕ → List ℕ → Type 0} where
@@ -47,7 +47,7 @@ module _ {M : ℕ → List ℕ → Type 0} where
   cut_unique end_of_line end_of_line = (refl, refl)
   cut_unique (space_dropped cut) (space_dropped cut') = cut_unique cut cut'
   cut_unique (space_dropped cut) (token_cut no_space t cut') = absurd (no_space refl)
-  cut_unique (space_dropped cut) (no_token_lem no_space none) = absurd (no_space refl)
+  cut_unique (space_dropped cut) (no_token_starts no_space none) = absurd (no_space refl)
   cut_unique (space_dropped cut) (no_room no_space t) = absurd (no_space refl)
   cut_unique (token_cut no_space t cut) (space_dropped cut') = absurd (no_space refl)
   cut_unique
@@ -58,13 +58,13 @@ module _ {M : ℕ → List ℕ → Type 0} where
       let rest = cut_unique cut cut'' in
       let first = ap₂ (λ (i j : ℕ). piece i place (take j (b ∷ w))) same.0 same.1 in
       (ap₂ (λ (q : Piece) (r : List Piece). q ∷ r) first rest.0, rest.1)
-  cut_unique (token_cut no_space t cut) (no_token_lem no-space' none) = absurd (token_not_none t none)
-  cut_unique (no_token_lem no_space none) (space_dropped cut') = absurd (no_space refl)
-  cut_unique (no_token_lem no_space none) (token_cut no-space' t cut') = absurd (token_not_none t none)
-  cut_unique (no_token_lem no_space none) (no_token_lem no-space' none') = (refl, refl)
-  cut_unique (no_token_lem no_space none) (no_room no-space' t) = absurd (token_not_none t none)
+  cut_unique (token_cut no_space t cut) (no_token_starts no-space' none) = absurd (token_not_none t none)
+  cut_unique (no_token_starts no_space none) (space_dropped cut') = absurd (no_space refl)
+  cut_unique (no_token_starts no_space none) (token_cut no-space' t cut') = absurd (token_not_none t none)
+  cut_unique (no_token_starts no_space none) (no_token_starts no-space' none') = (refl, refl)
+  cut_unique (no_token_starts no_space none) (no_room no-space' t) = absurd (token_not_none t none)
   cut_unique (no_room no_space t) (space_dropped cut') = absurd (no_space refl)
-  cut_unique (no_room no_space t) (no_token_lem no-space' none) = absurd (token_not_none t none)
+  cut_unique (no_room no_space t) (no_token_starts no-space' none) = absurd (token_not_none t none)
   cut_unique (no_room no_space t) (no_room no-space' t') = (refl, refl)
 
 -- a cut with given cells has one outcome

@@ -58,7 +58,7 @@ module _ (M : ℕ → List ℕ → Type 0) where
         → TokenAt (b ∷ w) k n
         → Cut room (place + n) (drop n (b ∷ w)) pieces ending
         → Cut (suc room) place (b ∷ w) (piece k place (take n (b ∷ w)) ∷ pieces) ending
-    no_token_lem : {room place b : ℕ} {w : List ℕ}
+    no_token_starts : {room place b : ℕ} {w : List ℕ}
         → b ≢ space
         → NoTokenAt (b ∷ w)
         → Cut room place (b ∷ w) [] (NoToken place)
