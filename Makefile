@@ -14,12 +14,13 @@ SHELL := /bin/bash
 CC ?= cc
 LIB := target/libdesk.a
 
-# Its last line is the last line of rt ci, printed once everything has passed.
+# Its last line is the last line of rt ci, printed once everything has passed. A wrong program that cannot be applied fails it.
 test: compiler
-	@rt fmt --check
 	@tools/also-fail --fits
 	@tools/promises
-	@log=$$(mktemp); trap 'rm -f "$$log"' EXIT; rt ci | tee "$$log"; $(MAKE) --no-print-directory list-test c-test; tail -n 1 "$$log"
+	@log=$$(mktemp); trap 'rm -f "$$log"' EXIT; rt ci | tee "$$log"; \
+	if grep '^rt: ok' "$$log" | grep -E ', [1-9][0-9]* bad'; then echo "make: a wrong program does not apply" >&2; exit 1; fi; \
+	$(MAKE) --no-print-directory list-test c-test; tail -n 1 "$$log"
 
 also-fail:
 	@tools/also-fail $(CRATE)
