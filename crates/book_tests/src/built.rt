@@ -2,6 +2,7 @@
 ghost use Rattle.std.specs.Prelude.{◌≤◌};
 
 use crate::showing::{put, show, show_changed, show_first};
+use std::io;
 
 // `GR`, one token, start 0.
 fn put_header(book: &mut [u8], nonterminals: u8, productions: u8) {
@@ -41,16 +42,16 @@ fn put_links(book: &mut [u8]) {
 }
 
 // Nonterminals 0 to 63, each deriving the next, and the last one token 0.
-pub(crate) fn chain() {
+pub(crate) fn chain(rt: &impl Print) -> io::Result<()> {
     let mut book = [0u8; 326];
     put_links(&mut book);
-    show(b"chain-past-its-end", &book);
+    show(rt, "chain-past-its-end", &book)?;
     put(&mut book, 325, 0);
-    show(b"chain", &book);
-    show_changed(b"chain-ends-at-62", &mut book, 323, 62);
-    show_changed(b"chain-ends-at-0", &mut book, 323, 0);
-    show_changed(b"chain-cut-after-0", &mut book, 10, 0);
-    show_changed(b"chain-in-a-ring", &mut book, 325, 128);
+    show(rt, "chain", &book)?;
+    show_changed(rt, "chain-ends-at-62", &mut book, 323, 62)?;
+    show_changed(rt, "chain-ends-at-0", &mut book, 323, 0)?;
+    show_changed(rt, "chain-cut-after-0", &mut book, 10, 0)?;
+    show_changed(rt, "chain-in-a-ring", &mut book, 325, 128)
 }
 
 // Records of sixteen tokens 0.
@@ -63,15 +64,15 @@ fn put_longest(book: &mut [u8]) {
     }
 }
 
-pub(crate) fn longest() {
+pub(crate) fn longest(rt: &impl Print) -> io::Result<()> {
     let mut book = [0u8; 2566];
     put_longest(&mut book);
-    show(b"longest", &book);
-    show_first(b"longest-last-byte-missing", &book, 2565);
-    show_changed(b"longest-last-mark", &mut book, 2547, 83);
-    show_changed(b"longest-last-length", &mut book, 2549, 17);
-    show_changed(b"longest-last-symbol", &mut book, 2565, 1);
+    show(rt, "longest", &book)?;
+    show_first(rt, "longest-last-byte-missing", &book, 2565)?;
+    show_changed(rt, "longest-last-mark", &mut book, 2547, 83)?;
+    show_changed(rt, "longest-last-length", &mut book, 2549, 17)?;
+    show_changed(rt, "longest-last-symbol", &mut book, 2565, 1)?;
     let mut longer = [0u8; 2567];
     put_longest(&mut longer);
-    show(b"longer", &longer);
+    show(rt, "longer", &longer)
 }

@@ -6,14 +6,16 @@ mod house;
 mod showing;
 mod small;
 
-fn main() {
-    house::whole();
-    house::marks();
-    house::limits();
-    house::symbols();
-    house::uses();
-    small::short();
-    small::useless();
-    built::chain();
-    built::longest();
+use std::io;
+
+fn main(rt: HostRuntime) -> io::Result<()> {
+    house::whole(&rt)?;
+    house::marks(&rt)?;
+    house::limits(&rt)?;
+    house::symbols(&rt)?;
+    house::uses(&rt)?;
+    small::short(&rt)?;
+    small::useless(&rt)?;
+    built::chain(&rt)?;
+    built::longest(&rt)
 }

@@ -1,55 +1,50 @@
 // What this program prints of answers and lent buffers.
 use answers::Answer;
-use libc::STDOUT_FILENO;
-use reader::fields::byte_at;
+use std::io;
 
 // A word at the beginning of a line or behind a space.
-fn show_word(word: &[u8]) {
-    io::write_all(STDOUT_FILENO, word);
+fn show_word(rt: &impl Print, word: &str) -> io::Result<()> {
+    rt.print(word)
 }
 
-fn show_number(n: u64) {
-    io::write_all(STDOUT_FILENO, b" ");
-    io::print_decimal(STDOUT_FILENO, n);
+fn show_number(rt: &impl Print, n: u64) -> io::Result<()> {
+    print!(rt; " {n}")
 }
 
-fn show_set(word: u64) {
-    io::write_all(STDOUT_FILENO, b" ");
-    io::print_hex(STDOUT_FILENO, word, 16);
+fn show_set(rt: &impl Print, word: u64) -> io::Result<()> {
+    print!(rt; " {word:016x}")
 }
 
 // The example's name, then number, place, detail, steps, expected set and depth.
-pub(crate) fn show_answer(name: &[u8], answer: Answer) {
+pub(crate) fn show_answer(rt: &impl Print, name: &str, answer: Answer) -> io::Result<()> {
     let expected = answer.expected;
-    show_word(name);
-    show_number(answer.number as u64);
-    show_number(answer.place);
-    show_number(answer.detail);
-    show_number(answer.steps);
-    show_set(expected.word);
-    show_number(answer.depth);
+    show_word(rt, name)?;
+    show_number(rt, answer.number as u64)?;
+    show_number(rt, answer.place)?;
+    show_number(rt, answer.detail)?;
+    show_number(rt, answer.steps)?;
+    show_set(rt, expected.word)?;
+    show_number(rt, answer.depth)
 }
 
 // A buffer's name, then its cells.
-pub(crate) fn show_cells(name: &[u8], cells: &[u8]) {
-    show_word(name);
-    let mut i: usize = 0;
-    while i < cells.len() {
-        show_number(byte_at(cells, i, 0) as u64);
-        i += 1;
+pub(crate) fn show_cells(rt: &impl Print, name: &str, cells: &[u8]) -> io::Result<()> {
+    show_word(rt, name)?;
+    for cell in cells {
+        show_number(rt, *cell as u64)?;
     }
+    Ok(())
 }
 
 // A buffer's name, then its sets.
-pub(crate) fn show_sets(name: &[u8], family: &[u64]) {
-    show_word(name);
-    let mut i: usize = 0;
-    while i < family.len() {
-        show_set(family[i]);
-        i += 1;
+pub(crate) fn show_sets(rt: &impl Print, name: &str, family: &[u64]) -> io::Result<()> {
+    show_word(rt, name)?;
+    for set in family {
+        show_set(rt, *set)?;
     }
+    Ok(())
 }
 
-pub(crate) fn end_line() {
-    show_word(b"\n");
+pub(crate) fn end_line(rt: &impl Print) -> io::Result<()> {
+    show_word(rt, "\n")
 }

@@ -1,9 +1,10 @@
 // Example M, from the source documents.
 use crate::showing::{end_line, show_answer, show_cells, show_sets};
 use run::running::run;
+use std::io;
 
 // FIRST of S, A, B and C in source document 002.
-fn first_sets() {
+fn first_sets(rt: &impl Print) -> io::Result<()> {
     let mut first = [99u64; 4];
     let mut follow = [99u64; 4];
     let answer = follow::sets(
@@ -12,13 +13,13 @@ fn first_sets() {
         &mut first,
         &mut follow,
     );
-    show_answer(b"M-002", answer);
-    show_sets(b" first", &first);
-    end_line();
+    show_answer(rt, "M-002", answer)?;
+    show_sets(rt, " first", &first)?;
+    end_line(rt)
 }
 
 // Table 4.1 of source document 001, and its run of v + v x v.
-fn expressions() {
+fn expressions(rt: &impl Print) -> io::Result<()> {
     let mut first = [99u64; 5];
     let mut follow = [99u64; 5];
     let mut table = [99u8; 30];
@@ -26,20 +27,20 @@ fn expressions() {
         b"GR\x05\x05\x00\x08PR\x00\x02\x82\x81PR\x01\x03\x00\x82\x81PR\x01\x00PR\x02\x02\x84\x83\
           PR\x03\x03\x01\x84\x83PR\x03\x00PR\x04\x03\x02\x80\x03PR\x04\x01\x04";
     let built = table::build(book, &mut first, &mut follow, &mut table);
-    show_answer(b"M-001", built);
-    show_cells(b" table", &table);
-    end_line();
+    show_answer(rt, "M-001", built)?;
+    show_cells(rt, " table", &table)?;
+    end_line(rt)?;
     let mut stack = [99u8; 4];
     let mut list = [99u8; 11];
     let answer = run(book, &table, b"\x04\x00\x04\x01\x04", &mut stack, &mut list);
-    show_answer(b"M-001-run", answer);
-    show_cells(b" stack", &stack);
-    show_cells(b" list", &list);
-    end_line();
+    show_answer(rt, "M-001-run", answer)?;
+    show_cells(rt, " stack", &stack)?;
+    show_cells(rt, " list", &list)?;
+    end_line(rt)
 }
 
 // Example M.
-pub(crate) fn all() {
-    first_sets();
-    expressions();
+pub(crate) fn all(rt: &impl Print) -> io::Result<()> {
+    first_sets(rt)?;
+    expressions(rt)
 }

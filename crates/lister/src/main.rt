@@ -6,6 +6,7 @@ ghost use Rattle.lister.specs.Showing.{Roomy, Shows};
 use answers::limits::LONGEST_BOOK;
 use listing::{LONGEST_LISTING, list};
 use showing::streams::{print, read};
+use std::io;
 
 // One byte more than the longest book; what stands beyond changes no listing.
 const READ: usize = LONGEST_BOOK + 1;
@@ -19,10 +20,11 @@ fn show(book: &[u8], size: usize, text: &mut [u8]) -> usize
     listed.written
 }
 
-fn main() {
+fn main(rt: HostRuntime) -> io::Result<()> {
     let mut book = [0u8; READ];
     let mut text = [0u8; LONGEST_LISTING];
-    let size = read(&mut book);
+    let size = read(&rt, &mut book)?;
     let shown = show(&book, size, &mut text);
-    print(&text, shown);
+    print(&rt, &text, shown)?;
+    Ok(())
 }

@@ -3,15 +3,19 @@
 // first: the number of tokens, the tokens, the book.
 #![tactic(auto)]
 
-use libc::STDIN_FILENO;
-
 mod chaining;
 mod comparing;
 mod showing;
 mod strings;
 
-fn main() {
-    let mut input = io::large_buffer();
-    let size = io::read_full(STDIN_FILENO, &mut input);
-    strings::each(&input, size);
+use std::io;
+use std::io::Read;
+
+// No more of the input is read.
+const READ: u64 = 65536;
+
+fn main(rt: HostRuntime) -> io::Result<()> {
+    let mut input = Vec::new(rt.alloc());
+    let size = rt.reader().take(READ).read_to_end(&mut input)?;
+    strings::each(&rt, input.as_slice(), size)
 }

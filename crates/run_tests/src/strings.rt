@@ -1,37 +1,40 @@
 // The token strings on standard input, one after another, each run and shown.
-ghost use Rattle.std.specs.Prelude.{◌<◌, ◌≤◌, length};
+ghost use Rattle.std.specs.Prelude.{◌<◌, ◌≤◌, length, IfOk};
 
 use crate::showing::show;
 use reader::fields::byte_at;
+use std::io;
 
 // Shows the string at a place and answers the place behind it; what is cut off ends the input.
-fn next(input: &[u8], at: usize) -> usize
+fn next(rt: &impl Print, input: &[u8], at: usize) -> io::Result<usize>
     requires { at < length input.now }
-    ensures { (at < result) × (result ≤ length input.now) }
+    ensures { IfOk result (λ next. (at < next) × (next ≤ length input.now)) }
 {
     if input.len() - at < 2 {
-        return input.len();
+        return Ok(input.len());
     }
     let from = at + 2;
     let size = byte_at(input, at, 0) as usize + 256 * byte_at(input, at, 1) as usize;
     if input.len() - from < size {
-        return input.len();
+        return Ok(input.len());
     }
     let end = from + size;
-    show(&input[from..end]);
-    end
+    show(rt, &input[from..end])?;
+    Ok(end)
 }
 
-fn all(input: &[u8]) {
+fn all(rt: &impl Print, input: &[u8]) -> io::Result<()> {
     let mut at: usize = 0;
     while at < input.len() {
-        at = next(input, at);
+        at = next(rt, input, at)?;
     }
+    Ok(())
 }
 
 // Every string in the first `size` bytes.
-pub(crate) fn each(input: &[u8], size: usize) {
+pub(crate) fn each(rt: &impl Print, input: &[u8], size: usize) -> io::Result<()> {
     if size <= input.len() {
-        all(&input[..size]);
+        all(rt, &input[..size])?;
     }
+    Ok(())
 }

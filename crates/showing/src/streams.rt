@@ -1,25 +1,41 @@
 // Standard input and output of a program that reads all, then works, then writes all.
-ghost use Rattle.std.specs.Prelude.{◌≡◌, min, length};
-ghost use Rattle.io.specs.Counts.{IsPrefixLen};
+ghost use Rattle.std.specs.Prelude.{◌≡◌, min, length, IfOk};
+ghost use Rattle.std.specs.Io.{ReadsAtMost};
 
-use libc::{STDIN_FILENO, STDOUT_FILENO};
+use std::io;
+use std::io::Read;
+
+// Reads to the end or until the buffer is full, and answers how many bytes stand at the buffer's front.
+fn read_full(from: &mut impl Read, input: &mut [u8]) -> io::Result<usize>
+    ensures { ReadsAtMost result input.new }
+{
+    let mut done = 0;
+    while done < input.len() {
+        let n = from.read(&mut input[done..])?;
+        if n == 0 {
+            break;
+        }
+        done += n;
+    }
+    Ok(done)
+}
 
 // Reads standard input to its end or until the buffer is full, and answers how many bytes stand at the buffer's front.
-pub fn read(input: &mut [u8]) -> usize
-    ensures { IsPrefixLen result input.new }
+pub fn read(rt: &impl Input, input: &mut [u8]) -> io::Result<usize>
+    ensures { ReadsAtMost result input.new }
 {
-    io::read_full(STDIN_FILENO, input)
+    read_full(&mut rt.reader(), input)
 }
 
 // Writes the first `size` bytes of a text to standard output, or all where it has fewer, and answers how many that is.
-pub fn print(text: &[u8], size: usize) -> usize
-    ensures { result ≡ min size (length text.now) }
+pub fn print(rt: &impl Print, text: &[u8], size: usize) -> io::Result<usize>
+    ensures { IfOk result (λ n. n ≡ min size (length text.now)) }
 {
     if size < text.len() {
-        io::write_all(STDOUT_FILENO, &text[..size]);
-        size
+        rt.write_all(&text[..size])?;
+        Ok(size)
     } else {
-        io::write_all(STDOUT_FILENO, text);
-        text.len()
+        rt.write_all(text)?;
+        Ok(text.len())
     }
 }

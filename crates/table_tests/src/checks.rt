@@ -2,8 +2,8 @@
 ghost use Rattle.std.specs.Prelude.{◌<◌, length};
 
 use book::judging::judge;
-use libc::STDOUT_FILENO;
 use reader::fields::{left_at, place_at};
+use std::io;
 
 // The lowest production of a row, or the number of productions.
 fn production_of(book: &[u8], places: &[u16], count: u8, row: usize) -> u8 {
@@ -53,17 +53,15 @@ fn first_untold(book: &[u8], places: &[u16], count: u8, tokens: u8, cells: &mut 
 }
 
 // The check of a table without conflict, and up to which cell each is told when it is changed.
-pub(crate) fn show_checks(book: &[u8], cells: &mut [u8]) {
+pub(crate) fn show_checks(rt: &impl Print, book: &[u8], cells: &mut [u8]) -> io::Result<()> {
     let reading = judge(book);
     let checked = checker::check(book, cells);
     let count = reading.productions;
     let tokens = reading.tokens;
     let told = first_untold(book, &reading.places, count, tokens, cells);
-    io::write_all(STDOUT_FILENO, b"check ");
-    io::print_decimal(STDOUT_FILENO, checked.number as u64);
-    io::write_all(STDOUT_FILENO, b" told below ");
-    io::print_decimal(STDOUT_FILENO, told as u64);
-    io::write_all(STDOUT_FILENO, b" of ");
-    io::print_decimal(STDOUT_FILENO, cells.len() as u64);
-    io::write_all(STDOUT_FILENO, b"\n");
+    println!(rt;
+        "check {} told below {told} of {}",
+        checked.number,
+        cells.len()
+    )
 }

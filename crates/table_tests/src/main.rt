@@ -3,14 +3,18 @@
 // table with the check of it.
 #![tactic(auto)]
 
-use libc::STDIN_FILENO;
-
 mod books;
 mod checks;
 mod showing;
 
-fn main() {
-    let mut input = io::large_buffer();
-    let size = io::read_full(STDIN_FILENO, &mut input);
-    books::each(&input, size);
+use std::io;
+use std::io::Read;
+
+// No more of the input is read.
+const READ: u64 = 65536;
+
+fn main(rt: HostRuntime) -> io::Result<()> {
+    let mut input = Vec::new(rt.alloc());
+    let size = rt.reader().take(READ).read_to_end(&mut input)?;
+    books::each(&rt, input.as_slice(), size)
 }

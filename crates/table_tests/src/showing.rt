@@ -2,136 +2,133 @@
 use crate::checks::show_checks;
 use answers::Answer;
 use book::judging::judge;
-use libc::STDOUT_FILENO;
 use reader::fields::{byte_at, length_at, place_at};
 use sets::load;
+use std::io;
 
-fn show_answer(word: &[u8], answer: Answer) {
-    io::write_all(STDOUT_FILENO, word);
-    io::write_all(STDOUT_FILENO, b" ");
-    io::print_decimal(STDOUT_FILENO, answer.number as u64);
-    io::write_all(STDOUT_FILENO, b" ");
-    io::print_decimal(STDOUT_FILENO, answer.place);
-    io::write_all(STDOUT_FILENO, b" ");
-    io::print_decimal(STDOUT_FILENO, answer.detail);
-    io::write_all(STDOUT_FILENO, b"\n");
+fn show_answer(rt: &impl Print, word: &str, answer: Answer) -> io::Result<()> {
+    println!(rt;
+        "{word} {} {} {}",
+        answer.number, answer.place, answer.detail
+    )
 }
 
 // A set without the end of its line.
-fn begin_set(word: &[u8], n: usize, set: u64) {
-    io::write_all(STDOUT_FILENO, word);
-    io::write_all(STDOUT_FILENO, b" ");
-    io::print_decimal(STDOUT_FILENO, n as u64);
-    io::write_all(STDOUT_FILENO, b" ");
-    io::print_hex(STDOUT_FILENO, set, 16);
+fn begin_set(rt: &impl Print, word: &str, n: usize, set: u64) -> io::Result<()> {
+    print!(rt; "{word} {n} {set:016x}")
 }
 
-fn show_set(word: &[u8], n: usize, set: u64) {
-    begin_set(word, n, set);
-    io::write_all(STDOUT_FILENO, b"\n");
+fn show_set(rt: &impl Print, word: &str, n: usize, set: u64) -> io::Result<()> {
+    begin_set(rt, word, n, set)?;
+    rt.print("\n")
 }
 
 // A set, and how many leading symbols can vanish.
-fn show_counted(word: &[u8], n: usize, set: u64, vanishing: u64) {
-    begin_set(word, n, set);
-    io::write_all(STDOUT_FILENO, b" ");
-    io::print_decimal(STDOUT_FILENO, vanishing);
-    io::write_all(STDOUT_FILENO, b"\n");
+fn show_counted(rt: &impl Print, word: &str, n: usize, set: u64, vanishing: u64) -> io::Result<()> {
+    begin_set(rt, word, n, set)?;
+    println!(rt; " {vanishing}")
 }
 
-fn show_sets(word: &[u8], family: &[u64], count: usize) {
-    let mut n: usize = 0;
-    while n < count {
+fn show_sets(rt: &impl Print, word: &str, family: &[u64], count: usize) -> io::Result<()> {
+    for n in 0..count {
         let set = load(family, n);
-        show_set(word, n, set.word);
-        n += 1;
+        show_set(rt, word, n, set.word)?;
     }
+    Ok(())
 }
 
-fn show_lookaheads(book: &[u8], count: usize) {
-    let mut p: usize = 0;
-    while p < count {
+fn show_lookaheads(rt: &impl Print, book: &[u8], count: usize) -> io::Result<()> {
+    for p in 0..count {
         let found = follow::lookahead(book, p as u64);
         let set = found.set;
-        show_counted(b"ahead", p, set.word, found.vanishing);
-        p += 1;
+        show_counted(rt, "ahead", p, set.word, found.vanishing)?;
     }
+    Ok(())
 }
 
 // FIRST of the right side that takes `size` bytes from `from` on.
-fn show_first_of(book: &[u8], p: usize, from: usize, size: usize) {
+fn show_first_of(
+    rt: &impl Print,
+    book: &[u8],
+    p: usize,
+    from: usize,
+    size: usize,
+) -> io::Result<()> {
     if from <= book.len() {
         if size <= book.len() - from {
             let end = from + size;
             let found = first::first_of(book, &book[from..end]);
             let set = found.set;
-            show_counted(b"begin", p, set.word, found.vanishing);
+            show_counted(rt, "begin", p, set.word, found.vanishing)?;
         }
     }
+    Ok(())
 }
 
-fn show_beginnings(book: &[u8], count: usize) {
+fn show_beginnings(rt: &impl Print, book: &[u8], count: usize) -> io::Result<()> {
     let reading = judge(book);
     let places = reading.places;
-    let mut p: usize = 0;
-    while p < count {
+    for p in 0..count {
         let at = place_at(&places, p) as usize;
-        show_first_of(book, p, at + 4, length_at(book, at) as usize);
-        p += 1;
+        show_first_of(rt, book, p, at + 4, length_at(book, at) as usize)?;
     }
+    Ok(())
 }
 
-fn show_cell(cell: u8) {
-    io::write_all(STDOUT_FILENO, b" ");
+fn show_cell(rt: &impl Print, cell: u8) -> io::Result<()> {
     if cell == 255 {
-        io::write_all(STDOUT_FILENO, b"-");
+        rt.print(" -")
     } else {
-        io::print_decimal(STDOUT_FILENO, cell as u64);
+        print!(rt; " {cell}")
     }
 }
 
-fn show_cells(cells: &[u8], columns: usize) {
-    let mut i: usize = 0;
-    while i < columns {
-        show_cell(byte_at(cells, i, 0));
-        i += 1;
+fn show_cells(rt: &impl Print, cells: &[u8], columns: usize) -> io::Result<()> {
+    for i in 0..columns {
+        show_cell(rt, byte_at(cells, i, 0))?;
     }
-    io::write_all(STDOUT_FILENO, b"\n");
+    rt.print("\n")
 }
 
-fn show_row(cells: &[u8], row: usize, columns: usize) {
-    io::write_all(STDOUT_FILENO, b"row ");
-    io::print_decimal(STDOUT_FILENO, row as u64);
+fn show_row(rt: &impl Print, cells: &[u8], row: usize, columns: usize) -> io::Result<()> {
+    print!(rt; "row {row}")?;
     if row < 64 {
         if columns <= 64 {
             let from = row * columns;
             if from <= cells.len() {
-                show_cells(&cells[from..], columns);
+                show_cells(rt, &cells[from..], columns)?;
             }
         }
     }
+    Ok(())
 }
 
-fn show_rows(cells: &[u8], rows: usize, columns: usize) {
-    let mut row: usize = 0;
-    while row < rows {
-        show_row(cells, row, columns);
-        row += 1;
+fn show_rows(rt: &impl Print, cells: &[u8], rows: usize, columns: usize) -> io::Result<()> {
+    for row in 0..rows {
+        show_row(rt, cells, row, columns)?;
     }
+    Ok(())
 }
 
-fn show_table_checks(book: &[u8], cells: &mut [u8], rows: usize, columns: usize) {
+fn show_table_checks(
+    rt: &impl Print,
+    book: &[u8],
+    cells: &mut [u8],
+    rows: usize,
+    columns: usize,
+) -> io::Result<()> {
     if rows <= 64 {
         if columns <= 64 {
             let size = rows * columns;
             if size <= cells.len() {
-                show_checks(book, &mut cells[..size]);
+                show_checks(rt, book, &mut cells[..size])?;
             }
         }
     }
+    Ok(())
 }
 
-pub(crate) fn show(book: &[u8]) {
+pub(crate) fn show(rt: &impl Print, book: &[u8]) -> io::Result<()> {
     let mut first = [0u64; 64];
     let mut follow = [0u64; 64];
     let mut cells = [0u8; 4032];
@@ -140,15 +137,16 @@ pub(crate) fn show(book: &[u8]) {
     let count = byte_at(book, 0, 5) as usize;
     let worked = follow::sets(book, &mut first, &mut follow);
     let built = table::build(book, &mut first, &mut follow, &mut cells);
-    show_answer(b"build", built);
+    show_answer(rt, "build", built)?;
     if worked.number == 0 {
-        show_sets(b"first", &first, rows);
-        show_sets(b"follow", &follow, rows);
-        show_lookaheads(book, count);
-        show_beginnings(book, count);
+        show_sets(rt, "first", &first, rows)?;
+        show_sets(rt, "follow", &follow, rows)?;
+        show_lookaheads(rt, book, count)?;
+        show_beginnings(rt, book, count)?;
     }
     if built.number == 0 {
-        show_rows(&cells, rows, columns);
-        show_table_checks(book, &mut cells, rows, columns);
+        show_rows(rt, &cells, rows, columns)?;
+        show_table_checks(rt, book, &mut cells, rows, columns)?;
     }
+    Ok(())
 }

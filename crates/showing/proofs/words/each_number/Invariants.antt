@@ -1,0 +1,12 @@
+-- `showing::words::each_number` meets its contract: the numbers that are left, written from here on, make the whole.
+use Prim.Native.Nat.{◌-◌}
+use lib.ListN.{length}
+use Rattle.showing.specs.Words.{number_text}
+use Rattle.showing.proofs.Parts.{Shown}
+use Rattle.showing.proofs.words.each_number.Given as goal
+
+abbrev pub invariant-loop-i : goal.invariant-loop-i
+invariant-loop-i l = Shown number_text l.numbers l.initial.out l.at l.out l.place l.i
+
+abbrev pub decreases-loop-i : goal.decreases-loop-i
+decreases-loop-i l = length l.numbers - l.i
