@@ -5,17 +5,17 @@
 
 mod chaining;
 mod comparing;
-mod showing;
 mod strings;
+mod telling;
 
+use showing::streams::read;
 use std::io;
-use std::io::Read;
 
 // No more of the input is read.
-const READ: u64 = 65536;
+const READ: usize = 65536;
 
 fn main(rt: HostRuntime) -> io::Result<()> {
-    let mut input = Vec::new(rt.alloc());
-    let size = rt.reader().take(READ).read_to_end(&mut input)?;
-    strings::each(&rt, input.as_slice(), size)
+    let mut input = [0u8; READ];
+    let size = read(&rt, &mut input)?;
+    strings::each(&rt, &input, size)
 }

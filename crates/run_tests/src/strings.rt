@@ -1,7 +1,7 @@
 // The token strings on standard input, one after another, each run and shown.
 ghost use Rattle.std.specs.Prelude.{◌<◌, ◌≤◌, length, IfOk};
 
-use crate::showing::show;
+use crate::telling::show;
 use reader::fields::byte_at;
 use std::io;
 

@@ -5,16 +5,16 @@
 
 mod books;
 mod checks;
-mod showing;
+mod telling;
 
+use showing::streams::read;
 use std::io;
-use std::io::Read;
 
 // No more of the input is read.
-const READ: u64 = 65536;
+const READ: usize = 65536;
 
 fn main(rt: HostRuntime) -> io::Result<()> {
-    let mut input = Vec::new(rt.alloc());
-    let size = rt.reader().take(READ).read_to_end(&mut input)?;
-    books::each(&rt, input.as_slice(), size)
+    let mut input = [0u8; READ];
+    let size = read(&rt, &mut input)?;
+    books::each(&rt, &input, size)
 }
