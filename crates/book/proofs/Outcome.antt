@@ -20,7 +20,7 @@ use Rattle.book.proofs.Sides.{sides_surveyed}
 module _ (b : List ℕ) where
   -- as many records are surveyed as there are productions
   pub header_counted : {g : Grammar} {P count : ℕ} → spells b ≡ reads g → P ≡ get_or b 5 0 → count ≡ min P most_productions → count ≡ length g.productions
-  header_counted read P-is count-is = omega (arith, P-is, count-is, header_productions b read, (read_limits b read).productions_fit)
+  header_counted read P-is count_is = omega (arith, P-is, count_is, header_productions b read, (read_limits b read).productions_fit)
 
   -- the header's bytes and the places counted through the book are the fields of the index
   pub header_indexed : {g : Grammar} {places : List ℕ} {P N start : ℕ}
@@ -51,9 +51,9 @@ module _ (b : List ℕ) where
       → TellsUseless count names lefts N start r
       → Indexed b places P N start g × FirstUseless g r
   unfolding places_of
-  survey_decides {g} read N-is start_is P-is count-is surveyed tells =
-      let indexed = header_indexed read N-is start_is P-is (rw count-is at surveyed.placed) in
-      let sides = sides_surveyed read (header_counted read P-is count-is) surveyed.named surveyed.left in
+  survey_decides {g} read N-is start_is P-is count_is surveyed tells =
+      let indexed = header_indexed read N-is start_is P-is (rw count_is at surveyed.placed) in
+      let sides = sides_surveyed read (header_counted read P-is count_is) surveyed.named surveyed.left in
       (indexed, tells.first g sides indexed.numbered indexed.started)
 
 module _ {b places : List ℕ} {P N start r : ℕ} {g : Grammar} (indexed : Indexed b places P N start g) (first : FirstUseless g r) where
@@ -66,7 +66,7 @@ module _ {b places : List ℕ} {P N start r : ℕ} {g : Grammar} (indexed : Inde
   pub judged_served : {tokens : ℕ} {answer : Answer} → N ≤ r → tokens ≡ get_or b 2 0 → answer ≡ done 0
       → Judged b (record { answer = answer; tokens = tokens; nonterminals = N; start = start; productions = P; places = places })
   unfolding index_of
-  judged_served past tokens-are answered =
+  judged_served past tokens_are answered =
       let all : AllUseful g = record { useful = λ A inside. first.earlier A (omega (arith, indexed.numbered)) } in
-      rw (answered, tokens-are, header_tokens b indexed.read, indexed.numbered, indexed.started, indexed.counted, indexed.placed)
+      rw (answered, tokens_are, header_tokens b indexed.read, indexed.numbered, indexed.started, indexed.counted, indexed.placed)
       (serves (record { read = indexed.read; useful = all }))

@@ -50,19 +50,19 @@ module _ {ins outs : List ℕ} {count : ℕ} where
         added =
             below_more _ _
             (λ p below holds k m. applied.keeps k (passed.added p below holds k m))
-            (λ holds k m. applied.added k (record { holds = λ j is-in. passed.keeps j (holds j is-in); gives = m }));
-        because = λ k m. ⊎_elim (passed.because k) (λ new. fired n inside (λ j is-in. passed.because j (new.holds j is-in)) new.gives) (applied.because k m);
+            (λ holds k m. applied.added k (record { holds = λ j is_in. passed.keeps j (holds j is_in); gives = m }));
+        because = λ k m. ⊎_elim (passed.because k) (λ new. fired n inside (λ j is_in. passed.because j (new.holds j is_in)) new.gives) (applied.because k m);
       }
 
   -- what is reached from what is reached is reached
   reached_again : {seed before k : ℕ} → ((j : ℕ) → member j before ≡ true → InClosure ins outs count seed j) → InClosure ins outs count before k → InClosure ins outs count seed k
   reached_again all (given m) = all _ m
-  reached_again all (fired p below holds m) = fired p below (λ j is-in. reached_again all (holds j is-in)) m
+  reached_again all (fired p below holds m) = fired p below (λ j is_in. reached_again all (holds j is_in)) m
 
   -- what holds the seed and what every rule adds holds all that is reached
   reached_within : {seed before k : ℕ} → Subset seed before → Passed ins outs count count before before → InClosure ins outs count seed k → member k before ≡ true
   reached_within holds passed (given m) = holds _ m
-  reached_within holds passed (fired p below reached m) = passed.added p below (λ j is-in. reached_within holds passed (reached j is-in)) _ m
+  reached_within holds passed (fired p below reached m) = passed.added p below (λ j is_in. reached_within holds passed (reached j is_in)) _ m
 
 -- a set on the way from the seed to all that is reached, and one pass more
 pub record ClosureRound (ins outs : List ℕ) (count seed before after : ℕ) : Type 0 where

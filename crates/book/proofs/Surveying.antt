@@ -64,7 +64,7 @@ module _ {book before places names lefts : List ℕ} {count p place : ℕ} (so_f
       → lefts' ≡ stored lefts p l
       → Surveying book count before (p + 1) (place + (4 + length_at book place)) (set places p place) rights lefts'
   unfolding place_of_record place_after
-  survey_next inside byte exact-names names-stored exact-left left-stored =
+  survey_next inside byte exact_names names_stored exact_left left_stored =
       record {
         within = omega arith;
         few = so_far.few;
@@ -72,8 +72,8 @@ module _ {book before places names lefts : List ℕ} {count p place : ℕ} (so_f
         counted = rw (add-one, so_far.counted) (omega arith);
         sized = length-set places p place ∙ so_far.sized;
         placed = rw so_far.counted (sym (places_turn book places p count inside) ∙ so_far.placed);
-        named = filled_next (omega (arith, so_far.few)) so_far.named (rw so_far.counted at exact-names) names-stored;
-        left = filled_next (omega (arith, so_far.few)) so_far.left (rw so_far.counted at exact-left) left-stored;
+        named = filled_next (omega (arith, so_far.few)) so_far.named (rw so_far.counted at exact_names) names_stored;
+        left = filled_next (omega (arith, so_far.few)) so_far.left (rw so_far.counted at exact_left) left_stored;
       }
 
   -- at the end every record is surveyed

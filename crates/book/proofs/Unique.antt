@@ -1,4 +1,4 @@
--- Judging allows one outcome only. (A leaf whose contract says `r ≡ f inputs` allows one by `value-unique` of crate sets.)
+-- Judging allows one outcome only. (A leaf whose contract says `r ≡ f inputs` allows one by `value_unique` of crate sets.)
 use mathlib.Core.Path.{◌≡◌, ap, ap₂}
 use mathlib.Core.List.{List}
 use Prim.Native.Nat.{ℕ}

@@ -71,10 +71,10 @@ module _ {g : Grammar} {count : ℕ} {names lefts : List ℕ} (sides : Sides g c
   module _ {m seed : ℕ} {kept : List ℕ} (productive : Exactly width m (Productive g)) (filled : SetsOf (λ p. Follows (set_at names p) (set_at names p) m) count kept)
       (one : Exactly width seed (IsNumber g.start)) (starts : member g.start m ≡ true) where
     used_sound : {k : ℕ} → InClosure lefts kept count seed k → Useful g k
-    used_sound {k} (given is-in) = subst (Useful g) (sym (one.sound k is-in).same) (start_useful (productive.sound g.start starts))
-    used_sound {k} (fired p below holds is-in) =
+    used_sound {k} (given is_in) = subst (Useful g) (sym (one.sound k is_in).same) (start_useful (productive.sound g.start starts))
+    used_sound {k} (fired p below holds is_in) =
         let (A, β, rule) = rule_at p below in
-        let follows : Follows (set_at names p) (set_at names p) m k = (filled.each p below).sound k is-in in
+        let follows : Follows (set_at names p) (set_at names p) m k = (filled.each p below).sound k is_in in
         let occurs : Occurs β k = (sides.names_of rule).sound k follows.gives in
         useful_addition
         (used_sound (holds A ((sides.left_of rule).complete A refl)))
@@ -88,10 +88,10 @@ module _ {g : Grammar} {count : ℕ} {names lefts : List ℕ} (sides : Sides g c
           at_start = given (one.complete g.start (record { same = refl; fits = sides.start_fits }));
           closed = λ {p} {A} {B} {β} reached rule names behind.
               fired p (counted rule)
-              (λ j is-in. subst (InClosure lefts kept count seed) (sym ((sides.left_of rule).sound j is-in)) reached)
+              (λ j is_in. subst (InClosure lefts kept count seed) (sym ((sides.left_of rule).sound j is_in)) reached)
               ((filled.each p (counted rule)).complete B
               (record {
-                holds = λ j is-in. productive.complete j (names_one names ((sides.names_of rule).sound j is-in));
+                holds = λ j is_in. productive.complete j (names_one names ((sides.names_of rule).sound j is_in));
                 gives = (sides.names_of rule).complete B (behind_occurs behind);
               }));
         }

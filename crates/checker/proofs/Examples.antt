@@ -72,10 +72,10 @@ different_tested g right table built i inside t other =
     record {
       inside = inside;
       wrong = λ cell. other (held_unique (get_or table i 255) (get_or right i 255) (cell_unique cell (built.cells i inside)));
-      earlier = λ j below-i.
+      earlier = λ j below_i.
           let same : get_or table j 255 ≡ get_or right j 255 =
           eqb→eq (get_or table j 255) (get_or right j 255)
-          (below_each i (λ k. eqb (get_or table k 255) (get_or right k 255)) t j below-i) in
+          (below_each i (λ k. eqb (get_or table k 255) (get_or right k 255)) t j below_i) in
           subst (λ (byte : ℕ). Cell g (row_at g j) (column_at g j) (held byte)) (sym same) (built.cells j (omega arith));
     }
 

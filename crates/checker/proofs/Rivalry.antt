@@ -132,8 +132,8 @@ module _ {left look : ℕ → ℕ} where
         complete : (A bit q : ℕ) → Before (p + 1) (ClaimsAt left look A bit) q → Dec (A ≡ row) → Dec (q ≡ p)
             → member bit (set_at (stored claimed row new) A) ≡ true
         complete A bit q b (yes e) (yes f) =
-            let bit-set : member bit ahead ≡ true = rw (f, looks) at b.claim.has_bit in
-            rw (e, stored_there claimed row new inside) (or_right bit (set_at claimed row) ahead bit-set)
+            let bit_set : member bit ahead ≡ true = rw (f, looks) at b.claim.has_bit in
+            rw (e, stored_there claimed row new inside) (or_right bit (set_at claimed row) ahead bit_set)
         complete A bit q b (yes e) (no d) =
             let was = tallied.complete A bit q (record { below = omega (arith, b.below); claim = b.claim }) in
             rw (e, stored_there claimed row new inside) (or_left bit (set_at claimed row) ahead (rw e at was))

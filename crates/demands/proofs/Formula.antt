@@ -78,9 +78,9 @@ module _ {book table tokens : List ℕ} (h : Premises book table tokens) (full :
       sort (inl z) = inl z
       sort (inr (inr z)) = inr z
       sort (inr (inl n)) =
-          let (reason, s, why, stopped-at) = told_room (ends_told e) n in
+          let (reason, s, why, stopped_at) = told_room (ends_told e) n in
           let decided = run_always_enough (premises_exact h) (serves_well_formed h.built.serves) full (counted stack) (counted list) tokens sides_short l k in
-          absurd (short_undecided why (subst (λ (o : Offered). Decided o) stopped-at decided))
+          absurd (short_undecided why (subst (λ (o : Offered). Decided o) stopped_at decided))
 
 -- a run that keeps its promise keeps within the formula
 pub keeps_formula : (book table tokens stack list : List ℕ) (r : Ran)

@@ -98,18 +98,18 @@ lists_differ e = let third : ◌≡◌ {A = ℕ} 3 2 = ap (λ (l : List ℕ). ge
 -- one with a single fixed answer breaks demand 2, since D and A differ: as an expansion
 pub fixed_output_fails : {expand : Expander} → FixedOutput expand
     → ExpandMeets2 house_book list_d nines nines (expand house_book list_d nines nines) → ¬ ExpandMeets2 house_book list_a nines nines (expand house_book list_a nines nines)
-fixed_output_fails idle meets-d meets-a =
-    let d = (meets-d.expands house_serves derivation_d (omega arith) peak_d (omega arith)).1 in
-    let a = (meets-a.expands house_serves derivation_a (omega arith) peak_a (omega arith)).1 in
+fixed_output_fails idle meets_d meets_a =
+    let d = (meets_d.expands house_serves derivation_d (omega arith) peak_d (omega arith)).1 in
+    let a = (meets_a.expands house_serves derivation_a (omega arith) peak_a (omega arith)).1 in
     strings_differ (sym d ∙ idle.fixed house_book list_d list_a nines nines ∙ a)
 
 -- and as a run
 pub fixed_list_fails : {run : Runner} → FixedList run
     → RunMeets2 house_book house_table string_d nines nines (run house_book house_table string_d nines nines) → ¬ RunMeets2 house_book house_table string_a nines nines (run house_book house_table string_a nines nines)
 unfolding house_built house_premises premises_d premises_a
-fixed_list_fails idle meets-d meets-a =
-    let d = (meets-d.back premises_d derivation_d (omega arith) peak_d).1 in
-    let a = (meets-a.back premises_a derivation_a (omega arith) peak_a).1 in
+fixed_list_fails idle meets_d meets_a =
+    let d = (meets_d.back premises_d derivation_d (omega arith) peak_d).1 in
+    let a = (meets_a.back premises_a derivation_a (omega arith) peak_a).1 in
     lists_differ (sym d ∙ idle.fixed house_book house_table string_d string_a nines nines ∙ a)
 
 -- one that touches nothing breaks the list of demand 3
@@ -162,13 +162,13 @@ room_f =
     let (stacked, listed) = (premises_room premises_f).needed 7 7 (omega arith) decided_f in
     record { stack_room = stacked; list_room = listed }
 
-module _ {run : Runner} (idle : JudgesAtFirst run) (meets-f : RunMeets3 house_book house_table string_f nines nines (run house_book house_table string_f nines nines)) where
+module _ {run : Runner} (idle : JudgesAtFirst run) (meets_f : RunMeets3 house_book house_table string_f nines nines (run house_book house_table string_f nines nines)) where
   -- F is not derivable and has room, so syntax is the reason
   syntax_f : (run house_book house_table string_f nines nines).answer.number ≡ syntax
   unfolding house_built house_premises premises_f
   syntax_f =
-      ⊎_elim (λ n. absurd (house_not_derivable (leftmost_derives (meets-f.accepts premises_f n).1))) (λ n. n)
-      (meets-f.decided premises_f (premises_room premises_f) room_f)
+      ⊎_elim (λ n. absurd (house_not_derivable (leftmost_derives (meets_f.accepts premises_f n).1))) (λ n. n)
+      (meets_f.decided premises_f (premises_room premises_f) room_f)
 
   -- one that judges at the first token and then only moves its place breaks the place of demand 3, as F shows: F and the other string
   -- have one first token and one length, and so one place; but their longest beginnings differ
@@ -177,7 +177,7 @@ module _ {run : Runner} (idle : JudgesAtFirst run) (meets-f : RunMeets3 house_bo
   judges_at_first_fails meets_other =
       let number = idle.number house_book house_table nines nines 0 (1 ∷ 1 ∷ []) (0 ∷ 0 ∷ []) premises_f premises_other refl in
       let place = idle.place house_book house_table nines nines 0 (1 ∷ 1 ∷ []) (0 ∷ 0 ∷ []) premises_f premises_other refl in
-      let f = meets-f.place premises_f syntax_f in
+      let f = meets_f.place premises_f syntax_f in
       let other = meets_other.place premises_other (sym number ∙ syntax_f) in
       omega (arith, place_determined f house_place, place_determined other other_place, place)
 
@@ -207,10 +207,10 @@ steps_and r adds = adds.sum house_serves admits_and
 -- one that invents steps breaks their equation with listed productions and matched tokens
 pub invents_steps_fails : {run : Runner} → InventsSteps run
     → RunStepsAdd house_book house_table string_in nines nines (run house_book house_table string_in nines nines) → ¬ RunStepsAdd house_book house_table string_and nines nines (run house_book house_table string_and nines nines)
-invents_steps_fails idle adds-in adds-and =
+invents_steps_fails idle adds_in adds_and =
     let one = idle.told house_book house_table string_in nines nines house_serves admits_in in
     let other = idle.told house_book house_table string_and nines nines house_serves admits_and in
-    omega (arith, steps_in _ adds-in, steps_and _ adds-and, one, other)
+    omega (arith, steps_in _ adds_in, steps_and _ adds_and, one, other)
 
 -- there are programs of each kind
 pub untouching_refuses : (a : Answer) → a.number ≢ 0 → RefusesEverything (untouching a)

@@ -42,8 +42,8 @@ module _ {book table tokens : List ℕ} (h : Premises book table tokens) (stack 
   unfolding ran refusal
   syntax_place (stackless e a b c) n = absurd (omega (arith, ap (λ (x : Answer). x.number) a))
   syntax_place (begins k e) n =
-      let (reason, s, why, stopped-at, place) = told_syntax (ends_told e) n in
-      rw place (run_place (premises_exact h) (counted stack) (counted list) (serves_limits h.built.serves).well_formed h.built.serves.useful.useful tokens stopped-at why)
+      let (reason, s, why, stopped_at, place) = told_syntax (ends_told e) n in
+      rw place (run_place (premises_exact h) (counted stack) (counted list) (serves_limits h.built.serves).well_formed h.built.serves.useful.useful tokens stopped_at why)
 
   module _ {ps : List ℕ} (d : Complete grammar ps tokens) where
     -- a derivable string is served, or room is the reason
@@ -54,23 +54,23 @@ module _ {book table tokens : List ℕ} (h : Premises book table tokens) (stack 
       where
         blocked : r.answer.number ≡ syntax → ⊥
         blocked n =
-            let (reason, s, why, stopped-at, place) = told_syntax (ends_told e) n in
-            run_syntax (premises_exact h) (counted stack) (counted list) tokens stopped-at why (leftmost_derives d)
+            let (reason, s, why, stopped_at, place) = told_syntax (ends_told e) n in
+            run_syntax (premises_exact h) (counted stack) (counted list) tokens stopped_at why (leftmost_derives d)
 
     -- and then list or stack is too short for the derivation
     pub room_short : {r : Ran} → RunBegins grammar table tokens stack list r → r.answer.number ≡ room → (counted list < length ps) ⊎ (counted stack < peak d)
     unfolding ran
     room_short (stackless e a b c) n = inr (omega (arith, peak_start d))
     room_short (begins k e) n =
-        let (reason, s, why, stopped-at) = told_room (ends_told e) n in
-        (run_short_iff (premises_exact h) (counted stack) (counted list) d (omega arith)).0 (reason, s, why, stopped-at)
+        let (reason, s, why, stopped_at) = told_room (ends_told e) n in
+        (run_short_iff (premises_exact h) (counted stack) (counted list) d (omega arith)).0 (reason, s, why, stopped_at)
 
     pub short_room_refused : {r : Ran} → RunBegins grammar table tokens stack list r → (counted list < length ps) ⊎ (counted stack < peak d) → r.answer.number ≡ room
     unfolding ran refusal run_answer at_depth
     short_room_refused (stackless e a b c) n = ap (λ (x : Answer). x.number) a
     short_room_refused (begins k e) n =
-        let (reason, s, why, stopped-at) = (run_short_iff (premises_exact h) (counted stack) (counted list) d (omega arith)).1 n in
-        ap (λ (x : Answer). x.number) e.answer ∙ ap (λ (o : Offered). (answered (expected grammar table) o).number) stopped-at ∙ short_room (expected grammar table) s why
+        let (reason, s, why, stopped_at) = (run_short_iff (premises_exact h) (counted stack) (counted list) d (omega arith)).1 n in
+        ap (λ (x : Answer). x.number) e.answer ∙ ap (λ (o : Offered). (answered (expected grammar table) o).number) stopped_at ∙ short_room (expected grammar table) s why
 
     -- with room for the derivation the run is done, lists it, has made one step for each production and each token, and went as high as the
     -- derivation does

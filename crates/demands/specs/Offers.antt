@@ -53,8 +53,8 @@ deepest_of (goes_on {next = next} o rest) = max next.deepest (deepest_of rest)
 -- the answer a, which was lent `stack`: the paper's values of the reply at that depth are the run's answer, and the
 -- list is the same; the run's stack is theirs with every cell 0, but where the book was refused each is as it was lent
 pub record MakesRun (book : List ℕ) (reading : Reading) (table stack : List ℕ) (r : Reply) (deepest : ℕ)
-    (offered-stack offered-list : List ℕ) (a : Answer) (stack' list' : List ℕ) : Type 0 where
+    (offered_stack offered_list : List ℕ) (a : Answer) (stack' list' : List ℕ) : Type 0 where
   pub answer : a ≡ at_depth deepest (values_of (grammar_in book reading) table r)
-  pub list : list' ≡ offered-list
-  pub stack_cleared : reading.answer.number ≡ served → stack' ≡ cleared offered-stack
-  pub stack_kept : reading.answer.number ≢ served → (stack' ≡ stack) × (offered-stack ≡ start_on reading stack)
+  pub list : list' ≡ offered_list
+  pub stack_cleared : reading.answer.number ≡ served → stack' ≡ cleared offered_stack
+  pub stack_kept : reading.answer.number ≢ served → (stack' ≡ stack) × (offered_stack ≡ start_on reading stack)

@@ -35,8 +35,8 @@ use Rattle.first.specs.declared.SetAnswer.{SetAnswer}
 use Rattle.first.specs.Calls.{FirstOutcome}
 use Rattle.follow.specs.Calls.{SetsRoom, no_first, no_follow, SetsOutcome, LookaheadOutcome}
 use Rattle.table.specs.Calls.{BuildOutcome}
-use Rattle.first.specs.Calls as first-calls
-use Rattle.follow.specs.Calls as follow-calls
+use Rattle.first.specs.Calls as first_calls
+use Rattle.follow.specs.Calls as follow_calls
 use Rattle.table.specs.Calls as calls
 use Rattle.checker.specs.Calls.{CheckOutcome}
 use Rattle.checker.specs.Calls as checks
@@ -115,10 +115,10 @@ expected_fits g table (WantsRow A) = filled_fits g table A (g.tokens + 1)
 
 told_fits : {e : Reason → Set} {o : Offered} {a : Answer} → Told e o a → ((r : Reason) → sets.number (e r) < 2 ^ 64) → (final o).matched < 2 ^ 64 → a.steps < 2 ^ 64 → (final o).height < 2 ^ 64 → FitsWords a
 unfolding final done stop at_depth
-told_fits (served s) sets-fit h k d = record { place = omega arith; detail = omega arith; steps = k; expected = omega arith; depth = d }
-told_fits (short_of_list s) sets-fit h k d = record { place = h; detail = omega arith; steps = k; expected = sets-fit FullList; depth = d }
-told_fits (short_of_stack s) sets-fit h k d = record { place = h; detail = omega arith; steps = k; expected = sets-fit FullStack; depth = d }
-told_fits (blocked {r = r} s b) sets-fit h k d = record { place = h; detail = omega arith; steps = k; expected = sets-fit r; depth = d }
+told_fits (served s) sets_fit h k d = record { place = omega arith; detail = omega arith; steps = k; expected = omega arith; depth = d }
+told_fits (short_of_list s) sets_fit h k d = record { place = h; detail = omega arith; steps = k; expected = sets_fit FullList; depth = d }
+told_fits (short_of_stack s) sets_fit h k d = record { place = h; detail = omega arith; steps = k; expected = sets_fit FullStack; depth = d }
+told_fits (blocked {r = r} s b) sets_fit h k d = record { place = h; detail = omega arith; steps = k; expected = sets_fit r; depth = d }
 
 module _ (g : Grammar) (table tokens stack list : List ℕ) where
   ran_counted : Counted (counted stack) (counted list) (final (ran g table tokens stack list))
@@ -175,9 +175,9 @@ judge_fits b (serves s) = done_fits 0 (omega arith)
 
 -- of the sets
 pub sets_fits : {book first follow : List ℕ} {a : Answer} {first' follow' : List ℕ} → length book < 2 ^ 64 → SetsOutcome book first follow a first' follow' → FitsWords a
-sets_fits b (follow-calls.refused r) = refused_fits b r
-sets_fits b (follow-calls.no_room s r) = room_fits (serves_limits s) r
-sets_fits b (follow-calls.served s f x y) = done_fits 0 (omega arith)
+sets_fits b (follow_calls.refused r) = refused_fits b r
+sets_fits b (follow_calls.no_room s r) = room_fits (serves_limits s) r
+sets_fits b (follow_calls.served s f x y) = done_fits 0 (omega arith)
 
 -- of building
 pub build_fits : {book first follow table : List ℕ} {a : Answer} {first' follow' table' : List ℕ} → length book < 2 ^ 64 → BuildOutcome book first follow table a first' follow' table' → FitsWords a
@@ -205,16 +205,16 @@ check_fits b t (checks.passed p) = done_fits 0 (omega arith)
 
 -- of a lookahead
 pub lookahead_fits : {book : List ℕ} {production : ℕ} {r : SetAnswer} → length book < 2 ^ 64 → production < 2 ^ 64 → LookaheadOutcome book production r → FitsWords r.answer
-lookahead_fits b p (follow-calls.refused r k) = rw k.answer (refused_fits b r)
-lookahead_fits b p (follow-calls.no_production s h k) = rw k.answer (refusal_fits 12 p (omega arith))
-lookahead_fits b p (follow-calls.served s rule is leading) = rw is.answer (done_fits 0 (omega arith))
+lookahead_fits b p (follow_calls.refused r k) = rw k.answer (refused_fits b r)
+lookahead_fits b p (follow_calls.no_production s h k) = rw k.answer (refusal_fits 12 p (omega arith))
+lookahead_fits b p (follow_calls.served s rule is leading) = rw is.answer (done_fits 0 (omega arith))
 
 -- and of FIRST of a symbol string
 pub first_fits : {book symbols : List ℕ} {r : SetAnswer} → length book < 2 ^ 64 → FirstOutcome book symbols r → FitsWords r.answer
-first_fits b (first-calls.refused r k) = rw k.answer (refused_fits b r)
-first_fits b (first-calls.too_long s h k) = rw k.answer (refusal_fits 4 (omega arith) (omega arith))
-first_fits b (first-calls.strange s h f k) = rw k.answer (refusal_fits 5 (omega (arith, f.inside)) (omega arith))
-first_fits b (first-calls.served s h e is leading) = rw is.answer (done_fits 0 (omega arith))
+first_fits b (first_calls.refused r k) = rw k.answer (refused_fits b r)
+first_fits b (first_calls.too_long s h k) = rw k.answer (refusal_fits 4 (omega arith) (omega arith))
+first_fits b (first_calls.strange s h f k) = rw k.answer (refusal_fits 5 (omega (arith, f.inside)) (omega arith))
+first_fits b (first_calls.served s h e is leading) = rw is.answer (done_fits 0 (omega arith))
 
 pub patterns_fits : {patterns lengths : List ℕ} {a : Answer}
     → length patterns < 2 ^ 64
@@ -250,10 +250,10 @@ pub cut_fits : {patterns lengths line machine tokens machine' tokens' : List ℕ
     → length line < 2 ^ 64
     → CutOutcome patterns lengths line machine tokens a machine' tokens'
     → FitsWords a
-cut_fits short line-short (cuts.refused r) = patterns_fits short (patterns.refused r)
-cut_fits short line-short (cuts.too_many accept many) = refusal_fits 16 (omega arith) (omega arith)
-cut_fits short line-short (cuts.no_cells accept f few lacking) = refusal_fits 7 (omega arith) (omega arith)
-cut_fits short line-short (cuts.cut accept f few fits c) = line_fits line-short c
+cut_fits short line_short (cuts.refused r) = patterns_fits short (patterns.refused r)
+cut_fits short line_short (cuts.too_many accept many) = refusal_fits 16 (omega arith) (omega arith)
+cut_fits short line_short (cuts.no_cells accept f few lacking) = refusal_fits 7 (omega arith) (omega arith)
+cut_fits short line_short (cuts.cut accept f few fits c) = line_fits line_short c
 
 pub cut_with_fits : {machine line tokens ends tokens' ends' : List ℕ} {a : Answer}
     → length line < 2 ^ 64

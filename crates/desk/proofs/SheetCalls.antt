@@ -45,42 +45,42 @@ read_sheet_fits s (calls.booked g told limits copied) =
     copied_fits (omega (arith, longest_book_lem (bytes_of g) (read_written limits))) copied
 
 -- a sheet that was read and written again
-pub call_sheet_book_sheet : {sheet bookRoom sheetRoom book text answer again : List ℕ} {n m : ℕ} {x y : List ℕ}
+pub call_sheet_book_sheet : {sheet book_room sheet_room book text answer again : List ℕ} {n m : ℕ} {x y : List ℕ}
     → Lent answer
     → Lent again
-    → ReadSheetCall sheet bookRoom answer n book x
+    → ReadSheetCall sheet book_room answer n book x
     → n ≡ served
-    → length sheet ≤ length sheetRoom
-    → WriteSheetCall (take (answer_from n x).steps book) sheetRoom again m text y
-    → (m ≡ served) × (text ≡ over sheet sheetRoom) × (y ≡ over (answer_bytes (done (length sheet))) again)
+    → length sheet ≤ length sheet_room
+    → WriteSheetCall (take (answer_from n x).steps book) sheet_room again m text y
+    → (m ≡ served) × (text ≡ over sheet sheet_room) × (y ≡ over (answer_bytes (done (length sheet))) again)
 unfolding done
-call_sheet_book_sheet {sheet} {bookRoom} {sheetRoom} {book} {text} {answer} {again} {n} {m} {x} {y} lent lent_again c well enough d =
+call_sheet_book_sheet {sheet} {book_room} {sheet_room} {book} {text} {answer} {again} {n} {m} {x} {y} lent lent_again c well enough d =
     let told = called_answer lent c.call in
     let back = called_answer lent_again d.call in
     let fine : told.told.number ≡ 0 = sym told.returned ∙ well in
     let steps : (answer_from n x).steps ≡ told.told.steps = (answer_read told).steps (omega (arith, read_steps told.outcome fine)) in
-    let outcome : WriteOutcome (take told.told.steps book) sheetRoom back.told text =
-    subst (λ (k : ℕ). WriteOutcome (take k book) sheetRoom back.told text) steps back.outcome in
+    let outcome : WriteOutcome (take told.told.steps book) sheet_room back.told text =
+    subst (λ (k : ℕ). WriteOutcome (take k book) sheet_room back.told text) steps back.outcome in
     let (same, cells) = sheet_book_sheet told.outcome fine enough outcome in
     (back.returned ∙ ap (λ (a : Answer). a.number) same, cells, back.written ∙ ap (λ (a : Answer). over (answer_bytes a) again) same)
 
 -- a book that was written and read again
-pub call_book_sheet_book : {book sheetRoom bookRoom sheet bytes answer again : List ℕ} {n m : ℕ} {x y : List ℕ}
+pub call_book_sheet_book : {book sheet_room book_room sheet bytes answer again : List ℕ} {n m : ℕ} {x y : List ℕ}
     → Lent answer
     → Lent again
-    → WriteSheetCall book sheetRoom answer n sheet x
+    → WriteSheetCall book sheet_room answer n sheet x
     → n ≡ served
-    → length book ≤ length bookRoom
-    → ReadSheetCall (take (answer_from n x).steps sheet) bookRoom again m bytes y
-    → (m ≡ served) × (bytes ≡ over book bookRoom) × (y ≡ over (answer_bytes (done (length book))) again)
+    → length book ≤ length book_room
+    → ReadSheetCall (take (answer_from n x).steps sheet) book_room again m bytes y
+    → (m ≡ served) × (bytes ≡ over book book_room) × (y ≡ over (answer_bytes (done (length book))) again)
 unfolding done
-call_book_sheet_book {book} {sheetRoom} {bookRoom} {sheet} {bytes} {answer} {again} {n} {m} {x} {y} lent lent_again c well enough d =
+call_book_sheet_book {book} {sheet_room} {book_room} {sheet} {bytes} {answer} {again} {n} {m} {x} {y} lent lent_again c well enough d =
     let told = called_answer lent c.call in
     let back = called_answer lent_again d.call in
     let fine : told.told.number ≡ 0 = sym told.returned ∙ well in
     let steps : (answer_from n x).steps ≡ told.told.steps =
     (answer_read told).steps (omega (arith, write_steps told.outcome fine, longest_counted)) in
-    let outcome : ReadOutcome (take told.told.steps sheet) bookRoom back.told bytes =
-    subst (λ (k : ℕ). ReadOutcome (take k sheet) bookRoom back.told bytes) steps back.outcome in
+    let outcome : ReadOutcome (take told.told.steps sheet) book_room back.told bytes =
+    subst (λ (k : ℕ). ReadOutcome (take k sheet) book_room back.told bytes) steps back.outcome in
     let (same, cells) = book_sheet_book told.outcome fine enough outcome in
     (back.returned ∙ ap (λ (a : Answer). a.number) same, cells, back.written ∙ ap (λ (a : Answer). over (answer_bytes a) again) same)

@@ -247,25 +247,25 @@ pub read_sheet_call_exact : {sheet book answer : List ℕ} {n : ℕ} {s x : List
 read_sheet_call_exact w lent c = called_exact (λ a o. read_sheet_fits w o) lent c.call
 
 -- over and back by calls: a sheet that is read, and the bytes that it gave written again, with room for it
-pub desk_sheet_book_sheet : {sheet bookRoom sheetRoom book text answer again : List ℕ} {n m : ℕ} {x y : List ℕ}
+pub desk_sheet_book_sheet : {sheet book_room sheet_room book text answer again : List ℕ} {n m : ℕ} {x y : List ℕ}
     → Lent answer
     → Lent again
-    → ReadSheetCall sheet bookRoom answer n book x
+    → ReadSheetCall sheet book_room answer n book x
     → n ≡ served
-    → length sheet ≤ length sheetRoom
-    → WriteSheetCall (take (answer_from n x).steps book) sheetRoom again m text y
-    → (m ≡ served) × (text ≡ over sheet sheetRoom) × (y ≡ over (answer_bytes (done (length sheet))) again)
+    → length sheet ≤ length sheet_room
+    → WriteSheetCall (take (answer_from n x).steps book) sheet_room again m text y
+    → (m ≡ served) × (text ≡ over sheet sheet_room) × (y ≡ over (answer_bytes (done (length sheet))) again)
 desk_sheet_book_sheet = call_sheet_book_sheet
 
 -- and a book that is written as a sheet and read again
-pub desk_book_sheet_book : {book sheetRoom bookRoom sheet bytes answer again : List ℕ} {n m : ℕ} {x y : List ℕ}
+pub desk_book_sheet_book : {book sheet_room book_room sheet bytes answer again : List ℕ} {n m : ℕ} {x y : List ℕ}
     → Lent answer
     → Lent again
-    → WriteSheetCall book sheetRoom answer n sheet x
+    → WriteSheetCall book sheet_room answer n sheet x
     → n ≡ served
-    → length book ≤ length bookRoom
-    → ReadSheetCall (take (answer_from n x).steps sheet) bookRoom again m bytes y
-    → (m ≡ served) × (bytes ≡ over book bookRoom) × (y ≡ over (answer_bytes (done (length book))) again)
+    → length book ≤ length book_room
+    → ReadSheetCall (take (answer_from n x).steps sheet) book_room again m bytes y
+    → (m ≡ served) × (bytes ≡ over book book_room) × (y ≡ over (answer_bytes (done (length book))) again)
 desk_book_sheet_book = call_book_sheet_book
 
 -- a check that returns 0 had room for its answer
@@ -414,9 +414,9 @@ module _ {answer : List ℕ} (lent : Lent answer) where
       told.outcome in
       record {
         sum = λ {g} serves short k.
-            let told-sum = adds.sum serves short k in
+            let told_sum = adds.sum serves short k in
             let spent = expand_steps g (counted stack) (counted output) list in
-            read.steps (omega (arith, spent.used, spent.written)) ∙ told-sum;
+            read.steps (omega (arith, spent.used, spent.written)) ∙ told_sum;
         written = adds.written;
         none = λ m. let zero = adds.none m in read.steps (omega arith) ∙ zero;
       }

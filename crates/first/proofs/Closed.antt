@@ -108,7 +108,7 @@ module _ {g : Grammar} where
           → {α : Form}
           → Every (Known g) α
           → Covers mark (Join (FirstOf g) K α) (trail fs k α)
-      trail_of_first mark at-token h {α} known = trail_covers limits (first_proper limits.well_formed) fs first_covers mark at-token h α known
+      trail_of_first mark at_token h {α} known = trail_covers limits (first_proper limits.well_formed) fs first_covers mark at_token h α known
 
       pub known_fits : {α : Form} → Every (Known g) α → FittingForm fs α
       unfolding symbol_set

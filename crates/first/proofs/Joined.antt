@@ -82,5 +82,5 @@ module _ {g : Grammar} (limits : Limits g) where
       → IsSet x (First g α)
       → IsSet y (First g β)
       → IsSet (joined empty_string x y) (First g (α ++ β))
-  first_joined α β left x-is y-is =
-      exactly_alike (λ k. (whole_at α β left k, parts_at α β left k)) (joined_exactly empty_string x-is y-is)
+  first_joined α β left x_is y_is =
+      exactly_alike (λ k. (whole_at α β left k, parts_at α β left k)) (joined_exactly empty_string x_is y_is)

@@ -139,7 +139,7 @@ module _ {book xs ys : List ℕ} {r s t : SetAnswer}
       let c = served_first q e in
       let meaning = symbol_of c.grammar.tokens c.grammar.nonterminals in
       let parts = spells_parts meaning xs ys c.form c.spelled in
-      let (left-fits, right-fits) = length_parts xs ys in (
+      let (left_fits, right_fits) = length_parts xs ys in (
         set_done (first_served {α = parts.left} c.serves (omega arith) parts.spells_left o),
         set_done (first_served {α = parts.right} c.serves (omega arith) parts.spells_right p),
       )

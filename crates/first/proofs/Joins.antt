@@ -50,12 +50,12 @@ module _ {g : Grammar} (limits : Limits g) {F : Family} (family : ProperFamily g
 
   -- each member of the trail has its column in the join
   module _ (words : (A : ℕ) → A < g.nonterminals → Reasons merged (F A) (get_or fs A 0)) {K : Column → Type 0} {k : ℕ}
-      (mark : Column → Member) (at-token : (t : ℕ) → place_of (mark (token t)) ≡ t) (behind : Reasons mark K k) where
+      (mark : Column → Member) (at_token : (t : ℕ) → place_of (mark (token t)) ≡ t) (behind : Reasons mark K k) where
     begun : {A : ℕ} (α : Form) {j : ℕ} → Reason merged (F A) j → j ≢ empty_string → Reason mark (Join F K (Nonterminal A ∷ α)) j
     begun {A} α {j} r d = go r.column r.place r.holds
       where
         go : (c : Column) → place_of (merged c) ≡ j → F A c → Reason mark (Join F K (Nonterminal A ∷ α)) j
-        go (token t) e h = record { column = token t; place = at-token t ∙ e; holds = begins h }
+        go (token t) e h = record { column = token t; place = at_token t ∙ e; holds = begins h }
         go endmark e h = absurd (d (sym e))
 
     vanished : {A : ℕ} → A < g.nonterminals → Reason merged (F A) empty_string → F A endmark
@@ -72,7 +72,7 @@ module _ {g : Grammar} (limits : Limits g) {F : Family} (family : ProperFamily g
     unfolding trail symbol_set
     trail_reason [] nothing j m = let r : Reason mark K j = behind.reason j m in record { column = r.column; place = r.place; holds = over r.holds }
     trail_reason (Token t ∷ α) (each (known_token h) rest) j m =
-        ⊎_elim (λ l. record { column = token t; place = at-token t ∙ sym (only_one j t l.0); holds = here }) (λ r. absurd (omega (arith, limits.tokens_fit, only_one empty_string t r.0)))
+        ⊎_elim (λ l. record { column = token t; place = at_token t ∙ sym (only_one j t l.0); holds = here }) (λ r. absurd (omega (arith, limits.tokens_fit, only_one empty_string t r.0)))
         (join_cases empty_string j (only t) (trail fs k α) (rw (token_set_lem {t = t} (omega (arith, limits.tokens_fit))) at m))
     trail_reason (Nonterminal A ∷ α) (each (known_nonterminal a) rest) j m =
         ⊎_elim (λ l. begun α ((words A a).reason j l.0) l.1) (λ r. passed (vanished a ((words A a).reason empty_string r.0)) (trail_reason α rest j r.1))
@@ -83,14 +83,14 @@ module _ {g : Grammar} (limits : Limits g) {F : Family} (family : ProperFamily g
 
   -- each column of the join has its member in the trail
   module _ (words : (A : ℕ) → A < g.nonterminals → Covers merged (F A) (get_or fs A 0)) {K : Column → Type 0} {k : ℕ}
-      (mark : Column → Member) (at-token : (t : ℕ) → place_of (mark (token t)) ≡ t) (behind : Covers mark K k) where
+      (mark : Column → Member) (at_token : (t : ℕ) → place_of (mark (token t)) ≡ t) (behind : Covers mark K k) where
     trail_has : {α : Form} {c : Column} → Every (Known g) α → Join F K α c → member (place_of (mark c)) (trail fs k α) ≡ true
     unfolding trail symbol_set
     trail_has h (over {c = c} i) = behind.covered c i
     trail_has (each (known_token h) rest) (here {t = t} {α = α}) =
-        rw (at-token, token_set_lem {t = t} (omega (arith, limits.tokens_fit))) (join_keep empty_string t (only t) (trail fs k α) (only_there t) (omega (arith, limits.tokens_fit)))
+        rw (at_token, token_set_lem {t = t} (omega (arith, limits.tokens_fit))) (join_keep empty_string t (only t) (trail fs k α) (only_there t) (omega (arith, limits.tokens_fit)))
     trail_has (each (known_nonterminal a) rest) (begins {A = A} {t = t} {α = α} f) =
-        rw at-token (join_keep empty_string t (get_or fs A 0) (trail fs k α) ((words A a).covered (token t) f) (token_place a f))
+        rw at_token (join_keep empty_string t (get_or fs A 0) (trail fs k α) ((words A a).covered (token t) f) (token_place a f))
     trail_has (each (known_nonterminal a) rest) (past {A = A} {α = α} {c = c} f j) =
         join_skip empty_string (place_of (mark c)) (get_or fs A 0) (trail fs k α) ((words A a).covered endmark f) (trail_has rest j)
 

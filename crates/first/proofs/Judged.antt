@@ -14,7 +14,7 @@ use Rattle.answers.specs.Checks.{Checked, passes, stops, goes}
 use Rattle.answers.proofs.Promise.{Refusing}
 use Rattle.book.specs.declared.Reading.{Reading}
 use Rattle.reader.specs.Book.{Limits}
-use Rattle.book.specs.Judging.{refusing, index_of, Refuses, Judged, refuses as refuses-book, serves as serves-grammar}
+use Rattle.book.specs.Judging.{refusing, index_of, Refuses, Judged, refuses as refuses_book, serves as serves_grammar}
 use Rattle.book.proofs.Promise.{judged_done, judged_refused, Served, served, serves_limits, refuses_number}
 use Rattle.first.specs.Forms.{Readable, Indexes, Given}
 use Rattle.first.proofs.Spelled.{indexes_readable}
@@ -58,8 +58,8 @@ pub judged_readable : {book : List ℕ} {reading : Reading}
     → Judged book reading
     → Readable book reading.places reading.productions × (reading.productions ≤ most_productions)
 unfolding refusing
-judged_readable (refuses-book r) = (record { listed = omega arith; each = λ p none. absurd (omega arith) }, omega arith)
-judged_readable {book} (serves-grammar {g = g} s) = let given : Given book (index_of g) = record { grammar = g; serves = s; index = refl } in (given_readable given, given_count given)
+judged_readable (refuses_book r) = (record { listed = omega arith; each = λ p none. absurd (omega arith) }, omega arith)
+judged_readable {book} (serves_grammar {g = g} s) = let given : Given book (index_of g) = record { grammar = g; serves = s; index = refl } in (given_readable given, given_count given)
 
 -- the grammar of a book that is done after a check, and what the check shows
 pub record Ready (book : List ℕ) (reading : Reading) (Good : Type 0) (a : Answer) : Type 0 where

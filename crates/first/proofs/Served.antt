@@ -93,17 +93,17 @@ module _ {book : List ℕ} {reading : Reading} {symbols : List ℕ} {a : Answer}
       })
 
   pub first_refused : {r : SetAnswer} → a.number ≢ 0 → NoSet a r → FirstOutcome book symbols r
-  first_refused {r} d no-set = go (judged_checked judged checked) d no-set
+  first_refused {r} d no_set = go (judged_checked judged checked) d no_set
     where
       go : {b : Answer}
           → CheckedBook book reading (Unspelled reading.tokens reading.nonterminals symbols) (SymbolString reading.tokens reading.nonterminals symbols) b
           → b.number ≢ 0
           → NoSet b r
           → FirstOutcome book symbols r
-      go (refuses x) d no-set = calls.refused x no-set
-      go (stopped given (too_long l)) d no-set = calls.too_long given.serves l no-set
-      go (stopped given (strange short inside s)) d no-set = calls.strange given.serves short (stranger_first given inside s) no-set
-      go (ready x) d no-set = absurd (ready_number x d)
+      go (refuses x) d no_set = calls.refused x no_set
+      go (stopped given (too_long l)) d no_set = calls.too_long given.serves l no_set
+      go (stopped given (strange short inside s)) d no_set = calls.strange given.serves short (stranger_first given inside s) no_set
+      go (ready x) d no_set = absurd (ready_number x d)
 
 module _ {book : List ℕ} {reading : Reading} {symbols : List ℕ} {a : Answer} (x : Ready book reading (SymbolString reading.tokens reading.nonterminals symbols) a) where
   ready_spells : Spells x.given.grammar symbols

@@ -59,7 +59,7 @@ module _ (mark : Column → Member) where
   row_among fam A c h = any_of (λ d. same d c) (row_every (In fam) A fam (in_self fam)) (λ d i s. subst (In fam A) (same_is d c s) i) h
 
   module _ (g : Grammar) (fam : List Entry) {P : ℕ → Member → Type 0}
-      (exact : (A : ℕ) (c : Column) → In fam A c ↔ P A (mark c)) (as-column : (A k : ℕ) → At (P A) k → Reason mark (λ c. P A (mark c)) k) where
+      (exact : (A : ℕ) (c : Column) → In fam A c ↔ P A (mark c)) (as_column : (A k : ℕ) → At (P A) k → Reason mark (λ c. P A (mark c)) k) where
     row_number_set : (A : ℕ)
         → Every (λ (e : Entry). place_of (mark e.col) < width) fam
         → Exactly width (number_of (row_of A fam)) (At (P A))
@@ -70,7 +70,7 @@ module _ (mark : Column → Member) where
               let r = number_reason (row_of A fam) k m in
               record { member = mark r.column; place = r.place; in_set = (exact A r.column).0 (row_among fam A r.column r.holds) };
           complete = λ k i.
-              let r = as-column A k i in
+              let r = as_column A k i in
               subst (λ (j : ℕ). member j (number_of (row_of A fam)) ≡ true) r.place (number_has (row_of A fam) r.column (in_row A r.column fam ((exact A r.column).1 r.holds)));
         }
 

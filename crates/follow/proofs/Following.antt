@@ -365,9 +365,9 @@ module _ (book places : List ℕ) (count start : ℕ) (fs : List ℕ) where
   follow_found {from} {cells} tails round same = record { sized = round.sized; found = found }
     where
       found : (g : Grammar) → Indexes book places count g → start ≡ g.start → FirstAt g fs → FollowFamily g cells
-      found g index started exact-first =
-          let s = round.so_far g index started exact-first in
-          let exact = follow_words_exact (indexes_limits index) exact-first (λ A a. round.fits.each A) s.sound (follow_closed from index started tails round.sized s same) in
+      found g index started exact_first =
+          let s = round.so_far g index started exact_first in
+          let exact = follow_words_exact (indexes_limits index) exact_first (λ A a. round.fits.each A) s.sound (follow_closed from index started tails round.sized s same) in
           record { sized = round.sized; each = exact.each; beyond = s.ends.beyond }
 
   -- so they are after a pass that changed nothing

@@ -48,5 +48,5 @@ module _ {g : Grammar} (limits : Limits g) {p A : ℕ} {α : Form} (rule : Rule 
       → IsSet x (First g α)
       → IsSet y (Follow g A)
       → IsSet (joined empty_string x y) (Lookahead g A α)
-  lookahead_joined x-is y-is =
-      exactly_alike (λ k. (ahead_at k, parts_at k)) (joined_exactly empty_string x-is y-is)
+  lookahead_joined x_is y_is =
+      exactly_alike (λ k. (ahead_at k, parts_at k)) (joined_exactly empty_string x_is y_is)

@@ -184,16 +184,16 @@ module _ {book : List ℕ} {reading : Reading} {production : ℕ} {a : Answer} (
   numbered_ready = checked_ready (because_refusing (λ e. omega arith)) (judged_checked judged checked)
 
   pub lookahead_refused : {r : SetAnswer} → a.number ≢ 0 → NoSet a r → LookaheadOutcome book production r
-  lookahead_refused {r} d no-set = go (judged_checked judged checked) d no-set
+  lookahead_refused {r} d no_set = go (judged_checked judged checked) d no_set
     where
       go : {b : Answer}
           → CheckedBook book reading (Unnumbered production reading.productions) (production < reading.productions) b
           → b.number ≢ 0
           → NoSet b r
           → LookaheadOutcome book production r
-      go (refuses x) d no-set = calls.refused x no-set
-      go (stopped given (because l)) d no-set = calls.no_production given.serves (rw (given_served given).productions at l) no-set
-      go (ready x) d no-set = absurd (ready_number x d)
+      go (refuses x) d no_set = calls.refused x no_set
+      go (stopped given (because l)) d no_set = calls.no_production given.serves (rw (given_served given).productions at l) no_set
+      go (ready x) d no_set = absurd (ready_number x d)
 
 pub lookahead_served : {book : List ℕ} {reading : Reading} {production : ℕ} {a : Answer} {looked : Trail} {firsts follows : List ℕ}
     → SetsFound book reading firsts follows

@@ -201,8 +201,8 @@ module _ {g : Grammar} where
     can_come_since x s (match r) e stop c = let bad : ◌≡◌ {A = ℕ} 0 1 = cc in absurd (omega arith)
     can_come_since x {z} s (expand {p = p} {A = A} {α = α} {β = β} {γ = γ} {ps = ps} d k r) e stop c =
         let quiet : Run g cell z (γ ++ α) [] ps β = rw e at r in
-        let here-cell : cell A (front z) ≡ some p = rw e at d in
-        let v : First g γ empty = stuck_vanishes exact x α s here-cell k quiet stop in
+        let here_cell : cell A (front z) ≡ some p = rw e at d in
+        let v : First g γ empty = stuck_vanishes exact x α s here_cell k quiet stop in
         seen_more k (can_come_past k v) (can_come_since x (sentential_expand x α s k) r e stop c)
 
     module _ (productive : (A : ℕ) → Reachable g A → Productive g A) {u ps : List ℕ} {σ : Form} (h : ConsumesAll g cell (Nonterminal g.start ∷ []) u ps σ) where

@@ -1,4 +1,4 @@
--- No listing is longer than `mostListed`, line by line.
+-- No listing is longer than `most_listed`, line by line.
 use mathlib.Core.Path.{◌≡◌, refl, sym}
 use mathlib.Core.Bool.{Bool, true, false}
 use mathlib.Core.List.{List, [], ◌∷◌, ◌++◌}

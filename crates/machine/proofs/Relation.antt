@@ -10,7 +10,7 @@ use Rattle.grammar.specs.declared.Symbol.TheVariants.{Nonterminal}
 use Rattle.grammar.specs.Grammar.{Form, spelled, Grammar, Column, Rule, leftmost, LeftmostSteps, stay, next, Cell, only}
 use Rattle.grammar.specs.Grammar as textbook
 use Rattle.grammar.specs.Machine.{front, Exact, Run}
-use Rattle.grammar.specs.Machine as textbook-machine
+use Rattle.grammar.specs.Machine as textbook_machine
 use Rattle.grammar.proofs.Leftmost.{spelled_append}
 use Rattle.machine.specs.Machine.{State, begun, popped, replaced, run_from}
 use Rattle.machine.specs.Room.{right_of}
@@ -53,9 +53,9 @@ module _ {g : Grammar} {cell : ℕ → Column → Option ℕ} where
       go A c p (textbook.vacant none_claims) e = let bad : ◌≡◌ {A = ℕ} 0 1 = cc in absurd (omega arith)
 
   chain_from : {z : List ℕ} (x : List ℕ) {α β : Form} {u ps : List ℕ} → Run g cell z α u ps β → LeftmostSteps g (spelled x ++ α) ps (spelled x ++ (spelled u ++ β))
-  chain_from x textbook-machine.here = stay
-  chain_from x (textbook-machine.match {t = t} r) = simp (spelled_append, append_assoc) at (chain_from (x ++ (t ∷ [])) r)
-  chain_from x (textbook-machine.expand {α = α} c k r) = next (leftmost x α k) (chain_from x r)
+  chain_from x textbook_machine.here = stay
+  chain_from x (textbook_machine.match {t = t} r) = simp (spelled_append, append_assoc) at (chain_from (x ++ (t ∷ [])) r)
+  chain_from x (textbook_machine.expand {α = α} c k r) = next (leftmost x α k) (chain_from x r)
 
   -- the productions that are listed, applied leftmost, give the tokens read with the stack behind them
   pub reached_form : {w : List ℕ} {s : State} → Reached g cell w s → LeftmostSteps g (Nonterminal g.start ∷ []) s.listed (spelled (take s.matched w) ++ s.stack)
@@ -73,7 +73,7 @@ module _ {g : Grammar} {cell : ℕ → Column → Option ℕ} where
     -- each move of a walk is a move of the textbook's machine
     pub walk_reads : {z : List ℕ} {e : State} {w : List ℕ} {s : State} → Walk (right_of g) cell room cells z e w s → Reads g cell w s z e
     unfolding popped replaced
-    walk_reads {e = e} here = record { read = []; new = []; string = refl; lists = sym (append-nil e.listed); matches = omega arith; run = textbook-machine.here }
+    walk_reads {e = e} here = record { read = []; new = []; string = refl; lists = sym (append-nil e.listed); matches = omega arith; run = textbook_machine.here }
     walk_reads {z} {e = e} (match {t = t} f r) =
         let k = walk_reads r in
         record {
@@ -82,7 +82,7 @@ module _ {g : Grammar} {cell : ℕ → Column → Option ℕ} where
           string = ap (λ (x : List ℕ). t ∷ x) k.string;
           lists = k.lists;
           matches = omega arith;
-          run = subst (λ (σ : Form). Run g cell z σ (t ∷ k.read) k.new e.stack) (sym f) (textbook-machine.match k.run);
+          run = subst (λ (σ : Form). Run g cell z σ (t ∷ k.read) k.new e.stack) (sym f) (textbook_machine.match k.run);
         }
     walk_reads {z} {e = e} (expand {p = p} {A = A} {w = w} {s = s} f c h m r) =
         let k = walk_reads r in
@@ -93,7 +93,7 @@ module _ {g : Grammar} {cell : ℕ → Column → Option ℕ} where
           string = k.string;
           lists = k.lists ∙ append_assoc s.listed (p ∷ []) k.new;
           matches = k.matches;
-          run = subst (λ (σ : Form). Run g cell z σ k.read (p ∷ k.new) e.stack) (sym f) (textbook-machine.expand at (rows.rows A (front w) p c) k.run);
+          run = subst (λ (σ : Form). Run g cell z σ k.read (p ∷ k.new) e.stack) (sym f) (textbook_machine.expand at (rows.rows A (front w) p c) k.run);
         }
 
     pub walk_reached : {z w : List ℕ} {e : State} → Walk (right_of g) cell room cells z e w (begun g.start) → Reached g cell w e

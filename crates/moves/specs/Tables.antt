@@ -1,5 +1,5 @@
 -- The two tables of a list of patterns, and where a set of points leads by a byte. A set of points is a number: its
--- places below `mostPositions` are positions, those from there on the ends of patterns. Document 02, W3.
+-- places below `most_positions` are positions, those from there on the ends of patterns. Document 02, W3.
 use Rattle.std.specs.Prelude.{◌≡◌, true, List, ℕ, ◌*◌, length}
 use Rattle.sets.specs.Sets.{member, Exactly}
 use Rattle.sets.specs.Words.{places, AreWords}

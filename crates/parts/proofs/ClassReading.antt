@@ -13,7 +13,7 @@ use Rattle.pattern.specs.Pattern.{Range, Class, one}
 use Rattle.pattern.specs.Marks.{open_class, close_class, backslash, dash, special_in_class, among}
 use Rattle.pattern.specs.Written.{range, any_number, at_least_once, at_most_once}
 use Rattle.pattern.specs.Kinds.{Kind, kind_in, kind_of}
-use Rattle.pattern.specs.Reader.{Begun, Pending, outside, in_class, in_range, standing, behind-backslash, settled, elements, class_read, range_read, marked, moved, move, ended, refused, read_from, says}
+use Rattle.pattern.specs.Reader.{Begun, Pending, outside, in_class, in_range, standing, behind_backslash, settled, elements, class_read, range_read, marked, moved, move, ended, refused, read_from, says}
 use Rattle.pattern.proofs.Promise.{says_moves, says_stops, says_short, says_kind, says_no_kind, plain_kind}
 use Rattle.pattern.proofs.Promise.{KindIs, plain_is, dash_is, backslash_is, close_class_is, open_class_is, open_group_is, close_group_is, bar_is, sign_is, kind_is, impossible}
 use Rattle.parts.specs.Letters.{LetterIs, letter_plain, letter_escaped, letter_mark, letter_missing, letter_cut_off}
@@ -70,7 +70,7 @@ module _ (room : ℕ) (around : List Begun) (a : Begun) where
 
 module _ (text : List ℕ) (room : ℕ) (around : List Begun) (a : Begun) (at : ℕ) where
   escape_opens : (p : Pending) → get_or text at 0 ≡ backslash
-      → says text (standing room around a p) at ≡ says text (behind-backslash room around a p) (suc at)
+      → says text (standing room around a p) at ≡ says text (behind_backslash room around a p) (suc at)
   unfolding moved
   escape_opens p here =
       says_kind text room around a p at (mark_inside text at here) (backslash_kind (get_or text at 0) here) refl
@@ -79,7 +79,7 @@ module _ (text : List ℕ) (room : ℕ) (around : List Begun) (a : Begun) (at : 
       → says text (standing room around a p) at ≡ refused (suc at)
   unfolding ended
   escape_stops p here end =
-      escape_opens p here ∙ says_short text (behind-backslash room around a p) (suc at) end refl
+      escape_opens p here ∙ says_short text (behind_backslash room around a p) (suc at) end refl
 
   pub class_opens : get_or text at 0 ≡ open_class
       → says text (standing room around a (outside none)) at
@@ -105,7 +105,7 @@ module _ (text : List ℕ) (room : ℕ) (around : List Begun) (a : Begun) (at : 
         says_kind text room around a (in_class c none) at inside (plain_kind (get_or text at 0) plain) refl
     class_letter_passes (letter_escaped here inside) =
         escape_opens (in_class c none) here
-        ∙ says_moves text (behind-backslash room around a (in_class c none)) (suc at) inside refl
+        ∙ says_moves text (behind_backslash room around a (in_class c none)) (suc at) inside refl
 
     pub class_letter_stops : {next byte : ℕ}
         → MayGoOn text at c
@@ -142,7 +142,7 @@ module _ (text : List ℕ) (room : ℕ) (around : List Begun) (a : Begun) (at : 
           (range_rises room around a c rises)
       range_passes rises (letter_escaped here inside) =
           escape_opens (in_range c low) here
-          ∙ says_moves text (behind-backslash room around a (in_range c low)) (suc at) inside
+          ∙ says_moves text (behind_backslash room around a (in_range c low)) (suc at) inside
           (range_rises room around a c rises)
 
       -- a range that falls stops at its upper end's own byte
@@ -156,7 +156,7 @@ module _ (text : List ℕ) (room : ℕ) (around : List Begun) (a : Begun) (at : 
           (range_falls room around a c falls)
       range_breaks falls (letter_escaped here inside) =
           escape_opens (in_range c low) here
-          ∙ says_stops text (behind-backslash room around a (in_range c low)) (suc at) inside
+          ∙ says_stops text (behind_backslash room around a (in_range c low)) (suc at) inside
           (range_falls room around a c falls)
 
       pub range_stops : {next byte : ℕ}
@@ -175,8 +175,8 @@ module _ (room : ℕ) (around : List Begun) (a : Begun) (c : Class) (low : ℕ) 
   settled_then = in_class (c ++ (range low low ∷ [])) none
 
   escape_settles : (at : ℕ) (v : List ℕ)
-      → read_from (behind-backslash room around a (in_class c (some low))) at v
-      ≡ read_from (behind-backslash room around a settled_then) at v
+      → read_from (behind_backslash room around a (in_class c (some low))) at v
+      ≡ read_from (behind_backslash room around a settled_then) at v
   unfolding read_from ended move moved elements
   escape_settles at [] = refl
   escape_settles at (b ∷ v) = refl

@@ -11,8 +11,8 @@ use lib.ListN.{length, get_or}
 use Rattle.pattern.specs.Pattern.{one}
 use Rattle.pattern.specs.Marks.{open_group, close_group, open_class, bar, backslash, special, among}
 use Rattle.pattern.specs.Written.{range}
-use Rattle.pattern.specs.Kinds.{is-backslash, kind_in, kind_of}
-use Rattle.pattern.specs.Reader.{Begun, outside, standing, behind-backslash, settled, alternation_of, closed, divided, byte_read, marked, moved, move, ended, refused, says}
+use Rattle.pattern.specs.Kinds.{is_backslash, kind_in, kind_of}
+use Rattle.pattern.specs.Reader.{Begun, outside, standing, behind_backslash, settled, alternation_of, closed, divided, byte_read, marked, moved, move, ended, refused, says}
 use Rattle.pattern.proofs.Promise.{says_moves, says_stops, says_short, says_kind, says_no_kind, move_plain, move_special}
 use Rattle.parts.specs.Letters.{LetterIs, letter_plain, letter_escaped, letter_mark, letter_missing, letter_cut_off}
 use Rattle.parts.specs.Reading.{MayStart, nothing_before, item_follows}
@@ -34,14 +34,14 @@ unfolding ended
 not_ended room [] a e = nothing_begun_lem a e
 not_ended room (f ∷ around) a e = refl
 
-pub backslash_kind : (b : ℕ) → b ≡ backslash → kind_of b ≡ is-backslash
+pub backslash_kind : (b : ℕ) → b ≡ backslash → kind_of b ≡ is_backslash
 unfolding kind_of kind_in
 backslash_kind b e = rw e
 
 module _ (text : List ℕ) (room : ℕ) (around : List Begun) (a : Begun) (at : ℕ) where
   escape_opens : get_or text at 0 ≡ backslash
       → says text (standing room around a (outside none)) at
-      ≡ says text (behind-backslash room around a (outside none)) (suc at)
+      ≡ says text (behind_backslash room around a (outside none)) (suc at)
   unfolding moved
   escape_opens here =
       says_kind text room around a (outside none) at (mark_inside text at here) (backslash_kind (get_or text at 0) here) refl
@@ -55,7 +55,7 @@ module _ (text : List ℕ) (room : ℕ) (around : List Begun) (a : Begun) (at : 
       says_moves text (standing room around a (outside none)) at inside
       (move_plain room around a none (get_or text at 0) plain)
   letter_passes (letter_escaped here inside) =
-      escape_opens here ∙ says_moves text (behind-backslash room around a (outside none)) (suc at) inside refl
+      escape_opens here ∙ says_moves text (behind_backslash room around a (outside none)) (suc at) inside refl
 
   close_stops : a.items ≡ none → get_or text at 0 ≡ close_group
       → says text (standing room around a (outside none)) at ≡ refused at
@@ -108,4 +108,4 @@ module _ (text : List ℕ) (room : ℕ) (around : List Begun) (a : Begun) (at : 
       says_short text (standing room around a (outside none)) at end (not_ended room around a e)
   letter_stops group class (letter_missing end) (item_follows more) = absurd (omega arith)
   letter_stops group class (letter_cut_off here end) start =
-      escape_opens here ∙ says_short text (behind-backslash room around a (outside none)) (suc at) end refl
+      escape_opens here ∙ says_short text (behind_backslash room around a (outside none)) (suc at) end refl

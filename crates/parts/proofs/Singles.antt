@@ -75,7 +75,7 @@ module _ (text : List ℕ) (at n : ℕ) {readers : List ℕ} {part : Part} where
             };
       }
 
-  module _ (no-class : get_or text at 0 ≢ open_class) {good : Bool} {next byte : ℕ}
+  module _ (no_class : get_or text at 0 ≢ open_class) {good : Bool} {next byte : ℕ}
       (letter : LetterIs text at special good next byte) where
     pub letter_single : good ≡ true
         → {after : List ℕ}
@@ -107,7 +107,7 @@ module _ (text : List ℕ) (at n : ℕ) {readers : List ℕ} {part : Part} where
     pub letter_none : good ≡ false → Refused next part → SingleRead text at n readers part readers
     letter_none is refused =
         record {
-          item = λ no-group room follow.
+          item = λ no_group room follow.
               record {
                 moved = rw (refused.bad, refused.place) (letter_moves (rw is at letter)).0;
                 inside = rw refused.place (letter_moves letter).1;
@@ -116,7 +116,7 @@ module _ (text : List ℕ) (at n : ℕ) {readers : List ℕ} {part : Part} where
                     record {
                       same = λ around a start.
                           rw refused.place
-                          (letter_stops text room around a at no-group no-class (rw is at letter) start);
+                          (letter_stops text room around a at no_group no_class (rw is at letter) start);
                     };
               };
         }

@@ -31,6 +31,6 @@ pub record Told (n : ℕ) (x : Expression) (r : Part) : Type 0 where
       → Exactly (places position_words) (positions_in r.last) (LastPosition n x)
 
 -- the tables have what the positions of x add
-pub record Tabled (n : ℕ) (x : Expression) (readers follow readersAfter followAfter : List ℕ) : Type 0 where
-  pub reads : n + size x ≤ most_positions → Rows position_words readers readersAfter (λ b p. Reads n x p b)
-  pub follows : n + size x ≤ most_positions → Rows point_words follow followAfter (FollowPosition n x)
+pub record Tabled (n : ℕ) (x : Expression) (readers follow readers_after follow_after : List ℕ) : Type 0 where
+  pub reads : n + size x ≤ most_positions → Rows position_words readers readers_after (λ b p. Reads n x p b)
+  pub follows : n + size x ≤ most_positions → Rows point_words follow follow_after (FollowPosition n x)

@@ -68,36 +68,36 @@ module _ (text : List ℕ) (room at : ℕ) where
 
 -- a part was read: its meaning, what it tells and what it adds to the tables
 pub record Meant (Passed : ℕ → Expression → Type 0) (n : ℕ) (readers follow : List ℕ)
-    (r : Part) (readersAfter followAfter : List ℕ) : Type 0 where
+    (r : Part) (readers_after follow_after : List ℕ) : Type 0 where
   pub meaning : Expression
   pub passed : Passed r.at meaning
   pub told : Told n meaning r
-  pub tabled : Tabled n meaning readers follow readersAfter followAfter
+  pub tabled : Tabled n meaning readers follow readers_after follow_after
 
 -- a part of the text from `at` on: read, or refused at its place, which lies further on if it was read
 pub record PartRead (text : List ℕ) (at : ℕ) (Passed : ℕ → Expression → Type 0) (Stopped : ℕ → Type 0)
-    (n : ℕ) (readers follow : List ℕ) (r : Part) (readersAfter followAfter : List ℕ) : Type 0 where
+    (n : ℕ) (readers follow : List ℕ) (r : Part) (readers_after follow_after : List ℕ) : Type 0 where
   pub moved : at + one_if r.good ≤ r.at
   pub inside : r.at ≤ max at (length text)
-  pub meant : r.good ≡ true → Meant Passed n readers follow r readersAfter followAfter
+  pub meant : r.good ≡ true → Meant Passed n readers follow r readers_after follow_after
   pub stopped : r.good ≡ false → Stopped r.at
 
-module _ (text : List ℕ) (room at n : ℕ) (readers follow : List ℕ) (r : Part) (readersAfter followAfter : List ℕ) where
+module _ (text : List ℕ) (room at n : ℕ) (readers follow : List ℕ) (r : Part) (readers_after follow_after : List ℕ) where
   abbrev pub ItemRead : Type 0
   ItemRead =
-      PartRead text at (ItemPassed text room at) (ItemStopped text room at) n readers follow r readersAfter
-      followAfter
+      PartRead text at (ItemPassed text room at) (ItemStopped text room at) n readers follow r readers_after
+      follow_after
 
   abbrev pub RepetitionRead : Type 0
   RepetitionRead =
-      PartRead text at (RepetitionPassed text room at) (ItemStopped text room at) n readers follow r readersAfter
-      followAfter
+      PartRead text at (RepetitionPassed text room at) (ItemStopped text room at) n readers follow r readers_after
+      follow_after
 
   -- the repetitions of an alternative so far
   abbrev pub RepetitionsRead : Type 0
   RepetitionsRead =
-      PartRead text at (SequencePassed text room at) (SequenceStopped text room at) n readers follow r readersAfter
-      followAfter
+      PartRead text at (SequencePassed text room at) (SequenceStopped text room at) n readers follow r readers_after
+      follow_after
 
   -- all of them: the text does not go on behind them
   pub record SequenceRead : Type 0 where
@@ -107,7 +107,7 @@ module _ (text : List ℕ) (room at n : ℕ) (readers follow : List ℕ) (r : Pa
   -- the alternatives so far
   pub record AlternativesRead : Type 0 where
     pub part : PartRead text at (AlternationPassed text room at) (AlternationStopped text room at)
-        n readers follow r readersAfter followAfter
+        n readers follow r readers_after follow_after
     pub ends : r.good ≡ true → ¬ GoesOn text r.at
 
   -- all of them: no bar stands behind them

@@ -10,17 +10,17 @@ use borrow.Author.Tests.{eqb-true}
 use Rattle.pattern.specs.Pattern.{Expression}
 use Rattle.pattern.specs.Marks.{open_group, close_group, open_class, close_class, bar, backslash, dash, special, special_in_class, among}
 use Rattle.pattern.specs.Written.{Byte, plain, escaped, Sign, any_number, at_least_once, at_most_once}
-use Rattle.pattern.specs.Kinds.{opens-group, closes-group, opens-class, divides, repeats, Kind, is_plain, is-dash, is-backslash, closes-class, marks, kinds, kind_in, kind_of}
+use Rattle.pattern.specs.Kinds.{opens_group, closes_group, opens_class, divides, repeats, Kind, is_plain, is_dash, is_backslash, closes_class, marks, kinds, kind_in, kind_of}
 
 -- byte b is of this kind
 pub data KindIs : ℕ → Kind → Type 0 where
   plain_is : {b : ℕ} → among b special_in_class ≡ false → KindIs b is_plain
-  dash_is : KindIs dash is-dash
-  backslash_is : KindIs backslash is-backslash
-  close_class_is : KindIs close_class closes-class
-  open_class_is : KindIs open_class (marks opens-class)
-  open_group_is : KindIs open_group (marks opens-group)
-  close_group_is : KindIs close_group (marks closes-group)
+  dash_is : KindIs dash is_dash
+  backslash_is : KindIs backslash is_backslash
+  close_class_is : KindIs close_class closes_class
+  open_class_is : KindIs open_class (marks opens_class)
+  open_group_is : KindIs open_group (marks opens_group)
+  close_group_is : KindIs close_group (marks closes_group)
   bar_is : KindIs bar (marks divides)
   sign_is : {b : ℕ} {f : Expression → Expression} → Sign b f → KindIs b (marks (repeats f))
 
@@ -78,11 +78,11 @@ sign_kind at_least_once = refl
 sign_kind at_most_once = refl
 
 -- a byte that is plain outside a class is plain there too, or the dash
-pub outside_kind : (b : ℕ) → among b special ≡ false → (kind_of b ≡ is_plain) ⊎ (kind_of b ≡ is-dash)
+pub outside_kind : (b : ℕ) → among b special ≡ false → (kind_of b ≡ is_plain) ⊎ (kind_of b ≡ is_dash)
 unfolding among kind_of kind_in
 outside_kind b h = go (eqb b dash) refl
   where
-    go : (t : Bool) → eqb b dash ≡ t → (kind_of b ≡ is_plain) ⊎ (kind_of b ≡ is-dash)
+    go : (t : Bool) → eqb b dash ≡ t → (kind_of b ≡ is_plain) ⊎ (kind_of b ≡ is_dash)
     go true e = inr (rw (eqb-true b dash e))
     go false e = inl (plain_kind b (rw (e, among) h))
 

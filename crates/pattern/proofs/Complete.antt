@@ -10,7 +10,7 @@ use Rattle.pattern.specs.Pattern.{Range, Class, Expression, one, cat, alt}
 use Rattle.pattern.specs.Marks.{most_open_groups, open_group, close_group, open_class, close_class, bar, backslash, dash, special, special_in_class}
 use Rattle.pattern.specs.Written.{Byte, plain, escaped, range, Element, single, from_to, Elements, only, more, Sign, Sort, alternation, sequence, repetition, item, Written, alternative, or_else, alone, followed, unsigned, signed, one_byte, class, group, IsPattern}
 use Rattle.pattern.specs.Kinds.{is_plain, kind_of, kind_in}
-use Rattle.pattern.specs.Reader.{Begun, Pending, outside, in_class, in_range, standing, behind-backslash, nothing_begun, start, joined, with_item, settled, alternation_of, elements, byte_read, class_read, range_read, opened, closed, divided, marked, moved, move, ended, after, means, read_from, says, read_pattern}
+use Rattle.pattern.specs.Reader.{Begun, Pending, outside, in_class, in_range, standing, behind_backslash, nothing_begun, start, joined, with_item, settled, alternation_of, elements, byte_read, class_read, range_read, opened, closed, divided, marked, moved, move, ended, after, means, read_from, says, read_pattern}
 use Rattle.pattern.proofs.ByteKinds.{plain_kind, sign_kind}
 use Rattle.pattern.proofs.Steps.{move_plain, after_move, after_append, after_one, read_after, read_end}
 
@@ -19,7 +19,7 @@ module _ (room : ℕ) (around : List Begun) (a : Begun) where
   escape_after : (p : Pending) (b : ℕ)
       → after (standing room around a p) (backslash ∷ b ∷ []) ≡ moved room around a p b is_plain
   unfolding move moved kind_of kind_in
-  escape_after p b = after_move (standing room around a p) backslash (b ∷ []) {t = behind-backslash room around a p} refl ∙ after_one (behind-backslash room around a p) b
+  escape_after p b = after_move (standing room around a p) backslash (b ∷ []) {t = behind_backslash room around a p} refl ∙ after_one (behind_backslash room around a p) b
 
   -- a byte, plain or behind a backslash
   pub byte_after : (p : Pending) {s : List ℕ} {b : ℕ}

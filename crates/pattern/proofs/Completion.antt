@@ -10,7 +10,7 @@ use Rattle.pattern.specs.Pattern.{Range, Class, Expression, one}
 use Rattle.pattern.specs.Marks.{close_group, close_class, backslash}
 use Rattle.pattern.specs.Written.{range}
 use Rattle.pattern.specs.Kinds.{kind_in, kind_of}
-use Rattle.pattern.specs.Reader.{Begun, Pending, outside, in_class, in_range, Standing, standing, behind-backslash, with_item, settled, alternation_of, elements, closed, marked, byte_read, class_read, range_read, moved, move, ended, means, read_from}
+use Rattle.pattern.specs.Reader.{Begun, Pending, outside, in_class, in_range, Standing, standing, behind_backslash, with_item, settled, alternation_of, elements, closed, marked, byte_read, class_read, range_read, moved, move, ended, means, read_from}
 use Rattle.pattern.specs.Text.{Bytes, no_byte, and_byte}
 use Rattle.pattern.proofs.Steps.{read_move, read_end}
 
@@ -22,7 +22,7 @@ LowerEnd (in_range c low) = low < 256
 
 abbrev pub LowerByte : Standing → Type 0
 LowerByte (standing d around a p) = LowerEnd p
-LowerByte (behind-backslash d around a p) = LowerEnd p
+LowerByte (behind_backslash d around a p) = LowerEnd p
 
 -- bytes behind it make a pattern of what is read
 pub record Completed (s : Standing) : Type 0 where
@@ -67,7 +67,7 @@ module _ (d : ℕ) (around : List Begun) (a : Begun) where
       completed_move letter refl (λ h. (omega arith, tt))
       (completed_move close_class (class_closes (elements c last) (range letter letter)) (λ h. (omega arith, tt)) (item_completed d around a _))
 
-  range_completed : (c : Class) (low : ℕ) → Completed (behind-backslash d around a (in_range c low))
+  range_completed : (c : Class) (low : ℕ) → Completed (behind_backslash d around a (in_range c low))
   unfolding move moved range_read
   range_completed c low =
       completed_move low {t = standing d around a (in_class (c ++ (range low low ∷ [])) none)}
@@ -78,6 +78,6 @@ unfolding letter move moved byte_read kind_of kind_in
 completed (standing d around a (outside last)) = completed_move letter refl (λ h. (omega arith, tt)) (item_completed d around (settled a last) _)
 completed (standing d around a (in_class c last)) = class_completed d around a c last
 completed (standing d around a (in_range c low)) = completed_move backslash refl (λ h. (omega arith, h)) (range_completed d around a c low)
-completed (behind-backslash d around a (outside last)) = completed_move letter refl (λ h. (omega arith, tt)) (item_completed d around (settled a last) _)
-completed (behind-backslash d around a (in_class c last)) = completed_move letter refl (λ h. (omega arith, tt)) (class_completed d around a _ _)
-completed (behind-backslash d around a (in_range c low)) = range_completed d around a c low
+completed (behind_backslash d around a (outside last)) = completed_move letter refl (λ h. (omega arith, tt)) (item_completed d around (settled a last) _)
+completed (behind_backslash d around a (in_class c last)) = completed_move letter refl (λ h. (omega arith, tt)) (class_completed d around a _ _)
+completed (behind_backslash d around a (in_range c low)) = range_completed d around a c low

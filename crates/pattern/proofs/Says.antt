@@ -11,7 +11,7 @@ use Rattle.pattern.specs.Pattern.{Expression}
 use Rattle.pattern.specs.Marks.{among}
 use Rattle.pattern.specs.Written.{any_number, at_least_once, at_most_once}
 use Rattle.pattern.specs.Kinds.{Kind, signs, kind_in, kind_of}
-use Rattle.pattern.specs.Reader.{Begun, Pending, outside, Standing, standing, behind-backslash, with_item, settled, marked, byte_read, moved, move, ended, means, refused, read_from, says}
+use Rattle.pattern.specs.Reader.{Begun, Pending, outside, Standing, standing, behind_backslash, with_item, settled, marked, byte_read, moved, move, ended, means, refused, read_from, says}
 use Rattle.pattern.proofs.ByteKinds.{KindIs, plain_is, dash_is, backslash_is, close_class_is, open_class_is, open_group_is, close_group_is, bar_is, sign_is, kind_is, impossible}
 use Rattle.pattern.proofs.Steps.{read_move, read_stop, read_end, read_short}
 
@@ -23,7 +23,7 @@ end_settled room (f ∷ around) a x at = refl
 
 module _ (room : ℕ) (around : List Begun) (a : Begun) (x : Expression) where
   escape_settled : (at : ℕ) (v : List ℕ)
-      → read_from (behind-backslash room around a (outside (some x))) at v ≡ read_from (behind-backslash room around (with_item a x) (outside none)) at v
+      → read_from (behind_backslash room around a (outside (some x))) at v ≡ read_from (behind_backslash room around (with_item a x) (outside none)) at v
   unfolding read_from ended move moved byte_read settled
   escape_settled at [] = refl
   escape_settled at (b ∷ v) = refl

@@ -11,7 +11,7 @@ use borrow.Author.Tests.{leb-true}
 use Rattle.pattern.specs.Pattern.{Class, Expression}
 use Rattle.pattern.specs.Marks.{open_group, close_group, open_class, close_class, bar, backslash, dash, special, special_in_class, among}
 use Rattle.pattern.specs.Written.{Byte, plain, escaped, from_to, Sign, signed, one_byte, class, group, IsPattern}
-use Rattle.pattern.specs.Kinds.{Kind, is_plain, is-dash, closes-class, marks, Mark, repeats}
+use Rattle.pattern.specs.Kinds.{Kind, is_plain, is_dash, closes_class, marks, Mark, repeats}
 use Rattle.pattern.specs.Reader.{Begun, Pending, outside, in_class, in_range, Standing, standing, start, settled, alternation_of, elements, opened, closed, divided, marked, byte_read, class_read, range_read, moved, move, ended, after, means, read_from, says, read_pattern}
 use Rattle.pattern.proofs.ByteKinds.{KindIs, plain_is, dash_is, backslash_is, close_class_is, open_class_is, open_group_is, close_group_is, bar_is, sign_is, kind_is, byte_outside}
 use Rattle.pattern.proofs.Steps.{after_move, after_stop, read_end, read_short, Passed, means_passed}
@@ -119,7 +119,7 @@ module _ {d : ℕ} {around : List Begun} {a : Begun} {s t : List ℕ} (r : Aroun
 
   dash_spells : {p : Pending} {u : List ℕ}
       → PendingBy d p u
-      → MaySpell (moved d around a p dash is-dash) ((s ++ (t ++ u)) ++ (dash ∷ []))
+      → MaySpell (moved d around a p dash is_dash) ((s ++ (t ++ u)) ++ (dash ∷ []))
   unfolding MaySpell moved among
   dash_spells nothing_pending = byte_spells r g nothing_pending (plain refl)
   dash_spells (item_pending w) = byte_spells r g (item_pending w) (plain refl)
@@ -149,7 +149,7 @@ module _ {d : ℕ} {around : List Begun} {a : Begun} {s t : List ℕ} (r : Aroun
 
   close_class_spells : {p : Pending} {u : List ℕ}
       → PendingBy d p u
-      → MaySpell (moved d around a p close_class closes-class) ((s ++ (t ++ u)) ++ (close_class ∷ []))
+      → MaySpell (moved d around a p close_class closes_class) ((s ++ (t ++ u)) ++ (close_class ∷ []))
   unfolding MaySpell moved
   close_class_spells {p = outside last} p = tt
   close_class_spells {p = in_class c last} p = class_spells r g (class_by p)

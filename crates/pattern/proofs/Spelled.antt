@@ -7,7 +7,7 @@ use native.Mathlib.Omega.{arith}
 use Rattle.pattern.specs.Pattern.{Range, Class, Expression, cat, alt}
 use Rattle.pattern.specs.Marks.{most_open_groups, open_group, open_class, bar, backslash, dash, special_in_class}
 use Rattle.pattern.specs.Written.{Byte, Element, single, Elements, only, more, alternation, sequence, repetition, item, Written, alternative, or_else, alone, followed, unsigned, IsPattern}
-use Rattle.pattern.specs.Reader.{Begun, Pending, outside, in_class, in_range, Standing, standing, behind-backslash, nothing_begun, joined, with_item, settled, alternation_of, elements, ended}
+use Rattle.pattern.specs.Reader.{Begun, Pending, outside, in_class, in_range, Standing, standing, behind_backslash, nothing_begun, joined, with_item, settled, alternation_of, elements, ended}
 
 -- alternatives, each with its bar behind it
 pub data Divided (d : ℕ) : Option Expression → List ℕ → Type 0 where
@@ -58,7 +58,7 @@ pub data Spells : Standing → List ℕ → Type 0 where
       → Spells (standing d around a p) (s ++ (t ++ u))
   spells_backslash : {d : ℕ} {around : List Begun} {a : Begun} {p : Pending} {s : List ℕ}
       → Spells (standing d around a p) s
-      → Spells (behind-backslash d around a p) (s ++ (backslash ∷ []))
+      → Spells (behind_backslash d around a p) (s ++ (backslash ∷ []))
 
 pub nothing_begun_lem : {d : ℕ} → BegunBy d nothing_begun []
 unfolding nothing_begun

@@ -42,8 +42,8 @@ module _ (rs : List Expression) where
       → AfterFrom rs S w t
       → PointOf rs t
   unfolding AfterFrom
-  point_of_from S point-of [] t s = point-of t s
-  point_of_from S point-of (b ∷ w) t s = point_of_from (Moved rs S b) step w t s
+  point_of_from S point_of [] t s = point_of t s
+  point_of_from S point_of (b ∷ w) t s = point_of_from (Moved rs S b) step w t s
     where
       step : (t : Point) → Moved rs S b t → PointOf rs t
       step t (moved h r o) = onward_point_of o

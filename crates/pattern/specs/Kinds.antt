@@ -6,11 +6,11 @@ use Rattle.pattern.specs.Marks.{question_mark, backslash, dash}
 
 -- the marks that no class has; a sign is what it makes of the meaning before it
 pub data Mark : Type 0 where
-  opens-group closes-group opens-class divides : Mark
+  opens_group closes_group opens_class divides : Mark
   repeats : (Expression → Expression) → Mark
 
 pub data Kind : Type 0 where
-  is_plain is-dash is-backslash closes-class : Kind
+  is_plain is_dash is_backslash closes_class : Kind
   marks : Mark → Kind
 
 abbrev pub signs : List ℕ
@@ -19,16 +19,16 @@ signs = star_sign ∷ plus_sign ∷ question_mark ∷ []
 -- the kinds of the bytes that are not plain in a class
 abbrev pub kinds : List (ℕ × Kind)
 kinds =
-    (dash, is-dash)
-    ∷ (open_group, marks opens-group)
-    ∷ (close_group, marks closes-group)
-    ∷ (open_class, marks opens-class)
-    ∷ (close_class, closes-class)
+    (dash, is_dash)
+    ∷ (open_group, marks opens_group)
+    ∷ (close_group, marks closes_group)
+    ∷ (open_class, marks opens_class)
+    ∷ (close_class, closes_class)
     ∷ (bar, marks divides)
     ∷ (star_sign, marks (repeats star))
     ∷ (plus_sign, marks (repeats plus))
     ∷ (question_mark, marks (repeats opt))
-    ∷ (backslash, is-backslash)
+    ∷ (backslash, is_backslash)
     ∷ []
 
 unfoldable pub kind_in : List (ℕ × Kind) → ℕ → Kind

@@ -5,8 +5,8 @@ use Rattle.std.proofs.Math.Option.{Option, some, none}
 use Rattle.pattern.specs.Pattern.{Class, Expression, one, cat, alt}
 use Rattle.pattern.specs.Marks.{most_open_groups}
 use Rattle.pattern.specs.Written.{range}
-use Rattle.pattern.specs.Kinds.{Mark, opens-group, closes-group, opens-class, divides, repeats, Kind, is_plain}
-use Rattle.pattern.specs.Kinds.{is-dash, is-backslash, closes-class, marks, kind_of}
+use Rattle.pattern.specs.Kinds.{Mark, opens_group, closes_group, opens_class, divides, repeats, Kind, is_plain}
+use Rattle.pattern.specs.Kinds.{is_dash, is_backslash, closes_class, marks, kind_of}
 
 -- an alternation begun: the alternatives before its last bar, and the items of the last one
 pub record Begun : Type 0 where
@@ -23,7 +23,7 @@ pub data Pending : Type 0 where
 -- where the reader stands, perhaps behind a backslash: how many groups may still open; what was begun before each open
 -- group, the innermost first; what was begun in the innermost; what is pending there
 pub data Standing : Type 0 where
-  standing behind-backslash : ℕ → List Begun → Begun → Pending → Standing
+  standing behind_backslash : ℕ → List Begun → Begun → Pending → Standing
 
 unfoldable pub nothing_begun : Begun
 nothing_begun = record { before = none; items = none }
@@ -70,9 +70,9 @@ divided room around (some x) = some (standing room around (record { before = som
 module _ (room : ℕ) (around : List Begun) (a : Begun) where
   -- a mark outside a class, behind the last item
   unfoldable pub marked : Option Expression → Mark → Option Standing
-  marked last opens-group = opened room around (settled a last)
-  marked last closes-group = closed room around (alternation_of (settled a last))
-  marked last opens-class = some (standing room around (settled a last) (in_class [] none))
+  marked last opens_group = opened room around (settled a last)
+  marked last closes_group = closed room around (alternation_of (settled a last))
+  marked last opens_class = some (standing room around (settled a last) (in_class [] none))
   marked last divides = divided room around (alternation_of (settled a last))
   marked none (repeats f) = none
   marked (some x) (repeats f) = some (standing room around (with_item a (f x)) (outside none))
@@ -91,24 +91,24 @@ module _ (room : ℕ) (around : List Begun) (a : Begun) where
       [ true ↦ some (standing room around a (in_class (c ++ (range low high ∷ [])) none)) | false ↦ none ]
 
   unfoldable pub moved : Pending → ℕ → Kind → Option Standing
-  moved p b is-backslash = some (behind-backslash room around a p)
+  moved p b is_backslash = some (behind_backslash room around a p)
   moved (outside last) b is_plain = byte_read last b
-  moved (outside last) b is-dash = byte_read last b
-  moved (outside last) b closes-class = none
+  moved (outside last) b is_dash = byte_read last b
+  moved (outside last) b closes_class = none
   moved (outside last) b (marks m) = marked last m
   moved (in_class c last) b is_plain = some (standing room around a (in_class (elements c last) (some b)))
-  moved (in_class c none) b is-dash = none
-  moved (in_class c (some low)) b is-dash = some (standing room around a (in_range c low))
-  moved (in_class c last) b closes-class = class_read (elements c last)
+  moved (in_class c none) b is_dash = none
+  moved (in_class c (some low)) b is_dash = some (standing room around a (in_range c low))
+  moved (in_class c last) b closes_class = class_read (elements c last)
   moved (in_class c last) b (marks m) = none
   moved (in_range c low) b is_plain = range_read c low b
-  moved (in_range c low) b is-dash = none
-  moved (in_range c low) b closes-class = none
+  moved (in_range c low) b is_dash = none
+  moved (in_range c low) b closes_class = none
   moved (in_range c low) b (marks m) = none
 
 unfoldable pub move : Standing → ℕ → Option Standing
 move (standing room around a p) b = moved room around a p b (kind_of b)
-move (behind-backslash room around a p) b = moved room around a p b is_plain
+move (behind_backslash room around a p) b = moved room around a p b is_plain
 
 -- the meaning, if the text may end here
 unfoldable pub ended : Standing → Option Expression
@@ -116,7 +116,7 @@ ended (standing room [] a (outside last)) = alternation_of (settled a last)
 ended (standing room (f ∷ around) a (outside last)) = none
 ended (standing room around a (in_class c last)) = none
 ended (standing room around a (in_range c low)) = none
-ended (behind-backslash room around a p) = none
+ended (behind_backslash room around a p) = none
 
 -- where it stands after the bytes, if it can go on so far
 unfoldable pub after : Standing → List ℕ → Option Standing

@@ -67,22 +67,22 @@ good_more texts g k lower zero h t e = subst Good (cc) g
 good_more texts g k lower (suc j) h t e = lower j (omega arith) t e
 
 is_good : {s : List ℕ} {x : Expression} → read_pattern s ≡ means x → nullable x ≡ false → Good s
-is_good {s} {x} means-x full =
+is_good {s} {x} means_x full =
     record {
       meaning = x;
-      pattern = (read_exact s).0 means-x;
+      pattern = (read_exact s).0 means_x;
       not_empty = λ m. let bad : ◌≡◌ {A = ℕ} 0 1 = cc (matches_null m) in omega arith;
     }
 
 module _ {s : List ℕ} {texts : List (List ℕ)} {x : Expression}
-    (means-x : read_pattern s ≡ means x) (full : nullable x ≡ false) where
+    (means_x : read_pattern s ≡ means x) (full : nullable x ≡ false) where
   found_behind : {f : Scanned} → ScannedIn texts f → ScannedIn (s ∷ texts) (behind x f)
   unfolding behind
   found_behind (found_bad {i = i} {k = k} b) =
-      found_bad (record { text = b.text; at = b.at; bad = b.bad; lower = good_more texts (is_good means-x full) k b.lower })
+      found_bad (record { text = b.text; at = b.at; bad = b.bad; lower = good_more texts (is_good means_x full) k b.lower })
   found_behind (found_meant m all) =
-      found_meant (text_means ((read_exact s).0 means-x) m)
-      (record { good = λ j t e. good_more texts (is_good means-x full) j (λ i h u f. all.good i u f) j (omega arith) t e })
+      found_meant (text_means ((read_exact s).0 means_x) m)
+      (record { good = λ j t e. good_more texts (is_good means_x full) j (λ i h u f. all.good i u f) j (omega arith) t e })
 
 found : (texts : List (List ℕ)) → ScannedIn texts (scan texts)
 unfolding scan

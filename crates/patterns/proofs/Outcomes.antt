@@ -18,8 +18,8 @@ use Rattle.patterns.specs.Gathering.{GatherOutcome, refuses, gathers, FillOutcom
 use Rattle.patterns.proofs.Cleared.{tables_filled}
 
 -- the same answer with no tables
-pub judged : {patterns lengths readers follow readersAfter followAfter : List ℕ} {a : Answer}
-    → GatherOutcome patterns lengths readers follow readersAfter followAfter a
+pub judged : {patterns lengths readers follow readers_after follow_after : List ℕ} {a : Answer}
+    → GatherOutcome patterns lengths readers follow readers_after follow_after a
     → JudgePatterns patterns lengths a
 judged (refuses r) = refused r
 judged (gathers accept reads follows) = accepted accept
@@ -43,14 +43,14 @@ pub fill_outcome : {patterns lengths readers follow R F xs ys : List ℕ} {a : A
     → AreWords (ys ++ drop follow_length F)
     → GatherOutcome patterns lengths (take readers_length R) (take follow_length F) xs ys a
     → FillOutcome patterns lengths readers follow a (xs ++ drop readers_length R) (ys ++ drop follow_length F)
-fill_outcome {readers = readers} {follow} {xs = xs} {ys} fit r f xs-long ys-long xs-words ys-words (refuses a) =
-    fill_refused a (refilled_length readers_length readers xs r xs-long) (refilled_length follow_length follow ys f ys-long)
-fill_outcome {readers = readers} {follow} {R} {F} {xs} {ys} fit r f xs-long ys-long xs-words ys-words
+fill_outcome {readers = readers} {follow} {xs = xs} {ys} fit r f xs_long ys_long xs_words ys_words (refuses a) =
+    fill_refused a (refilled_length readers_length readers xs r xs_long) (refilled_length follow_length follow ys f ys_long)
+fill_outcome {readers = readers} {follow} {R} {F} {xs} {ys} fit r f xs_long ys_long xs_words ys_words
     (gathers accept reads follows) =
     filled {xs = xs ++ drop readers_length R} {ys = ys ++ drop follow_length F} accept
-    (refilled_length readers_length readers xs r xs-long)
-    (refilled_length follow_length follow ys f ys-long)
-    (rw (r, f) (tables_filled fit (rw r at reads) (rw f at follows) (rw r at xs-words) (rw f at ys-words)))
+    (refilled_length readers_length readers xs r xs_long)
+    (refilled_length follow_length follow ys f ys_long)
+    (rw (r, f) (tables_filled fit (rw r at reads) (rw f at follows) (rw r at xs_words) (rw f at ys_words)))
 
 -- a refusal's number is not that of an answer served
 refusal_number : {patterns lengths : List ℕ} {a : Answer} → RefusesPatterns patterns lengths a → eqb a.number served ≡ false
@@ -66,7 +66,7 @@ pub read_outcome : {patterns lengths readers follow xs ys zs ws : List ℕ} {a :
     → ws ≡ cond (eqb a.number served) ys (cleared ys)
     → ReadOutcome patterns lengths readers follow a zs ws
 unfolding done
-read_outcome fit (fill_refused r long-xs long-ys) zs ws =
-    rw (zs, ws, refusal_number r, long-xs, long-ys) (tables-refused fit r)
-read_outcome fit (filled accept long-xs long-ys tables) zs ws =
-    rw (zs, ws) (tables-served fit accept long-xs long-ys tables)
+read_outcome fit (fill_refused r long_xs long_ys) zs ws =
+    rw (zs, ws, refusal_number r, long_xs, long_ys) (tables-refused fit r)
+read_outcome fit (filled accept long_xs long_ys tables) zs ws =
+    rw (zs, ws) (tables-served fit accept long_xs long_ys tables)

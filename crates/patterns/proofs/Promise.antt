@@ -16,7 +16,7 @@ use Rattle.pattern.specs.Written.{IsPattern, patterns_of, FirstBad}
 use Rattle.pattern.proofs.Promise.{meaning_unique, pattern_place, patterns_length}
 use Rattle.patterns.specs.Calls.{Meanings, no_texts, text_means, Accepted, RefusesPatterns, many_patterns}
 use Rattle.patterns.specs.Calls.{bad_pattern, many_positions, JudgePatterns, refused, accepted, TablesFit}
-use Rattle.patterns.specs.Calls.{ReadOutcome, no_room, refused as tables-refused, served as tables-served}
+use Rattle.patterns.specs.Calls.{ReadOutcome, no_room, refused as tables_refused, served as tables_served}
 use Rattle.patterns.specs.Promised.{TextOf, OverLimit, over_patterns, over_positions, ReadServed, ReadRefused}
 use Rattle.patterns.proofs.Texts.{meanings_length, text_length, text_below}
 pub use Rattle.patterns.proofs.Unique.{meanings_unique, refuses_unique, refused_not_accepted}
@@ -132,8 +132,8 @@ module _ {patterns lengths : List ℕ} where
         → ReadServed patterns lengths readers follow xs ys
     unfolding refusal
     read_done (no_room lack) e = absurd (omega arith)
-    read_done (tables-refused fit r) e = absurd (not_served r e)
-    read_done (tables-served {rs = rs} fit accept k l tables) e =
+    read_done (tables_refused fit r) e = absurd (not_served r e)
+    read_done (tables_served {rs = rs} fit accept k l tables) e =
         record { meanings = rs; accepted = accept; readers_sized = k; follow_sized = l; tables = tables }
 
     pub read_no_room : {a : Answer} {xs ys : List ℕ}
@@ -142,8 +142,8 @@ module _ {patterns lengths : List ℕ} where
         → ¬ TablesFit readers follow × (xs ≡ readers) × (ys ≡ follow)
     unfolding done
     read_no_room (no_room lack) e = (lack, refl, refl)
-    read_no_room (tables-refused fit r) e = absurd (not_room r e)
-    read_no_room (tables-served fit accept k l tables) e = absurd (omega arith)
+    read_no_room (tables_refused fit r) e = absurd (not_room r e)
+    read_no_room (tables_served fit accept k l tables) e = absurd (omega arith)
 
     pub read_refused : {a : Answer} {xs ys : List ℕ}
         → ReadOutcome patterns lengths readers follow a xs ys
@@ -152,14 +152,14 @@ module _ {patterns lengths : List ℕ} where
         → ReadRefused patterns lengths readers follow a xs ys
     unfolding done refusal
     read_refused (no_room lack) other fits = absurd (fits refl)
-    read_refused (tables-refused fit r) other fits =
+    read_refused (tables_refused fit r) other fits =
         record { refuses = r; readers_cleared = refl; follow_cleared = refl }
-    read_refused (tables-served fit accept k l tables) other fits = absurd (other refl)
+    read_refused (tables_served fit accept k l tables) other fits = absurd (other refl)
 
     pub read_judged : {a : Answer} {xs ys : List ℕ}
         → ReadOutcome patterns lengths readers follow a xs ys
         → TablesFit readers follow
         → JudgePatterns patterns lengths a
     read_judged (no_room lack) fit = absurd (lack fit)
-    read_judged (tables-refused fit r) also = refused r
-    read_judged (tables-served fit accept k l tables) also = accepted accept
+    read_judged (tables_refused fit r) also = refused r
+    read_judged (tables_served fit accept k l tables) also = accepted accept

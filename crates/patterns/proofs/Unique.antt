@@ -18,7 +18,7 @@ use Rattle.pattern.specs.Positions.{positions}
 use Rattle.pattern.proofs.Promise.{meaning_unique, first_bad_unique, first_bad_not_all_good}
 use Rattle.patterns.specs.Calls.{Meanings, no_texts, text_means, Accepted, RefusesPatterns, many_patterns}
 use Rattle.patterns.specs.Calls.{bad_pattern, many_positions, JudgePatterns, refused, accepted, TablesOf}
-use Rattle.patterns.specs.Calls.{ReadOutcome, no_room, ReadResult, refused as tables-refused, served}
+use Rattle.patterns.specs.Calls.{ReadOutcome, no_room, ReadResult, refused as tables_refused, served}
 
 -- texts have at most one list of meanings
 pub meanings_unique : {texts : List (List ℕ)} {rs qs : List Expression} → Meanings texts rs → Meanings texts qs → rs ≡ qs
@@ -63,7 +63,7 @@ same_rows : (n count : ℕ) (xs ys : List ℕ)
     → ((i : ℕ) → i < count → points_at xs (i * n) n ≡ points_at ys (i * n) n)
     → ((k : ℕ) → count * n ≤ k → get_or xs k 0 ≡ get_or ys k 0)
     → xs ≡ ys
-same_rows n count xs ys some words-xs words-ys long rows beyond =
+same_rows n count xs ys some words_xs words_ys long rows beyond =
     ext_get_or 0 xs ys long (λ k inside. go k (dec_lt k (count * n)))
   where
     go : (k : ℕ) → Dec (k < count * n) → get_or xs k 0 ≡ get_or ys k 0
@@ -72,7 +72,7 @@ same_rows n count xs ys some words-xs words-ys long rows beyond =
         let there : i * n + k % n ≡ k = div-add-mod' k n in
         let row : i < count = (div-lt_iff_lt-mul some).1 below in
         rw (← there)
-        ((points_same xs (i * n) ys (i * n) n words-xs words-ys).1 (rows i row) (k % n) (mod-lt k some))
+        ((points_same xs (i * n) ys (i * n) n words_xs words_ys).1 (rows i row) (k % n) (mod-lt k some))
     go k (no past) = beyond k (omega arith)
 
 module _ {rs : List Expression} {xs ys zs ws : List ℕ} (a : TablesOf rs xs ys) (b : TablesOf rs zs ws) where
@@ -102,7 +102,7 @@ module _ {rs : List Expression} {xs ys zs ws : List ℕ} (a : TablesOf rs xs ys)
           a.start b.start)
 
   pub tables_unique : length xs ≡ length zs → length ys ≡ length ws → (xs ≡ zs) × (ys ≡ ws)
-  tables_unique long-readers long-follow = (readers_unique long-readers, follow_unique long-follow)
+  tables_unique long_readers long_follow = (readers_unique long_readers, follow_unique long_follow)
 
 module _ {patterns lengths readers follow : List ℕ} where
   pub read_outcome_unique : {a b : Answer} {xs ys zs ws : List ℕ}
@@ -110,13 +110,13 @@ module _ {patterns lengths readers follow : List ℕ} where
       → ReadOutcome patterns lengths readers follow b zs ws
       → ◌≡◌ {A = ReadResult} (a, xs, ys) (b, zs, ws)
   read_outcome_unique (no_room lack) (no_room lack') = refl
-  read_outcome_unique (no_room lack) (tables-refused fit s) = absurd (lack fit)
+  read_outcome_unique (no_room lack) (tables_refused fit s) = absurd (lack fit)
   read_outcome_unique (no_room lack) (served fit accept k l tables) = absurd (lack fit)
-  read_outcome_unique (tables-refused fit r) (no_room lack) = absurd (lack fit)
-  read_outcome_unique (tables-refused fit r) (tables-refused fit' s) = rw (refuses_unique r s)
-  read_outcome_unique (tables-refused fit r) (served fit' accept k l tables) = absurd (refused_not_accepted r accept)
+  read_outcome_unique (tables_refused fit r) (no_room lack) = absurd (lack fit)
+  read_outcome_unique (tables_refused fit r) (tables_refused fit' s) = rw (refuses_unique r s)
+  read_outcome_unique (tables_refused fit r) (served fit' accept k l tables) = absurd (refused_not_accepted r accept)
   read_outcome_unique (served fit accept k l tables) (no_room lack) = absurd (lack fit)
-  read_outcome_unique (served fit accept k l tables) (tables-refused fit' s) = absurd (refused_not_accepted s accept)
+  read_outcome_unique (served fit accept k l tables) (tables_refused fit' s) = absurd (refused_not_accepted s accept)
   read_outcome_unique (served fit accept k l tables) (served fit' accept' k' l' tables') =
       let means = meanings_unique accept'.means accept.means in
       let same = tables_unique tables (rw means at tables') (k ∙ sym k') (l ∙ sym l') in

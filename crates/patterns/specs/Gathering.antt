@@ -43,7 +43,7 @@ moved_on j end part =
 
 -- the patterns before the next one are good
 pub record GoodSoFar (patterns lengths readers follow : List ℕ)
-    (j : Judged) (readersAfter followAfter : List ℕ) : Type 0 where
+    (j : Judged) (readers_after follow_after : List ℕ) : Type 0 where
   pub gone : List (List ℕ)
   pub meanings : List Expression
   pub texts : patterns_of patterns lengths ≡ gone ++ patterns_of (drop j.start patterns) (drop j.number lengths)
@@ -53,14 +53,14 @@ pub record GoodSoFar (patterns lengths readers follow : List ℕ)
   pub good : AllGood gone
   pub count : j.count ≡ capped (positions meanings)
   pub reads : positions meanings ≤ most_positions
-      → Rows position_words readers readersAfter (λ b p. ReadsIn meanings p b)
-  pub follows : positions meanings ≤ most_positions → Rows point_words follow followAfter (NextIn meanings)
+      → Rows position_words readers readers_after (λ b p. ReadsIn meanings p b)
+  pub follows : positions meanings ≤ most_positions → Rows point_words follow follow_after (NextIn meanings)
 
 -- they are, or one of them is the first bad one
 pub record JudgedSoFar (patterns lengths readers follow : List ℕ)
-    (j : Judged) (readersAfter followAfter : List ℕ) : Type 0 where
+    (j : Judged) (readers_after follow_after : List ℕ) : Type 0 where
   pub bound : j.number ≤ length lengths
-  pub good : j.good ≡ true → GoodSoFar patterns lengths readers follow j readersAfter followAfter
+  pub good : j.good ≡ true → GoodSoFar patterns lengths readers follow j readers_after follow_after
   pub bad : j.good ≡ false → FirstBad (patterns_of patterns lengths) j.place j.number
 
 -- there is a further pattern to judge
@@ -70,18 +70,18 @@ pub record Further (good : Bool) (number total : ℕ) : Type 0 where
 
 -- with one pattern more, good or bad
 pub record Advanced (patterns lengths : List ℕ) (j : Judged) (readers follow : List ℕ)
-    (r : Judged) (readersAfter followAfter : List ℕ) : Type 0 where
+    (r : Judged) (readers_after follow_after : List ℕ) : Type 0 where
   pub moved : r.number ≡ j.number + one_if r.good
   pub judged : (R F : List ℕ)
       → j.good ≡ true
       → length lengths ≤ most_patterns
       → JudgedSoFar patterns lengths R F j readers follow
-      → JudgedSoFar patterns lengths R F r readersAfter followAfter
+      → JudgedSoFar patterns lengths R F r readers_after follow_after
 
 -- all patterns are good, or one is the first bad one
 pub record AllJudged (patterns lengths readers follow : List ℕ)
-    (j : Judged) (readersAfter followAfter : List ℕ) : Type 0 where
-  pub judged : JudgedSoFar patterns lengths readers follow j readersAfter followAfter
+    (j : Judged) (readers_after follow_after : List ℕ) : Type 0 where
+  pub judged : JudgedSoFar patterns lengths readers follow j readers_after follow_after
   pub ended : ¬ Further j.good j.number (length lengths)
 
 -- what is told of them
@@ -92,15 +92,15 @@ answer_of good place number count =
     (refusal pattern place number)
 
 -- all patterns: a refusal, or the tables with what they add
-pub data GatherOutcome (patterns lengths readers follow readersAfter followAfter : List ℕ) : Answer → Type 0 where
+pub data GatherOutcome (patterns lengths readers follow readers_after follow_after : List ℕ) : Answer → Type 0 where
   refuses : {a : Answer}
       → RefusesPatterns patterns lengths a
-      → GatherOutcome patterns lengths readers follow readersAfter followAfter a
+      → GatherOutcome patterns lengths readers follow readers_after follow_after a
   gathers : {rs : List Expression}
       → Accepted patterns lengths rs
-      → Rows position_words readers readersAfter (λ b p. ReadsIn rs p b)
-      → Rows point_words follow followAfter (NextIn rs)
-      → GatherOutcome patterns lengths readers follow readersAfter followAfter (done 0)
+      → Rows position_words readers readers_after (λ b p. ReadsIn rs p b)
+      → Rows point_words follow follow_after (NextIn rs)
+      → GatherOutcome patterns lengths readers follow readers_after follow_after (done 0)
 
 -- tables that are long enough, cleared and filled
 pub data FillOutcome (patterns lengths readers follow : List ℕ) : Answer → List ℕ → List ℕ → Type 0 where

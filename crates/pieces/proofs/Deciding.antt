@@ -35,9 +35,9 @@ module _ (M : ℕ → List ℕ → Type 0) where
         (piece k place (take n (b ∷ w)) ∷ rest.0, rest.1, token_cut no_space t rest.2)
 
     cut_byte : (room place : ℕ) → TokenKnown M (b ∷ w) → Dec (b ≡ space) → IsCut room place (b ∷ w)
-    cut_byte room place decided (yes is-space) =
+    cut_byte room place decided (yes is_space) =
         let rest = shorter room (suc place) w (omega arith) in
-        (rest.0, rest.1, subst (λ (c : ℕ). Cut M room place (c ∷ w) rest.0 rest.1) (sym is-space) (space_dropped rest.2))
+        (rest.0, rest.1, subst (λ (c : ℕ). Cut M room place (c ∷ w) rest.0 rest.1) (sym is_space) (space_dropped rest.2))
     cut_byte room place (inl t) (no no_space) = cut_token room place no_space t.2
     cut_byte room place (inr none) (no no_space) = ([], NoToken place, no_token_starts no_space none)
 

@@ -29,8 +29,8 @@ ends_at : {M : ℕ → List ℕ → Type 0} {room room' q q' : ℕ} {w : List �
     → room ≡ room'
     → q ≡ q'
     → Ends M room' w q' ending
-ends_at {M} {room' = room'} {q} {w = w} {ending} ends same-room same_place =
-    subst (λ (i : ℕ). Ends M room' w i ending) same_place (subst (λ (i : ℕ). Ends M i w q ending) same-room ends)
+ends_at {M} {room' = room'} {q} {w = w} {ending} ends same_room same_place =
+    subst (λ (i : ℕ). Ends M room' w i ending) same_place (subst (λ (i : ℕ). Ends M i w q ending) same_room ends)
 
 module _ {M : ℕ → List ℕ → Type 0} where
   -- a cut that ends at once

@@ -99,11 +99,11 @@ module _ {cells line : List ℕ} {from : ℕ} where
         → number ≡ cell_at cells next byte_values
         → Noted best number (at + 1) best'
         → Looked cells line from (at + 1) next best'
-    looked_more {next} {number} {best'} below byte is-next inside is_number noted =
+    looked_more {next} {number} {best'} below byte is_next inside is_number noted =
         let b = get_or line at 0 in
         let read = looked.read ++ (b ∷ []) in
         let walk : Walk cells 0 read next =
-        rw is-next (walk_more looked.walk byte (rw is-next at inside)) in
+        rw is_next (walk_more looked.walk byte (rw is_next at inside)) in
         let noted' : Noted best (cell_at cells next byte_values) (at + 1) best' = rw is_number at noted in
         let split : drop from line ≡ read ++ drop (at + 1) line =
         rw (add-one, append_assoc) (looked.split ∙ ap (λ (w : List ℕ). looked.read ++ w) (drop-cons line at 0 below)) in

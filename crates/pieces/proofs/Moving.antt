@@ -68,7 +68,7 @@ module _ {M : ℕ → List ℕ → Type 0} where
       → DoneAt M line at room Skip
       → Cut M room (suc at) (drop (suc at) line) rest ending
       → Cut M room at (drop at line) rest ending
-  skip_cuts {line} {at} (skips inside is-space) cut = rw (left_is line at inside, is-space) (space_dropped cut)
+  skip_cuts {line} {at} (skips inside is_space) cut = rw (left_is line at inside, is_space) (space_dropped cut)
 
   -- a token is cut off
   cut_first : {room place b k n : ℕ} {w v : List ℕ} {rest : List Piece} {ending : Ending}
@@ -96,7 +96,7 @@ module _ {M : ℕ → List ℕ → Type 0} where
       (rw size (cut_first (left_is line at starts.inside) starts.no_space t (rw drop-drop cut)))
 
   pub skip_inside : {line : List ℕ} {at room : ℕ} → DoneAt M line at room Skip → at < length line
-  skip_inside (skips inside is-space) = inside
+  skip_inside (skips inside is_space) = inside
 
   pub take_inside : {line : List ℕ} {at room k end : ℕ}
       → DoneAt M line at room (Take k end)

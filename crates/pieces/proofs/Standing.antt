@@ -32,7 +32,7 @@ first_earlier : {line : List ℕ} {from start : ℕ}
     → get_elem? line from ≡ some space
     → FirstByte line (suc from) start
     → FirstByte line from start
-first_earlier {line} {from} {start} is-space first =
+first_earlier {line} {from} {start} is_space first =
     record {
       order = omega (arith, first.order);
       spaces = λ i behind before. go i behind before (dec_lt from i);
@@ -43,7 +43,7 @@ first_earlier {line} {from} {start} is-space first =
   where
     go : (i : ℕ) → from ≤ i → i < start → Dec (from < i) → get_elem? line i ≡ some space
     go i behind before (yes later) = first.spaces i later before
-    go i behind before (no same) = let e : i ≡ from = omega arith in rw e is-space
+    go i behind before (no same) = let e : i ≡ from = omega arith in rw e is_space
 
 module _ {M : ℕ → List ℕ → Type 0} where
   -- the piece that is cut off first

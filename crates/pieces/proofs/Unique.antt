@@ -52,20 +52,20 @@ module _ {M : ℕ → List ℕ → Type 0} where
   cut_unique (token_cut no_space t cut) (space_dropped cut') = absurd (no_space refl)
   cut_unique
       (token_cut {room = room} {place = place} {b = b} {w = w} no_space t cut)
-      (token_cut {pieces = pieces} {ending = ending} no-space' t' cut') =
+      (token_cut {pieces = pieces} {ending = ending} no_space' t' cut') =
       let same = token_unique t t' in
       let cut'' = subst (λ (i : ℕ). Cut M room (place + i) (drop i (b ∷ w)) pieces ending) (sym same.1) cut' in
       let rest = cut_unique cut cut'' in
       let first = ap₂ (λ (i j : ℕ). piece i place (take j (b ∷ w))) same.0 same.1 in
       (ap₂ (λ (q : Piece) (r : List Piece). q ∷ r) first rest.0, rest.1)
-  cut_unique (token_cut no_space t cut) (no_token_starts no-space' none) = absurd (token_not_none t none)
+  cut_unique (token_cut no_space t cut) (no_token_starts no_space' none) = absurd (token_not_none t none)
   cut_unique (no_token_starts no_space none) (space_dropped cut') = absurd (no_space refl)
-  cut_unique (no_token_starts no_space none) (token_cut no-space' t cut') = absurd (token_not_none t none)
-  cut_unique (no_token_starts no_space none) (no_token_starts no-space' none') = (refl, refl)
-  cut_unique (no_token_starts no_space none) (no_room no-space' t) = absurd (token_not_none t none)
+  cut_unique (no_token_starts no_space none) (token_cut no_space' t cut') = absurd (token_not_none t none)
+  cut_unique (no_token_starts no_space none) (no_token_starts no_space' none') = (refl, refl)
+  cut_unique (no_token_starts no_space none) (no_room no_space' t) = absurd (token_not_none t none)
   cut_unique (no_room no_space t) (space_dropped cut') = absurd (no_space refl)
-  cut_unique (no_room no_space t) (no_token_starts no-space' none) = absurd (token_not_none t none)
-  cut_unique (no_room no_space t) (no_room no-space' t') = (refl, refl)
+  cut_unique (no_room no_space t) (no_token_starts no_space' none) = absurd (token_not_none t none)
+  cut_unique (no_room no_space t) (no_room no_space' t') = (refl, refl)
 
 -- a cut with given cells has one outcome
 pub cut_with_unique : {machine line tokens ends tokens' tokens'' ends' ends'' : List ℕ} {answer answer' : Answer}

@@ -27,15 +27,15 @@ judged_part part good =
 
 -- a good pattern with its meaning, which is read behind n positions
 pub record PatternMeant (text : List ℕ) (n : ℕ) (readers follow : List ℕ)
-    (r : Part) (readersAfter followAfter : List ℕ) : Type 0 where
+    (r : Part) (readers_after follow_after : List ℕ) : Type 0 where
   pub meaning : Expression
   pub pattern : IsPattern text meaning
   pub not_null : ¬ Null meaning
   pub told : Told n meaning r
-  pub tabled : Tabled n meaning readers follow readersAfter followAfter
+  pub tabled : Tabled n meaning readers follow readers_after follow_after
 
 -- it is good, or bad at its place
 pub record PatternRead (text : List ℕ) (n : ℕ) (readers follow : List ℕ)
-    (r : Part) (readersAfter followAfter : List ℕ) : Type 0 where
-  pub good : r.good ≡ true → PatternMeant text n readers follow r readersAfter followAfter
+    (r : Part) (readers_after follow_after : List ℕ) : Type 0 where
+  pub good : r.good ≡ true → PatternMeant text n readers follow r readers_after follow_after
   pub bad : r.good ≡ false → BadAt text r.at

@@ -31,10 +31,10 @@ module _ (lefts heads : List ℕ) (q p : ℕ) {a b : ℕ} (one : a ≡ get_or le
   not_alike differ alike = differ (one ∙ alike.left ∙ sym other)
 
   pub alike_decided : a ≡ b → {c d : ℕ} → c ≡ get_or heads q 0 → d ≡ get_or heads p 0 → Decides (eqb c d) (Alike lefts heads q p)
-  alike_decided same {c} {d} head-one head-other =
+  alike_decided same {c} {d} head_one head_other =
       decided (eqb c d)
-      (λ e. record { left = sym one ∙ same ∙ other; head = sym head-one ∙ eqb-true c d e ∙ head-other })
-      (λ alike. eq-eqb c d (head-one ∙ alike.head ∙ sym head-other))
+      (λ e. record { left = sym one ∙ same ∙ other; head = sym head_one ∙ eqb-true c d e ∙ head_other })
+      (λ alike. eq-eqb c d (head_one ∙ alike.head ∙ sym head_other))
 
 -- a search among the lower productions: one is found, or none so far is alike
 pub shared_found : (lefts heads : List ℕ) (p : ℕ) {q : ℕ} → q < p → Alike lefts heads q p → Shared lefts heads p
@@ -43,27 +43,27 @@ shared_found lefts heads p {q} below alike = record { lower = q; below = below; 
 pub shared_none : (lefts heads : List ℕ) (p : ℕ) {q : ℕ} → p ≤ q → ((i : ℕ) → i < q → ¬ Alike lefts heads i p) → ¬ Shared lefts heads p
 shared_none lefts heads p over none s = none s.lower (omega (arith, s.below)) s.alike
 
-module _ {lefts lengths heads : List ℕ} {p n : ℕ} (length-is : n ≡ get_or lengths p 0) where
+module _ {lefts lengths heads : List ℕ} {p n : ℕ} (length_is : n ≡ get_or lengths p 0) where
   pub breaks_empty : n ≡ 0 → BreaksAt lefts lengths heads p true
   breaks_empty none =
       record {
         decides = λ book places o left size head inside lower.
-            bare_breaks book places o inside (sym (size.inside p inside) ∙ sym length-is ∙ none);
+            bare_breaks book places o inside (sym (size.inside p inside) ∙ sym length_is ∙ none);
       }
 
-  module _ (some_symbol : n ≢ 0) {m : ℕ} (head-is : m ≡ get_or heads p 0) where
+  module _ (some_symbol : n ≢ 0) {m : ℕ} (head_is : m ≡ get_or heads p 0) where
     pub breaks_named : 128 ≤ m → BreaksAt lefts lengths heads p true
     breaks_named high =
         record {
           decides = λ book places o left size head inside lower.
-              named_breaks book places o inside (λ e. some_symbol (length-is ∙ size.inside p inside ∙ e)) (omega (arith, head.inside p inside));
+              named_breaks book places o inside (λ e. some_symbol (length_is ∙ size.inside p inside ∙ e)) (omega (arith, head.inside p inside));
         }
 
     pub breaks_shared : m < 128 → {r : Bool} → Decides r (Shared lefts heads p) → BreaksAt lefts lengths heads p r
     breaks_shared low {r = true} shared =
         record {
           decides = λ book places o left size head inside lower.
-              shared_breaks book places o inside (λ e. some_symbol (length-is ∙ size.inside p inside ∙ e)) (omega (arith, head.inside p inside)) shared.below
+              shared_breaks book places o inside (λ e. some_symbol (length_is ∙ size.inside p inside ∙ e)) (omega (arith, head.inside p inside)) shared.below
               (lower shared.lower shared.below)
               (sym (left.inside shared.lower (omega (arith, shared.below))) ∙ shared.alike.left ∙ left.inside p inside)
               (sym (head.inside shared.lower (omega (arith, shared.below))) ∙ shared.alike.head ∙ head.inside p inside);
@@ -71,7 +71,7 @@ module _ {lefts lengths heads : List ℕ} {p n : ℕ} (length-is : n ≡ get_or 
     breaks_shared low {r = false} alone =
         record {
           decides = λ book places o left size head inside lower.
-              alone_keeps book places o inside (λ e. some_symbol (length-is ∙ size.inside p inside ∙ e)) (omega (arith, head.inside p inside))
+              alone_keeps book places o inside (λ e. some_symbol (length_is ∙ size.inside p inside ∙ e)) (omega (arith, head.inside p inside))
               (λ q below l h. alone
               (record {
                 lower = q;

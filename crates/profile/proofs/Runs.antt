@@ -67,13 +67,13 @@ module _ {book table tokens : List ℕ} (h : Premises book table tokens) (plain 
           → IsSet (number r.answer.expected) (Continues h.built.grammar (take r.answer.place tokens))
       go (stackless e a b c) = absurd (omega (arith, ap (λ (x : Answer). x.number) a))
       go (begins k e) =
-          let (reason, s, why, stopped-at, place, set) = told_reason (ends_told e) n in
+          let (reason, s, why, stopped_at, place, set) = told_reason (ends_told e) n in
           let well = serves_well_formed h.built.serves in
           let useful = h.built.serves.useful.useful in
           subst₂ (λ (x : Set) (k : ℕ). IsSet (number x) (Continues h.built.grammar (take k tokens))) (sym set) (sym place)
           (hint_is (serves_limits h.built.serves).tokens_fit well table (take s.matched tokens) why
-          (run_plain_next (premises_exact h) well useful plain (counted stack) (counted list) tokens stopped-at why)
-          (run_next_some (premises_exact h) well useful (counted stack) (counted list) tokens stopped-at why))
+          (run_plain_next (premises_exact h) well useful plain (counted stack) (counted list) tokens stopped_at why)
+          (run_next_some (premises_exact h) well useful (counted stack) (counted list) tokens stopped_at why))
 
 -- with a list cell for each token and 1 + 15 stack cells a token no run is refused for room
 barred_roomy : {g : Grammar} {table tokens stack : List ℕ} {a : Answer} → 1 ≤ length stack → Barred g table tokens stack a → a.number ≢ room
@@ -91,10 +91,10 @@ module _ {book table : List ℕ} (b : BuiltWithoutConflict book table) (plain : 
     ended_roomy : {g : Grammar} → g ≡ b.grammar → Admits g table tokens stack → (run_answer g table (ran g table tokens stack list)).number ≢ room
     unfolding ran run_answer
     ended_roomy {g} same admits n =
-        let (reason, s, why, stopped-at) = told_room (told (expected g table) (ran g table tokens stack list)) n in
+        let (reason, s, why, stopped_at) = told_room (told (expected g table) (ran g table tokens stack list)) n in
         let decided = run_plain_enough (built_exact b) plain (counted stack) (counted list) tokens sides_short (omega (arith, admits.short)) (omega (arith, admits.short)) in
         let here : Decided (ran g table tokens stack list) = subst (λ (x : Grammar). Decided (ran x table tokens stack list)) (sym same) decided in
-        short_undecided why (subst (λ (o : Offered). Decided o) stopped-at here)
+        short_undecided why (subst (λ (o : Offered). Decided o) stopped_at here)
 
     pub run_roomy : {a : Answer} {s l : List ℕ} → RunOutcome book table tokens stack list a s l → a.number ≢ room
     run_roomy (running.refused r) e = omega (arith, (refuses_number r).1)

@@ -120,5 +120,5 @@ module _ (book places : List ℕ) (o : Outline) where
         let bad : ◌≡◌ {A = ℕ} 0 1 = cc in omega arith
     alone_keeps alone (again {q = q} below lower rule) =
         let (left, filled, head, small) = token_byte inside rule in
-        let (other-left, other-filled, other-head, other-small) = token_byte {p = q} (omega arith) lower in
-        alone q below (other-left ∙ sym left) (other-head ∙ sym head)
+        let (other_left, other_filled, other_head, other_small) = token_byte {p = q} (omega arith) lower in
+        alone q below (other_left ∙ sym left) (other_head ∙ sym head)

@@ -128,10 +128,10 @@ module _ (b : List ℕ) where
     records_join zero next K at inside passes alike = alike [] at inside
     records_join (suc p) next K at inside passes alike =
         let after : Verdict → Verdict = λ v. K (each_record_from b T N p v) in
-        let passes-after : Passes after = λ number place. ap K (records_pass b T N p number place) ∙ passes number place in
-        marked_joins _ _ _ (λ v. after (right_from b T N (wanted_from b 0 N symbol v))) _ inside passes-after
-        (λ h. wanted_joins _ _ _ _ (λ v. after (right_from b T N v)) _ h passes-after
-        (λ k. right_joins _ after _ k passes-after
+        let passes_after : Passes after = λ number place. ap K (records_pass b T N p number place) ∙ passes number place in
+        marked_joins _ _ _ (λ v. after (right_from b T N (wanted_from b 0 N symbol v))) _ inside passes_after
+        (λ h. wanted_joins _ _ _ _ (λ v. after (right_from b T N v)) _ h passes_after
+        (λ k. right_joins _ after _ k passes_after
         (λ form place fits. records_join p _ K place fits passes (λ rest. alike _))))
 
   end_joins : (g : Grammar) (at : ℕ) → at ≤ length b → Comes (ending g) at (end_from b at (Next at))
@@ -157,12 +157,12 @@ module _ (b : List ℕ) where
   unfolding verdict_of spells line header_from records_from resumed_at verdict_place end_from wanted_from and_then
   spells_joined =
       let after_start : Verdict → Verdict = λ v. line (wanted_from b 1 (suc most_productions) limit v) in
-      let after-nonterminals : Verdict → Verdict = λ v. after_start (wanted_from b 0 (get_or b 3 0) limit v) in
-      let after-tokens : Verdict → Verdict = λ v. after-nonterminals (wanted_from b 1 (suc most_nonterminals) limit v) in
-      let after-mark : Verdict → Verdict = λ v. after-tokens (wanted_from b 1 (suc most_tokens) limit v) in
-      marked_joins _ _ _ after-mark 0 zero-le line_passes
-      (λ h. wanted_joins _ _ _ _ after-tokens _ h line_passes
-      (λ h. wanted_joins _ _ _ _ after-nonterminals _ h line_passes
+      let after_nonterminals : Verdict → Verdict = λ v. after_start (wanted_from b 0 (get_or b 3 0) limit v) in
+      let after_tokens : Verdict → Verdict = λ v. after_nonterminals (wanted_from b 1 (suc most_nonterminals) limit v) in
+      let after_mark : Verdict → Verdict = λ v. after_tokens (wanted_from b 1 (suc most_tokens) limit v) in
+      marked_joins _ _ _ after_mark 0 zero-le line_passes
+      (λ h. wanted_joins _ _ _ _ after_tokens _ h line_passes
+      (λ h. wanted_joins _ _ _ _ after_nonterminals _ h line_passes
       (λ h. wanted_joins _ _ _ _ after_start _ h line_passes
       (λ h. wanted_joins _ _ _ _ line _ h line_passes
       (λ h. records_join _ _ _ _ (λ listed. end_from b (verdict_place listed) listed) _ h (λ number place. refl)
@@ -177,4 +177,4 @@ module _ (b : List ℕ) where
       verdict ≡ end_from b records_end listed →
       verdict ≡ verdict_of b
   unfolding line
-  read_is headed-is start_is listed-is end_is verdict-is = cc spells_joined
+  read_is headed_is start_is listed_is end_is verdict_is = cc spells_joined

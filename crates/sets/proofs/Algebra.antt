@@ -22,9 +22,9 @@ joined_vanishes e x y = rw (member_joined, eq-eqb e e refl) (at_e (member e x))
 pub joined_elsewhere : (e k x y : ℕ) → k ≢ e → member k (joined e x y) ≡ member k x || (member e x && member k y)
 joined_elsewhere e k x y d = rw (member_joined, ne_eqb k e d) (elsewhere (member e x) (member k x))
   where
-    elsewhere : (v inX : Bool) → cond v ((inX && true) || member k y) inX ≡ inX || (v && member k y)
-    elsewhere true inX = ap (λ (b : Bool). b || member k y) (and-true inX)
-    elsewhere false inX = sym (or-false inX)
+    elsewhere : (v in_x : Bool) → cond v ((in_x && true) || member k y) in_x ≡ in_x || (v && member k y)
+    elsewhere true in_x = ap (λ (b : Bool). b || member k y) (and-true in_x)
+    elsewhere false in_x = sym (or-false in_x)
 
 only_at : (e : ℕ) → member e (only e) ≡ true
 only_at e = member_only e e ∙ eq-eqb e e refl

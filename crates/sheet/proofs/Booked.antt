@@ -57,11 +57,11 @@ module _ (text : List ℕ) (g : Grammar) (limits : Limits g) where
   right_read (suc room) at rest (each {x = s} {xs = form} known all) fits stands =
       let more : List ℕ = symbols_text form ++ (line_feed ∷ rest) in
       let first : drop at text ≡ symbol_text s ++ more = stands ∙ append_assoc (symbol_text s) (symbols_text form) (line_feed ∷ rest) in
-      let (space-here, byte, next) = symbol_read at more known first (behind_symbols form rest) in
+      let (space_here, byte, next) = symbol_read at more known first (behind_symbols form rest) in
       let (bytes, end) = right_read room (at + length (symbol_text s)) rest all (omega arith) (rest_on text at (symbol_text s) more first) in
       let whole : at + length (symbol_text s) + length (symbols_text form) ≡ at + length (symbol_text s ++ symbols_text form) =
       omega (arith, length-append (symbol_text s) (symbols_text form)) in
-      rw (space-here, next) (
+      rw (space_here, next) (
         ap (λ (b : ℕ). b ∷ right_in text room (at + length (symbol_text s))) byte ∙ ap (λ (l : List ℕ). byte_of s ∷ l) bytes,
         end ∙ whole,
       )
@@ -125,9 +125,9 @@ booked_copied {sheet} {blank} {bytes} {buffer} {after} {size} {a} d told all sam
     let g : Grammar = grammar_of d in
     let own : draft_of g ≡ d = own_draft d same in
     let limits : Limits g = faultless_limits g (subst (λ (e : Draft). Faultless (fields_of e)) (sym own) all) in
-    let sheet-is : sheet ≡ sheet_of g = told ∙ sym (ap draft_text own) in
-    let book_is : book_in sheet (head_in sheet) ≡ bytes_of g = ap (λ (t : List ℕ). book_in t (head_in t)) sheet-is ∙ book_read g limits in
+    let sheet_is : sheet ≡ sheet_of g = told ∙ sym (ap draft_text own) in
+    let book_is : book_in sheet (head_in sheet) ≡ bytes_of g = ap (λ (t : List ℕ). book_in t (head_in t)) sheet_is ∙ book_read g limits in
     let fits : length (book_in sheet (head_in sheet)) ≤ length blank =
     omega (arith, ap length book_is, longest_book_lem (bytes_of g) (read_written limits)) in
     let front : take size bytes ≡ bytes_of g = put_front p fits ∙ book_is in
-    booked g sheet-is limits (subst (λ (b : List ℕ). Copied b buffer a after) front copied)
+    booked g sheet_is limits (subst (λ (b : List ℕ). Copied b buffer a after) front copied)

@@ -22,19 +22,19 @@ digit_starts {c} (no_digit {b = b} other) d e = let same : b ≡ c = cc in other
 
 digits_split : (ds es : List ℕ) {u v : List ℕ} → Each DecimalDigit ds → Each DecimalDigit es → Ended u → Ended v → ds ++ u ≡ es ++ v
     → (ds ≡ es) × (u ≡ v)
-digits_split [] [] all every no-u no-v e = (refl, e)
-digits_split [] (c ∷ es) all every no-u no-v e = absurd (digit_starts no-u every.0 e)
-digits_split (c ∷ ds) [] all every no-u no-v e = absurd (digit_starts no-v all.0 (sym e))
-digits_split (c ∷ ds) (d ∷ es) {u} {v} all every no-u no-v e =
+digits_split [] [] all every no_u no_v e = (refl, e)
+digits_split [] (c ∷ es) all every no_u no_v e = absurd (digit_starts no_u every.0 e)
+digits_split (c ∷ ds) [] all every no_u no_v e = absurd (digit_starts no_v all.0 (sym e))
+digits_split (c ∷ ds) (d ∷ es) {u} {v} all every no_u no_v e =
     let same : c ≡ d = cc in
     let tails : ds ++ u ≡ es ++ v = cc in
-    let (digits, rests) = digits_split ds es all.1 every.1 no-u no-v tails in
+    let (digits, rests) = digits_split ds es all.1 every.1 no_u no_v tails in
     (ap₂ ◌∷◌ same digits, rests)
 
 -- a number and what follows it
 pub number_split : (n m : ℕ) {u v : List ℕ} → Ended u → Ended v → decimal n ++ u ≡ decimal m ++ v → (n ≡ m) × (u ≡ v)
-number_split n m no-u no-v e =
-    let (digits, rests) = digits_split (decimal n) (decimal m) (decimal_digits n) (decimal_digits m) no-u no-v e in
+number_split n m no_u no_v e =
+    let (digits, rests) = digits_split (decimal n) (decimal m) (decimal_digits n) (decimal_digits m) no_u no_v e in
     (sym (decimal_value n) ∙ ap (value 10) digits ∙ decimal_value m, rests)
 
 pub space_ends : {rest : List ℕ} → Ended (space ∷ rest)
@@ -51,16 +51,16 @@ side_ends (Nonterminal n ∷ form) rest = space_ends
 
 symbol_split : (s r : Symbol) {u v : List ℕ} → Ended u → Ended v → symbol_text s ++ u ≡ symbol_text r ++ v → (s ≡ r) × (u ≡ v)
 unfolding symbol_text
-symbol_split (Token t) (Token q) {u} {v} no-u no-v e =
+symbol_split (Token t) (Token q) {u} {v} no_u no_v e =
     let tails : decimal t ++ u ≡ decimal q ++ v = cc in
-    let (same, rests) = number_split t q no-u no-v tails in
+    let (same, rests) = number_split t q no_u no_v tails in
     (ap Token same, rests)
-symbol_split (Nonterminal n) (Nonterminal m) {u} {v} no-u no-v e =
+symbol_split (Nonterminal n) (Nonterminal m) {u} {v} no_u no_v e =
     let tails : decimal n ++ u ≡ decimal m ++ v = cc in
-    let (same, rests) = number_split n m no-u no-v tails in
+    let (same, rests) = number_split n m no_u no_v tails in
     (ap Nonterminal same, rests)
-symbol_split (Token t) (Nonterminal m) no-u no-v e = let bad : letter_t ≡ letter_n = cc in absurd (omega arith)
-symbol_split (Nonterminal n) (Token q) no-u no-v e = let bad : letter_n ≡ letter_t = cc in absurd (omega arith)
+symbol_split (Token t) (Nonterminal m) no_u no_v e = let bad : letter_t ≡ letter_n = cc in absurd (omega arith)
+symbol_split (Nonterminal n) (Token q) no_u no_v e = let bad : letter_n ≡ letter_t = cc in absurd (omega arith)
 
 no_symbol : (s : Symbol) (u v : List ℕ) → ¬ (line_feed ∷ u ≡ symbol_text s ++ v)
 unfolding symbol_text

@@ -58,9 +58,9 @@ number_on slot n [] sep rest numeral other = absurd (omega (arith, numeral.writt
 number_on slot n (b ∷ digits) sep rest numeral other = by (ℕ_discrete b zero_digit)
   where
     by : Dec (b ≡ zero_digit) → after (step (First slot) b) (digits ++ (sep ∷ rest)) ≡ after (behind slot sep) rest
-    by (yes zero-first) =
-        ap (λ phase. after phase (digits ++ (sep ∷ rest))) (zero_step slot b zero-first)
-        ∙ zero_on slot digits sep rest (numeral.leading zero-first)
+    by (yes zero_first) =
+        ap (λ phase. after phase (digits ++ (sep ∷ rest))) (zero_step slot b zero_first)
+        ∙ zero_on slot digits sep rest (numeral.leading zero_first)
     by (no nonzero) =
         ap (λ phase. after phase (digits ++ (sep ∷ rest))) (first_step slot b numeral.digits.0 nonzero)
         ∙ digits_on slot digits sep rest numeral.digits.1 other

@@ -180,12 +180,12 @@ head_at text d told =
     let two : List ℕ = decimal d.start ++ (space ∷ three) in
     let one : List ℕ = decimal d.nonterminals ++ (space ∷ two) in
     let tokens : NumberAt text 0 d.tokens one = number_at_lem text 0 d.tokens space one refl (told ∙ draft_parts d) in
-    let first-end : 0 + length (decimal d.tokens) + 1 ≡ second d = omega arith in
+    let first_end : 0 + length (decimal d.tokens) + 1 ≡ second d = omega arith in
     let nonterminals : NumberAt text (second d) d.nonterminals two =
-    number_at_lem text (second d) d.nonterminals space two refl (ap (λ (k : ℕ). drop k text) (sym first-end) ∙ tokens.next) in
+    number_at_lem text (second d) d.nonterminals space two refl (ap (λ (k : ℕ). drop k text) (sym first_end) ∙ tokens.next) in
     let start : NumberAt text (third d) d.start three = number_at_lem text (third d) d.start space three refl nonterminals.next in
     let count : NumberAt text (fourth d) d.count four = number_at_lem text (fourth d) d.count line_feed four refl start.next in
-    let second_at : past text (0 + length (decimal d.tokens)) ≡ second d = tokens.behind ∙ first-end in
+    let second_at : past text (0 + length (decimal d.tokens)) ≡ second d = tokens.behind ∙ first_end in
     let whole : fourth d + length (decimal d.count) + 1 ≡ length (first_line d) =
     omega (
       arith,

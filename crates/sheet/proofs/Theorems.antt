@@ -107,21 +107,21 @@ pub sheet_reads_iff : {sheet buffer : List ℕ}
 sheet_reads_iff = trips.sheet_reads_iff
 
 -- a sheet that reads, over and back, gives the same bytes
-pub sheet_book_sheet : {sheet bookRoom sheetRoom book text : List ℕ} {a b : Answer}
-    → ReadOutcome sheet bookRoom a book
+pub sheet_book_sheet : {sheet book_room sheet_room book text : List ℕ} {a b : Answer}
+    → ReadOutcome sheet book_room a book
     → a.number ≡ refusals.served
-    → length sheet ≤ length sheetRoom
-    → WriteOutcome (take a.steps book) sheetRoom b text
-    → (b ≡ done (length sheet)) × (text ≡ over sheet sheetRoom)
+    → length sheet ≤ length sheet_room
+    → WriteOutcome (take a.steps book) sheet_room b text
+    → (b ≡ done (length sheet)) × (text ≡ over sheet sheet_room)
 sheet_book_sheet = trips.sheet_book_sheet
 
 -- a book that reads, over and back, gives the same bytes
-pub book_sheet_book : {book sheetRoom bookRoom sheet bytes : List ℕ} {a b : Answer}
-    → WriteOutcome book sheetRoom a sheet
+pub book_sheet_book : {book sheet_room book_room sheet bytes : List ℕ} {a b : Answer}
+    → WriteOutcome book sheet_room a sheet
     → a.number ≡ refusals.served
-    → length book ≤ length bookRoom
-    → ReadOutcome (take a.steps sheet) bookRoom b bytes
-    → (b ≡ done (length book)) × (bytes ≡ over book bookRoom)
+    → length book ≤ length book_room
+    → ReadOutcome (take a.steps sheet) book_room b bytes
+    → (b ≡ done (length book)) × (bytes ≡ over book book_room)
 book_sheet_book = trips.book_sheet_book
 
 -- no sheet of a book is longer than the longest

@@ -106,13 +106,13 @@ write_served (written {g = g} e copied) none = record { grammar = g; read = e; s
 
 -- the bytes written are no more than those of the longest book and of the longest sheet
 pub read_steps : {sheet buffer : List ℕ} {a : Answer} {after : List ℕ} → ReadOutcome sheet buffer a after → a.number ≡ 0 → a.steps ≤ longest_book
-read_steps outcome reads-well =
-    let s = read_served outcome reads-well in
+read_steps outcome reads_well =
+    let s = read_served outcome reads_well in
     omega (arith, s.stands.counted, longest_book_lem (bytes_of s.grammar) (read_written s.limits))
 
 pub write_steps : {book buffer : List ℕ} {a : Answer} {after : List ℕ} → WriteOutcome book buffer a after → a.number ≡ 0 → a.steps ≤ longest_sheet
-write_steps {book} outcome reads-well =
-    let s = write_served outcome reads-well in
+write_steps {book} outcome reads_well =
+    let s = write_served outcome reads_well in
     omega (arith, s.stands.counted, longest_sheet_lem s.grammar (read_limits book s.read))
 
 -- a sheet is served, given room, exactly if it is that of a grammar within the limits
@@ -130,30 +130,30 @@ sheet_reads_iff {sheet} {buffer} enough = (to, from)
         (done (length (bytes_of g)), over (bytes_of g) buffer, booked g told limits (served fits), refl)
 
 -- a sheet that was read is written again, byte by byte
-pub sheet_book_sheet : {sheet bookRoom sheetRoom book text : List ℕ} {a b : Answer}
-    → ReadOutcome sheet bookRoom a book
+pub sheet_book_sheet : {sheet book_room sheet_room book text : List ℕ} {a b : Answer}
+    → ReadOutcome sheet book_room a book
     → a.number ≡ 0
-    → length sheet ≤ length sheetRoom
-    → WriteOutcome (take a.steps book) sheetRoom b text
-    → (b ≡ done (length sheet)) × (text ≡ over sheet sheetRoom)
-sheet_book_sheet {sheet} {sheetRoom = sheetRoom} {book = book} {text = text} {a = a} {b = b} outcome reads-well enough back =
-    let s = read_served outcome reads-well in
+    → length sheet ≤ length sheet_room
+    → WriteOutcome (take a.steps book) sheet_room b text
+    → (b ≡ done (length sheet)) × (text ≡ over sheet sheet_room)
+sheet_book_sheet {sheet} {sheet_room = sheet_room} {book = book} {text = text} {a = a} {b = b} outcome reads_well enough back =
+    let s = read_served outcome reads_well in
     let g : Grammar = s.grammar in
     let again : spells (take a.steps book) ≡ reads g = ap spells (front s.stands) ∙ read_written s.limits in
-    let fits : length (sheet_of g) ≤ length sheetRoom = rw s.told at enough in
-    subst (λ (t : List ℕ). (b ≡ done (length t)) × (text ≡ over t sheetRoom)) (sym s.told) (write_outcome_unique back (written again (served fits)))
+    let fits : length (sheet_of g) ≤ length sheet_room = rw s.told at enough in
+    subst (λ (t : List ℕ). (b ≡ done (length t)) × (text ≡ over t sheet_room)) (sym s.told) (write_outcome_unique back (written again (served fits)))
 
 -- a book that was written is read again, byte by byte
-pub book_sheet_book : {book sheetRoom bookRoom sheet bytes : List ℕ} {a b : Answer}
-    → WriteOutcome book sheetRoom a sheet
+pub book_sheet_book : {book sheet_room book_room sheet bytes : List ℕ} {a b : Answer}
+    → WriteOutcome book sheet_room a sheet
     → a.number ≡ 0
-    → length book ≤ length bookRoom
-    → ReadOutcome (take a.steps sheet) bookRoom b bytes
-    → (b ≡ done (length book)) × (bytes ≡ over book bookRoom)
-book_sheet_book {book} {bookRoom = bookRoom} {bytes = bytes} {b = b} outcome reads-well enough back =
-    let s = write_served outcome reads-well in
+    → length book ≤ length book_room
+    → ReadOutcome (take a.steps sheet) book_room b bytes
+    → (b ≡ done (length book)) × (bytes ≡ over book book_room)
+book_sheet_book {book} {book_room = book_room} {bytes = bytes} {b = b} outcome reads_well enough back =
+    let s = write_served outcome reads_well in
     let g : Grammar = s.grammar in
     let same : book ≡ bytes_of g = written_read book s.read in
-    let fits : length (bytes_of g) ≤ length bookRoom = rw same at enough in
-    subst (λ (t : List ℕ). (b ≡ done (length t)) × (bytes ≡ over t bookRoom)) (sym same)
+    let fits : length (bytes_of g) ≤ length book_room = rw same at enough in
+    subst (λ (t : List ℕ). (b ≡ done (length t)) × (bytes ≡ over t book_room)) (sym same)
     (read_outcome_unique back (booked g (front s.stands) (read_limits book s.read) (served fits)))

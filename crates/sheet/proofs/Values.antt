@@ -107,17 +107,17 @@ module _ (text : List ℕ) (T N : ℕ) (T-small : T ≤ most_read) (N-small : N 
   symbols_judged_lem zero at (s ∷ form) rest stands =
       let more : List ℕ = symbols_text form ++ (line_feed ∷ rest) in
       let first : drop at text ≡ symbol_text s ++ more = stands ∙ append_assoc (symbol_text s) (symbols_text form) (line_feed ∷ rest) in
-      let (space-here, letter-here, judged) = symbol_judged_lem at s more first (behind_symbols form rest) in
+      let (space_here, letter_here, judged) = symbol_judged_lem at s more first (behind_symbols form rest) in
       let out : ¬ InRange (field 0 0 0 limit (at + 1)) = λ inside. absurd (omega (arith, inside.below)) in
-      rw (space-here, letter-here) (bad (here out))
+      rw (space_here, letter_here) (bad (here out))
   symbols_judged_lem (suc room) at (s ∷ form) rest stands =
       let more : List ℕ = symbols_text form ++ (line_feed ∷ rest) in
       let first : drop at text ≡ symbol_text s ++ more = stands ∙ append_assoc (symbol_text s) (symbols_text form) (line_feed ∷ rest) in
-      let (space-here, letter-here, judged) = symbol_judged_lem at s more first (behind_symbols form rest) in
+      let (space_here, letter_here, judged) = symbol_judged_lem at s more first (behind_symbols form rest) in
       let next : ℕ = at + length (symbol_text s) in
       let end : at + length (symbol_text s ++ symbols_text form) ≡ next + length (symbols_text form) =
       omega (arith, length-append (symbol_text s) (symbols_text form)) in
-      rw (space-here, end)
+      rw (space_here, end)
       (judges_then (symbols_fields T N room next form) (symbols_judged text T N room) judged
       (λ all. symbols_judged_lem room next form rest (rest_on text at (symbol_text s) more first)))
 
@@ -150,9 +150,9 @@ unfolding lines_fields lines_text
 lines_more {text} {T} {N} {at} {count} {ps} r all (all_there enough more) =
     let end : at + length (line_text r) + length (lines_text (take count ps)) ≡ at + length (line_text r ++ lines_text (take count ps)) =
     omega (arith, length-append (line_text r) (lines_text (take count ps))) in
-    let all-enough : suc count ≤ length (r ∷ ps) = omega arith in
+    let all_enough : suc count ≤ length (r ∷ ps) = omega arith in
     rw end
-    (all_there all-enough
+    (all_there all_enough
     (every_append (line_fields T N at r) (lines_fields T N (at + length (line_text r)) (take count ps)) all more))
 lines_more {T = T} {N} {at} {count} {ps} r all (too_few few more) =
     let too : length (r ∷ ps) < suc count = omega arith in
@@ -197,14 +197,14 @@ head_judged_lem text d h =
     rw (h.head, h.second_at, h.third_at, h.fourth_at)
     (judges_then (nonterminals ∷ start ∷ count ∷ []) (λ at. both two (both three four))
     (field_judged tokens (number_of d.tokens 0) refl (omega arith))
-    (λ fine-tokens. judges_then (start ∷ count ∷ []) (λ at. both three four)
+    (λ fine_tokens. judges_then (start ∷ count ∷ []) (λ at. both three four)
     (field_judged nonterminals (number_of d.nonterminals (second d)) refl (omega arith))
-    (λ fine-nonterminals.
-    let same : min d.nonterminals most_read ≡ d.nonterminals = small fine-nonterminals in
+    (λ fine_nonterminals.
+    let same : min d.nonterminals most_read ≡ d.nonterminals = small fine_nonterminals in
     rw same
     (judges_then (count ∷ []) (λ at. four)
     (field_judged start (number_of d.start (third d)) refl (omega (arith, same)))
-    (λ fine-start. field_judged count (number_of d.count (fourth d)) refl (omega arith))))))
+    (λ fine_start. field_judged count (number_of d.count (fourth d)) refl (omega arith))))))
   where
     small : Faultless (field d.nonterminals 1 (suc most_nonterminals) limit (second d) ∷ [])
         → min d.nonterminals most_read ≡ d.nonterminals
@@ -277,16 +277,16 @@ module _ (text : List ℕ) (d : Draft) (told : text ≡ draft_text d) where
     where
       by : Dec (d.count < length d.productions) → Faultless (fields_of d)
           → DraftJudge text d (cond (ltb end (length text)) (Bad extra end) (Next end))
-      by (yes less) fine-all =
+      by (yes less) fine_all =
           let inside : end < length text = omega (arith, size, lines_shorter d.count d.productions less) in
           let place : length (first_line d ++ lines_text (take d.count d.productions)) ≡ end =
           length-append (first_line d) (lines_text (take d.count d.productions)) in
-          rw (lt-ltb end (length text) inside, ← place) (many fine-all less)
-      by (no other) fine-all =
+          rw (lt-ltb end (length text) inside, ← place) (many fine_all less)
+      by (no other) fine_all =
           let same : d.count ≡ length d.productions = omega arith in
           let whole : take d.count d.productions ≡ d.productions = take_all d.count d.productions (omega arith) in
           let past_end : length text ≤ end = omega (arith, size, ap (λ (ps : List Production). length (lines_text ps)) whole) in
-          rw (le-ltb end (length text) past_end) (good fine-all same)
+          rw (le-ltb end (length text) past_end) (good fine_all same)
 
   -- judging the sheet by place comes to what its draft comes to
   pub sheet_judged_lem : DraftJudge text d (sheet_judged text (head_in text))

@@ -169,13 +169,13 @@ module _ {g : Grammar} {cell : ℕ → Column → Option Action} {move : ℕ →
   accepted_ending (reduces {s = o} {p = p} {k = k} {j = j} {below = below} {rest = rest} {w = w} {ps = ps} e r d leads a)
       listed matched steps height fits few high =
       let uncovers : drop (size_in g p) (o ∷ below) ≡ k ∷ rest = rw (rule_size r) d in
-      let moves-to : move k (left_in g p) ≡ some j = rw (rule_left r) leads in
+      let moves_to : move k (left_in g p) ≡ some j = rw (rule_left r) leads in
       let higher : ℕ = max height (suc (suc (length rest))) in
-      let few-more : length listed < cells → length (listed ++ (p ∷ [])) ≤ cells =
+      let few_more : length listed < cells → length (listed ++ (p ∷ [])) ≤ cells =
       λ longer. omega (arith, length-append listed (p ∷ [])) in
-      ending_reduces (setting_of g cell move room cells) _ w ps p j k rest (most_held a) e uncovers moves-to
+      ending_reduces (setting_of g cell move room cells) _ w ps p j k rest (most_held a) e uncovers moves_to
       (held_least a) fits high
-      (λ longer more. accepted_ending a (listed ++ (p ∷ [])) matched (suc steps) higher more (few-more longer) (omega arith))
+      (λ longer more. accepted_ending a (listed ++ (p ∷ [])) matched (suc steps) higher more (few_more longer) (omega arith))
 
   -- the run from the start
   accepted_run : {w ps : List ℕ} {most : ℕ}

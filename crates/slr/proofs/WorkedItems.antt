@@ -290,9 +290,9 @@ module _ (g : Grammar) where
       first : k ≡ i → T (has_item (advancing x (k ∷ xs)) j)
       first e =
           let (at, is) = advances_after g a in
-          let over-is : over k ≡ j = ap over e ∙ sym is in
+          let over_is : over k ≡ j = ap over e ∙ sym is in
           put (is_after g x k) (is_after_lem g x k (ap (after g) e ∙ at))
-          (subst (λ (l : Item). T (same_item (over k) l)) over-is (same_item_self (over k)))
+          (subst (λ (l : Item). T (same_item (over k) l)) over_is (same_item_self (over k)))
 
       later : (b : Bool)
           → T rest
@@ -311,10 +311,10 @@ module _ (g : Grammar) where
   unfolding closed_test
   closed_all xs t f (given {i = i} h) = f i h
   closed_all xs t f (opened {i = i} {p = p} c a r) =
-      let each-open : T (all (has_item xs) (opens g i)) =
+      let each_open : T (all (has_item xs) (opens g i)) =
       has_every (λ k. T (all (has_item xs) (opens g k))) (all_every (λ k. all (has_item xs) (opens g k)) xs t) i
       (closed_all xs t f c) in
-      has_every (λ k. T (has_item xs k)) (all_every (has_item xs) (opens g i) each-open) (dotted p 0) (opens_all g a r)
+      has_every (λ k. T (has_item xs k)) (all_every (has_item xs) (opens g i) each_open) (dotted p 0) (opens_all g a r)
 
   -- and the set has no others
   pub items_complete : (n : ℕ) (γ : Form)

@@ -104,14 +104,14 @@ module _ (book places : List ℕ) (o : Outline) (table tokens stack : List ℕ) 
       fits_at s c col inside =
           rw (digits_mod s col, count_from book places o.productions 0) at (admits.fits.cells (s * columns_in o + c) inside)
 
-  module _ {lefts lengths : List ℕ} (left-column : Lefts book places o lefts) (length-column : Lengths book places o lengths) where
+  module _ {lefts lengths : List ℕ} (left_column : Lefts book places o lefts) (length_column : Lengths book places o lengths) where
     left_same : (p : ℕ) → get_or lefts p 0 ≡ left_in g p
     unfolding left_in production_at
     left_same p = go (dec_lt p o.productions)
       where
         go : Dec (p < o.productions) → get_or lefts p 0 ≡ left_in g p
-        go (yes h) = left-column.inside p h ∙ rw (production_found book places o h, left_in)
-        go (no n) = left-column.beyond p (omega arith) ∙ rw (production_missing book places o {p = p} (omega arith), left_in)
+        go (yes h) = left_column.inside p h ∙ rw (production_found book places o h, left_in)
+        go (no n) = left_column.beyond p (omega arith) ∙ rw (production_missing book places o {p = p} (omega arith), left_in)
 
     size_same : (p : ℕ) → get_or lengths p 0 ≡ size_in g p
     unfolding size_in production_at
@@ -119,9 +119,9 @@ module _ (book places : List ℕ) (o : Outline) (table tokens stack : List ℕ) 
       where
         go : Dec (p < o.productions) → get_or lengths p 0 ≡ size_in g p
         go (yes h) =
-            length-column.inside p h
+            length_column.inside p h
             ∙ rw (production_found book places o h, size_in) (sym (length_symbols book (get_or places p 0 + 4) (get_or book (get_or places p 0 + 3) 0)))
-        go (no n) = length-column.beyond p (omega arith) ∙ rw (production_missing book places o {p = p} (omega arith), size_in)
+        go (no n) = length_column.beyond p (omega arith) ∙ rw (production_missing book places o {p = p} (omega arith), size_in)
 
     cell_same : (s : ℕ) (c : Column) → action_in (numbers_of o) table s c ≡ action_in g table s c
     unfolding action_in outlined

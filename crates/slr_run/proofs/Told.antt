@@ -206,8 +206,8 @@ module _ (o : Outline) (table lefts lengths : List ℕ) (room cells : ℕ) (grou
       unfolding code_of
       reduce_said short =
           let whole : 512 + (number - 512) ≡ number = omega arith in
-          let fits-code : number - 512 < 511 = omega (arith, reduce_known) in
-          says ∙ ap action_of (sym whole) ∙ code_action (coded_reduce fits-code)
+          let fits_code : number - 512 < 511 = omega (arith, reduce_known) in
+          says ∙ ap action_of (sym whole) ∙ code_action (coded_reduce fits_code)
 
       pub turn_reduce : {r : Turn}
           → o.productions < 256

@@ -93,9 +93,9 @@ module _ (m : Setting) (rows : ℕ) (c : Column) (at₀ : Stage) (stack₀ list�
     unfolding stage_in reduced_to
     turning_reduce {p} {j} {base} (Turns.reduces {k = k} {rest = rest} says uncovers moved row few tall long) =
         let (stays, low) = uncovered t.held (m.size p) uncovers in
-        let stays-base : held_by stack (base + 1) ≡ k ∷ rest = rw (← long) stays in
+        let stays_base : held_by stack (base + 1) ≡ k ∷ rest = rw (← long) stays in
         let cells_left : at.listed < counted list = omega (arith, cells_are, t.kept.list_length) in
-        let next = reduced_stage at stack list p j base k rest (omega arith) stays-base long in
+        let next = reduced_stage at stack list p j base k rest (omega arith) stays_base long in
         record {
           held = reduced_held t.held j base row (omega arith) (omega (arith, room_is, t.kept.stack_length));
           listed = omega (arith, length-set list at.listed p);

@@ -68,5 +68,5 @@ module _ {g : Grammar} where
       go (no n) (yes h) = absurd (omega (arith, k.earlier j h r s l.lowest l.next, l.order))
       go (no n) (no m) =
           let same : j ≡ i = omega arith in
-          let (p-same, q-same) = lower_claim k (subst (λ (c : ℕ). FirstConflict g c r s) same l) in
-          (sym same, p-same, q-same)
+          let (p_same, q_same) = lower_claim k (subst (λ (c : ℕ). FirstConflict g c r s) same l) in
+          (sym same, p_same, q_same)

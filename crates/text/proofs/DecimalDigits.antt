@@ -79,23 +79,23 @@ decimal_value =
 decimal_first : (n : ℕ) → (1 ≤ length (decimal n)) × (get_or (decimal n) 0 0 ≡ 48 → n ≡ 0)
 decimal_first =
     decimal_induction (λ n text. (1 ≤ length text) × (get_or text 0 0 ≡ 48 → n ≡ 0))
-    (λ d low. (omega arith, λ zero-first. omega (arith, digit_low low)))
+    (λ d low. (omega arith, λ zero_first. omega (arith, digit_low low)))
     (λ n front high first. (
       omega (arith, length-append front (digit (n % 10) ∷ [])),
-      λ zero-first. omega (arith, first.1 (sym (get_or-append front (digit (n % 10) ∷ []) 0 0 first.0) ∙ zero-first)),
+      λ zero_first. omega (arith, first.1 (sym (get_or-append front (digit (n % 10) ∷ []) 0 0 first.0) ∙ zero_first)),
     ))
 
 -- a zero in front is the number zero, and the only digit
 pub decimal_no_leading_zero : (n : ℕ) → get_or (decimal n) 0 0 ≡ 48 → (n ≡ 0) × (decimal n ≡ 48 ∷ [])
-decimal_no_leading_zero n zero-first =
-    let none : n ≡ 0 = (decimal_first n).1 zero-first in
+decimal_no_leading_zero n zero_first =
+    let none : n ≡ 0 = (decimal_first n).1 zero_first in
     (none, ap decimal none ∙ decimal_low (omega arith) ∙ ap (λ (c : ℕ). c ∷ []) (digit_low (omega arith)))
 
 pub decimal_numeral : (n : ℕ) → Numeral n (decimal n)
 decimal_numeral n = record {
   digits = decimal_digits n;
   written = (decimal_first n).0;
-  leading = λ zero-first. ap length (decimal_no_leading_zero n zero-first).1;
+  leading = λ zero_first. ap length (decimal_no_leading_zero n zero_first).1;
   says = decimal_value n;
 }
 
@@ -107,7 +107,7 @@ numeral_length n (c ∷ text) numeral k one small = by (dec_le (suc (length text
     by : Dec (suc (length text) ≤ k) → suc (length text) ≤ k
     by (yes fits) = fits
     by (no long) =
-        let nonzero : c ≢ 48 = λ zero-first. omega (arith, numeral.leading zero-first) in
+        let nonzero : c ≢ 48 = λ zero_first. omega (arith, numeral.leading zero_first) in
         let first : DecimalDigit c = numeral.digits.0 in
         let counts : 1 ≤ digit_value c = omega (arith, digit_value_low {c = c} (omega arith)) in
         absurd

@@ -94,8 +94,8 @@ quotient : (p a v : ℕ) → v < p → (a * p + v) / p ≡ a
 quotient p a v small = mul-add-div_right (omega arith) a v ∙ omega (arith, div-eq_of_lt small)
 
 same_quotient : (p a b : ℕ) {v w : ℕ} → v < p → w < p → a * p + v ≡ b * p + w → a ≡ b
-same_quotient p a b {v} {w} small-v small-w same =
-    sym (quotient p a v small-v) ∙ ap (λ (n : ℕ). n / p) same ∙ quotient p b w small-w
+same_quotient p a b {v} {w} small_v small_w same =
+    sym (quotient p a v small_v) ∙ ap (λ (n : ℕ). n / p) same ∙ quotient p b w small_w
 
 -- texts of digits of one length and one value are the same text
 pub value_injective : (base : ℕ) (xs ys : List ℕ) → Each (Digit base) xs → Each (Digit base) ys

@@ -16,7 +16,7 @@ loop-left-preserved c =
     let args = c.args in
     let loop = c.loop-left in
     let loop-test = c.loop-left-test in
-    let digit-call = c.digit in
+    let digit_call = c.digit in
     let put = c.put-place in
     let n : ℕ = args.n in
     let left : ℕ = loop.left in (
@@ -24,7 +24,7 @@ loop-left-preserved c =
       completes_more (digit (n / 2 ^ (4 * (left - 1)) % 16) ∷ []) (hex_digits (left - 1) n)
           (rw (hex_digits_next left n loop-test.true) at
           loop.invariant.1)
-          (rw digit-call.ensures at put.ensures),
+          (rw digit_call.ensures at put.ensures),
     )
 
 pub returns : goal.returns

@@ -17,9 +17,9 @@ returns-then-both_have c =
 
 pub loop-column-preserved : goal.loop-column-preserved
 loop-column-preserved c =
-    let not-both = decides_false _ c.both_have.result c.both_have.ensures c.if-both_have.false in
+    let not_both = decides_false _ c.both_have.result c.both_have.ensures c.if-both_have.false in
     search_next c.loop-column.invariant c.loop-column-test.true
-    (subst (λ (b : ℕ). ¬ Both (number c.args.x) (number c.args.y) b) c.column_bit.ensures not-both)
+    (subst (λ (b : ℕ). ¬ Both (number c.args.x) (number c.args.y) b) c.column_bit.ensures not_both)
 
 pub returns : goal.returns
 returns c = search_over c.loop-column.invariant c.loop-column-test.false

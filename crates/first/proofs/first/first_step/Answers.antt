@@ -14,9 +14,9 @@ unfolding first_step
 returns c =
     let pre = c.requires in
     let single = c.single in
-    let trail-of = c.trail_of-begun in
+    let trail_of = c.trail_of-begun in
     let unite = c.unite in
     record {
-      made = rw (unite.ensures.made, trail-of.ensures.holds, single_empty single.ensures, right_part _ _ pre);
+      made = rw (unite.ensures.made, trail_of.ensures.holds, single_empty single.ensures, right_part _ _ pre);
       same = unite.ensures.same;
     }

@@ -1,4 +1,4 @@
--- The two cases of `columnOf`.
+-- The two cases of `column_of`.
 use Rattle.offer.proofs.Resumed.{column_next, column_end}
 use Rattle.offer.proofs.offering.column_ahead.Goals as goal
 

@@ -1,4 +1,4 @@
--- The two cases of `symbolOfByte`.
+-- The two cases of `symbol_of_byte`.
 use borrow.Author.Tests.{lt-ltb, le-ltb}
 use Rattle.reader.specs.Fields.{symbol_of_byte}
 use Rattle.reader.proofs.fields.symbol_of.Goals as goal

@@ -1,4 +1,4 @@
--- The two cases of `cutOff`.
+-- The two cases of `cut_off`.
 use Rattle.reader.specs.Positional.{cut_off, and_then}
 use Rattle.reader.proofs.spelling.cut_off.Goals as goal
 

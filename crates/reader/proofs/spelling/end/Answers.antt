@@ -1,4 +1,4 @@
--- The three cases of `endFrom`.
+-- The three cases of `end_from`.
 use borrow.Author.Tests.{lt-ltb, le-ltb}
 use Rattle.reader.specs.Positional.{end_from, and_then}
 use Rattle.reader.proofs.spelling.end.Goals as goal

@@ -30,14 +30,14 @@ returns-then-not-is_within-2 c =
 pub returns-then-not-is_within-3 : goal.returns-then-not-is_within-3
 returns-then-not-is_within-3 c =
     let n = c.byte_at in
-    let within-n = within_at (c.args.book.now) 0 n.result (c.args.at + 4) in
+    let within_n = within_at (c.args.book.now) 0 n.result (c.args.at + 4) in
     c.refused-then-not-is_within-3.ensures
     ∙ sym
     (fifth_wrong (c.args.book.now) (c.args.at) (fourth_right (c.args.book.now) (c.args.at) (third_right (c.args.book.now) (c.args.at) (second_right (c.args.book.now) (c.args.at) (first_right (c.args.book.now) (c.args.at) (told_right c.is_mark.ensures c.if-not-is_mark.false))
     (told_right c.is_mark-2.ensures c.if-not-is_mark-2.false))
     (told_right c.is_within.ensures c.if-not-is_within.false))
     (told_right c.is_within-2.ensures c.if-not-is_within-2.false))
-    (rw n.ensures at (told_wrong {told = within-n} c.is_within-3.ensures c.if-not-is_within-3.true)))
+    (rw n.ensures at (told_wrong {told = within_n} c.is_within-3.ensures c.if-not-is_within-3.true)))
 
 pub returns-then-not-is_within-4 : goal.returns-then-not-is_within-4
 returns-then-not-is_within-4 c =

@@ -1,4 +1,4 @@
--- The two cases of `verdictPlace`.
+-- The two cases of `verdict_place`.
 use Rattle.reader.specs.Verdicts.{verdict_place}
 use Rattle.reader.proofs.spelling.place_of.Goals as goal
 

@@ -1,4 +1,4 @@
--- The three cases of `endJudged`.
+-- The three cases of `end_judged`.
 use borrow.Author.Tests.{lt-ltb, le-ltb}
 use Rattle.sheet.specs.Judging.{end_judged, and_then}
 use Rattle.sheet.proofs.judging.judge_end.Goals as goal
