@@ -14,7 +14,7 @@ abbrev pub Refusing : (Answer → Type 0) → Type 0
 Refusing Bad = (a : Answer) → Bad a → a.number ≢ served
 
 pub because_refusing : {reason : Type 0} {a : Answer} → a.number ≢ served → Refusing (Because reason a)
-because_refusing Some-number a (because h) = Some-number
+because_refusing some_number a (because h) = some_number
 
 pub lacking_refusing : (have want detail : ℕ) → Refusing (Lacking have want detail)
 unfolding refusal

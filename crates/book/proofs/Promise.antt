@@ -52,8 +52,8 @@ module _ {b : List ℕ} where
       → r.answer.number ≢ 0
       → Refuses b r.answer × (r ≡ refusing r.answer)
   unfolding refusing index_of done
-  judged_refused (refuses x) Some-number = (x, refl)
-  judged_refused (serves s) Some-number = absurd (Some-number refl)
+  judged_refused (refuses x) some_number = (x, refl)
+  judged_refused (serves s) some_number = absurd (some_number refl)
 
 module _ {b : List ℕ} {g : Grammar} (s : Serves b g) where
   pub serves_limits : Limits g

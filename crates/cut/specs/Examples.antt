@@ -19,7 +19,7 @@ set_with (q ∷ qs) = added q (set_with qs)
 abbrev pub end_place : ℕ → ℕ
 end_place k = most_positions + k
 
--- `restore` has positions 0 to 6, `(St )?[A-Z][a_z]+` 7 to 11, `in` 12 and 13, `and` 14 to 16
+-- `restore` has positions 0 to 6, `(St )?[A-Z][a-z]+` 7 to 11, `in` 12 and 13, `and` 14 to 16
 unfoldable pub house_sets : List ℕ
 house_sets =
     map set_with (

@@ -73,12 +73,12 @@ module _ {g : Grammar} {cell : ℕ → Column → Option ℕ} where
 
   decided_by : {w z u : List ℕ} {β : Form} → w ≡ u ++ z → Suffices g cell z (Nonterminal g.start ∷ []) u β → ((room cells : ℕ) (e : State) → e.stack ≡ β → (o : Offered) × Halt (right_of g) cell room cells (front z) e o × Decided o) → RoomEnough g cell w
   unfolding begun
-  decided_by {w} f n Halts-at = record { list_cells = n.list_cells; stack_cells = n.stack_cells; decided = decided }
+  decided_by {w} f n halts_at = record { list_cells = n.list_cells; stack_cells = n.stack_cells; decided = decided }
     where
       decided : (room cells : ℕ) → n.list_cells ≤ cells → n.stack_cells ≤ room → Decided (run_from (right_of g) cell room cells w (begun g.start))
       decided room cells h m =
           let (e, k, q) = n.walks room cells (begun g.start) refl (omega arith) m in
-          let (o, halt, d) = Halts-at room cells e q in
+          let (o, halt, d) = halts_at room cells e q in
           rw f (subst (λ (x : Offered). Decided x) (sym (walk_runs k (omega arith) halt)) d)
 
   -- where the textbook's machine halts, some room is enough

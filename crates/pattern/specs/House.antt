@@ -1,4 +1,4 @@
--- The house patterns: `restore`, `(St )?[A-Z][a_z]+`, `in` and `and`, their texts and what they mean.
+-- The house patterns: `restore`, `(St )?[A-Z][a-z]+`, `in` and `and`, their texts and what they mean.
 use Rattle.std.specs.Prelude.{List, [], ◌∷◌, map, ℕ}
 use Prim.Native.Char.{code}
 use Prim.Native.String.{String}

@@ -99,9 +99,9 @@ module _ {M : ℕ → List ℕ → Type 0} {line tokens₀ ends₀ : List ℕ} w
         let numbers : set tokens count k ≡ over (numbers_of (p.pieces ++ (next ∷ []))) tokens₀ =
         rw (p.numbers, ← p.counted, ← numbers_length p.pieces, numbers_next p.pieces next)
         (over_next (numbers_of p.pieces) tokens₀ k (omega (arith, inside.2, p.counted, numbers_length p.pieces))) in
-        let Ends-there = taken_behind line at k end inside.0 inside.1 in
+        let ends_there = taken_behind line at k end inside.0 inside.1 in
         let places : set ends count end ≡ over (take (length ends₀) (ends_of (p.pieces ++ (next ∷ [])))) ends₀ =
-        rw (p.places, ← p.counted, ← ends_length p.pieces, ends_next p.pieces next, Ends-there)
+        rw (p.places, ← p.counted, ← ends_length p.pieces, ends_next p.pieces next, ends_there)
         (over_taken (ends_of p.pieces) ends₀ end) in
         record {
           pieces = p.pieces ++ (next ∷ []);

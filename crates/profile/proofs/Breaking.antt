@@ -96,7 +96,7 @@ unbroken_plain book places o low over = plain_iff.1 (λ p breaks. low.earlier p 
 -- the profile of what judging gives
 module _ {book : List ℕ} {reading : Reading} where
   pub profile_refused : reading.answer.number ≢ 0 → Profiled book reading reading.answer
-  profile_refused Some-number = record { outcome = λ judged. refused (judged_refused judged Some-number).0 }
+  profile_refused some_number = record { outcome = λ judged. refused (judged_refused judged some_number).0 }
 
   module _ (none : reading.answer.number ≡ 0) {o : Outline} (outlines : o ≡ outline_in reading) {p : ℕ}
       (low : Lowest (Breaks (outlined book reading.places o)) o.productions p) where

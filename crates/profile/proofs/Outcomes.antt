@@ -36,7 +36,7 @@ judged_index (serves t) s = ap index_of (serves_unique t s)
 module _ {book : List ℕ} {reading : Reading} (judged : Judged book reading) {a : Answer} (told : Profiled book reading a) where
   pub told_refused : {tokens stack list : List ℕ} → a.number ≢ 0 → PlainRunOutcome book tokens stack list a stack list
   unfolding done
-  told_refused {tokens} {stack} {list} Some-number = go (told.outcome judged) Some-number
+  told_refused {tokens} {stack} {list} some_number = go (told.outcome judged) some_number
     where
       go : {b : Answer} → PlainOutcome book b → b.number ≢ 0 → PlainRunOutcome book tokens stack list b stack list
       go (plain.refused r) n = plain.refused r

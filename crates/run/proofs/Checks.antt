@@ -80,7 +80,7 @@ module _ {T : ℕ} {tokens : List ℕ} {a : Answer} (told : TokensChecked T toke
   -- and else a run on any table that fits is refused with the same answer
   pub tokens_barred : {g : Grammar} {table stack : List ℕ} → T ≡ g.tokens → FitTable g table → a.number ≢ 0 → Barred g table tokens stack a
   unfolding done
-  tokens_barred {g} {table} {stack} same fits Some-number = go told Some-number
+  tokens_barred {g} {table} {stack} same fits some_number = go told some_number
     where
       barred : {b : Answer} → BarredTokens T tokens b → Barred g table tokens stack b
       barred (too_long h) = running.too_long fits h

@@ -110,11 +110,11 @@ module _ {g : Grammar} {paths : List Form} where
 
     -- and a cell that is not empty is a claim
     holds_claim : {i v : ℕ} → i < length table → get_or table i empty_cell ≡ v → v ≢ empty_cell → SlrClaims g paths i v
-    holds_claim {i} {v} h e Some-number = go (made.holds i h) e
+    holds_claim {i} {v} h e some_number = go (made.holds i h) e
       where
         go : {u : ℕ} → SlrHolds g paths i u → u ≡ v → SlrClaims g paths i v
         go (only c one) f = subst (SlrClaims g paths i) f c
-        go (unclaimed none_claims) f = absurd (Some-number (sym f))
+        go (unclaimed none_claims) f = absurd (some_number (sym f))
 
     -- the cells of a row are cells of the table, and past the rows there are none
     cell_inside : {s n : ℕ} → s < length paths → n < columns_of g → s * columns_of g + n < length table

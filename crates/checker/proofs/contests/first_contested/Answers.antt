@@ -14,11 +14,14 @@ loop-p-init c =
 
 pub loop-p-preserved : goal.loop-p-preserved
 loop-p-preserved c =
-    let looks = sym c.load.ensures.loaded in (
+    let looks = sym c.load.ensures.loaded in
+    -- what was read is the left side of the production, which has its set
+    let sided : left_of c.args.book.now c.args.places.now c.loop-p.p ≡ c.left_at-row.result = rw (c.left_at-row.ensures, c.place_at.ensures) in
+    let inside : c.left_at-row.result < length c.loop-p.claimed = omega (arith, sided, c.loop-p.invariant.1, c.requires.rows _ c.loop-p-test.true) in (
       search rules,
       omega (arith, c.add_claims-contested.auto.claimed, c.loop-p.invariant.1),
-      tallied_next c.loop-p.invariant.2 (let sided : left_of c.args.book.now c.args.places.now c.loop-p.p ≡ c.left_at-row.result = rw (c.left_at-row.ensures, c.place_at.ensures) in sided) looks (let inside : c.left_at-row.result < length c.loop-p.claimed = omega (arith, (let sided : left_of c.args.book.now c.args.places.now c.loop-p.p ≡ c.left_at-row.result = rw (c.left_at-row.ensures, c.place_at.ensures) in sided), c.loop-p.invariant.1, c.requires.rows _ c.loop-p-test.true) in inside) c.add_claims-contested.ensures.united,
-      contested_next c.loop-p.invariant.2 (let sided : left_of c.args.book.now c.args.places.now c.loop-p.p ≡ c.left_at-row.result = rw (c.left_at-row.ensures, c.place_at.ensures) in sided) looks c.loop-p.invariant.3 c.add_claims-contested.ensures.contested,
+      tallied_next c.loop-p.invariant.2 sided looks inside c.add_claims-contested.ensures.united,
+      contested_next c.loop-p.invariant.2 sided looks c.loop-p.invariant.3 c.add_claims-contested.ensures.contested,
     )
 
 pub returns : goal.returns

@@ -10,51 +10,69 @@ use Rattle.reader.proofs.spelling.header.Goals as goal
 
 pub returns-then-not-is_mark : goal.returns-then-not-is_mark
 returns-then-not-is_mark c =
-    c.refused.ensures ∙ sym (first_wrong (c.args.book.now) (c.args.at) (told_wrong c.is_mark.ensures c.if-not-is_mark.true))
+    let book = c.args.book.now in
+    let at = c.args.at in
+    c.refused.ensures ∙ sym (first_wrong book at (told_wrong c.is_mark.ensures c.if-not-is_mark.true))
 
 pub returns-then-not-is_mark-2 : goal.returns-then-not-is_mark-2
 returns-then-not-is_mark-2 c =
-    c.refused-then-not-is_mark-2.ensures ∙ sym (second_wrong (c.args.book.now) (c.args.at) (first_right (c.args.book.now) (c.args.at) (told_right c.is_mark.ensures c.if-not-is_mark.false)) (told_wrong c.is_mark-2.ensures c.if-not-is_mark-2.true))
+    let book = c.args.book.now in
+    let at = c.args.at in
+    let first = first_right book at (told_right c.is_mark.ensures c.if-not-is_mark.false) in
+    c.refused-then-not-is_mark-2.ensures ∙ sym (second_wrong book at first (told_wrong c.is_mark-2.ensures c.if-not-is_mark-2.true))
 
 pub returns-then-not-is_within : goal.returns-then-not-is_within
 returns-then-not-is_within c =
-    c.refused-then-not-is_within.ensures ∙ sym (third_wrong (c.args.book.now) (c.args.at) (second_right (c.args.book.now) (c.args.at) (first_right (c.args.book.now) (c.args.at) (told_right c.is_mark.ensures c.if-not-is_mark.false))
-    (told_right c.is_mark-2.ensures c.if-not-is_mark-2.false)) (told_wrong c.is_within.ensures c.if-not-is_within.true))
+    let book = c.args.book.now in
+    let at = c.args.at in
+    let first = first_right book at (told_right c.is_mark.ensures c.if-not-is_mark.false) in
+    let second = second_right book at first (told_right c.is_mark-2.ensures c.if-not-is_mark-2.false) in
+    c.refused-then-not-is_within.ensures ∙ sym (third_wrong book at second (told_wrong c.is_within.ensures c.if-not-is_within.true))
 
 pub returns-then-not-is_within-2 : goal.returns-then-not-is_within-2
 returns-then-not-is_within-2 c =
-    c.refused-then-not-is_within-2.ensures ∙ sym (fourth_wrong (c.args.book.now) (c.args.at) (third_right (c.args.book.now) (c.args.at) (second_right (c.args.book.now) (c.args.at) (first_right (c.args.book.now) (c.args.at) (told_right c.is_mark.ensures c.if-not-is_mark.false))
-    (told_right c.is_mark-2.ensures c.if-not-is_mark-2.false))
-    (told_right c.is_within.ensures c.if-not-is_within.false)) (told_wrong c.is_within-2.ensures c.if-not-is_within-2.true))
+    let book = c.args.book.now in
+    let at = c.args.at in
+    let first = first_right book at (told_right c.is_mark.ensures c.if-not-is_mark.false) in
+    let second = second_right book at first (told_right c.is_mark-2.ensures c.if-not-is_mark-2.false) in
+    let third = third_right book at second (told_right c.is_within.ensures c.if-not-is_within.false) in
+    c.refused-then-not-is_within-2.ensures ∙ sym (fourth_wrong book at third (told_wrong c.is_within-2.ensures c.if-not-is_within-2.true))
 
 pub returns-then-not-is_within-3 : goal.returns-then-not-is_within-3
 returns-then-not-is_within-3 c =
+    let book = c.args.book.now in
+    let at = c.args.at in
+    let first = first_right book at (told_right c.is_mark.ensures c.if-not-is_mark.false) in
+    let second = second_right book at first (told_right c.is_mark-2.ensures c.if-not-is_mark-2.false) in
+    let third = third_right book at second (told_right c.is_within.ensures c.if-not-is_within.false) in
+    let fourth = fourth_right book at third (told_right c.is_within-2.ensures c.if-not-is_within-2.false) in
     let n = c.byte_at in
-    let within_n = within_at (c.args.book.now) 0 n.result (c.args.at + 4) in
+    let within_n = within_at book 0 n.result (at + 4) in
     c.refused-then-not-is_within-3.ensures
-    ∙ sym
-    (fifth_wrong (c.args.book.now) (c.args.at) (fourth_right (c.args.book.now) (c.args.at) (third_right (c.args.book.now) (c.args.at) (second_right (c.args.book.now) (c.args.at) (first_right (c.args.book.now) (c.args.at) (told_right c.is_mark.ensures c.if-not-is_mark.false))
-    (told_right c.is_mark-2.ensures c.if-not-is_mark-2.false))
-    (told_right c.is_within.ensures c.if-not-is_within.false))
-    (told_right c.is_within-2.ensures c.if-not-is_within-2.false))
-    (rw n.ensures at (told_wrong {told = within_n} c.is_within-3.ensures c.if-not-is_within-3.true)))
+    ∙ sym (fifth_wrong book at fourth (rw n.ensures at (told_wrong {told = within_n} c.is_within-3.ensures c.if-not-is_within-3.true)))
 
 pub returns-then-not-is_within-4 : goal.returns-then-not-is_within-4
 returns-then-not-is_within-4 c =
-    c.refused-then-not-is_within-4.ensures ∙ sym (sixth_wrong (c.args.book.now) (c.args.at) (fifth_right (c.args.book.now) (c.args.at) (fourth_right (c.args.book.now) (c.args.at) (third_right (c.args.book.now) (c.args.at) (second_right (c.args.book.now) (c.args.at) (first_right (c.args.book.now) (c.args.at) (told_right c.is_mark.ensures c.if-not-is_mark.false))
-    (told_right c.is_mark-2.ensures c.if-not-is_mark-2.false))
-    (told_right c.is_within.ensures c.if-not-is_within.false))
-    (told_right c.is_within-2.ensures c.if-not-is_within-2.false))
-    (rw c.byte_at.ensures at (told_right c.is_within-3.ensures c.if-not-is_within-3.false))) (told_wrong c.is_within-4.ensures c.if-not-is_within-4.true))
+    let book = c.args.book.now in
+    let at = c.args.at in
+    let first = first_right book at (told_right c.is_mark.ensures c.if-not-is_mark.false) in
+    let second = second_right book at first (told_right c.is_mark-2.ensures c.if-not-is_mark-2.false) in
+    let third = third_right book at second (told_right c.is_within.ensures c.if-not-is_within.false) in
+    let fourth = fourth_right book at third (told_right c.is_within-2.ensures c.if-not-is_within-2.false) in
+    let fifth = fifth_right book at fourth (rw c.byte_at.ensures at (told_right c.is_within-3.ensures c.if-not-is_within-3.false)) in
+    c.refused-then-not-is_within-4.ensures ∙ sym (sixth_wrong book at fifth (told_wrong c.is_within-4.ensures c.if-not-is_within-4.true))
 
 pub overflow_add-result : goal.overflow_add-result
 overflow_add-result c =
-    omega (arith, told_inside (c.args.book.now) 1 (suc most_productions) (c.args.at + 5) c.is_within-4.ensures c.if-not-is_within-4.false)
+    omega (arith, told_inside c.args.book.now 1 (suc most_productions) (c.args.at + 5) c.is_within-4.ensures c.if-not-is_within-4.false)
 
 pub returns : goal.returns
 returns c =
-    sym (sixth_right (c.args.book.now) (c.args.at) (fifth_right (c.args.book.now) (c.args.at) (fourth_right (c.args.book.now) (c.args.at) (third_right (c.args.book.now) (c.args.at) (second_right (c.args.book.now) (c.args.at) (first_right (c.args.book.now) (c.args.at) (told_right c.is_mark.ensures c.if-not-is_mark.false))
-    (told_right c.is_mark-2.ensures c.if-not-is_mark-2.false))
-    (told_right c.is_within.ensures c.if-not-is_within.false))
-    (told_right c.is_within-2.ensures c.if-not-is_within-2.false))
-    (rw c.byte_at.ensures at (told_right c.is_within-3.ensures c.if-not-is_within-3.false))) (told_right c.is_within-4.ensures c.if-not-is_within-4.false))
+    let book = c.args.book.now in
+    let at = c.args.at in
+    let first = first_right book at (told_right c.is_mark.ensures c.if-not-is_mark.false) in
+    let second = second_right book at first (told_right c.is_mark-2.ensures c.if-not-is_mark-2.false) in
+    let third = third_right book at second (told_right c.is_within.ensures c.if-not-is_within.false) in
+    let fourth = fourth_right book at third (told_right c.is_within-2.ensures c.if-not-is_within-2.false) in
+    let fifth = fifth_right book at fourth (rw c.byte_at.ensures at (told_right c.is_within-3.ensures c.if-not-is_within-3.false)) in
+    sym (sixth_right book at fifth (told_right c.is_within-4.ensures c.if-not-is_within-4.false))
