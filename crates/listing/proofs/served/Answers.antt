@@ -11,10 +11,6 @@ use Rattle.listing.proofs.served.Goals as goal
 pub slice_bounds-set_lines-end-4 : goal.slice_bounds-set_lines-end-4
 slice_bounds-set_lines-end-4 c = simp length-take (omega arith)
 
--- LEFT slice-aggregate-set-lines-4
--- slice-aggregate-set-lines-4 : tie.Need-slice-aggregate-set-lines-4
--- slice-aggregate-set-lines-4 c = simp length-take (omega arith)
-
 pub returns : goal.returns
 unfolding served_text
 returns c =
