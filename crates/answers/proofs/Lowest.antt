@@ -4,7 +4,8 @@ use Prim.Native.Nat.{ℕ, ◌+◌, ◌≤◌, ◌<◌}
 use native.Mathlib.Decide.{dec_lt}
 use native.Mathlib.Omega.{arith}
 use borrow.Author.Count.{below_more}
-use Rattle.answers.specs.Lowest.{Lowest, FirstFailing}
+use Rattle.std.specs.Prelude.{Option, Some, None, unwrap_or}
+use Rattle.answers.specs.Lowest.{Lowest, FirstFailing, LowestIn, FailingAt, FailingIn}
 
 -- a search has come to i and passed no number that has P
 pub record Searched (P : ℕ → Type 0) (count i : ℕ) : Type 0 where
@@ -32,6 +33,32 @@ module _ {P : ℕ → Type 0} {count : ℕ} where
 
     pub search_over : count ≤ i → Lowest P count i
     search_over over = record { within = s.within; earlier = s.passed; found = λ below. absurd (omega arith) }
+
+    pub search_some : i < count → P i → LowestIn P count (Some i)
+    search_some below holds = record { inside = below; holds = holds; earlier = s.passed }
+
+    pub search_none : count ≤ i → LowestIn P count None
+    search_none over k below = s.passed k (omega arith)
+
+  -- a lowest number, or the count where there is none
+  pub lowest_or_count : (r : Option ℕ) → LowestIn P count r → Lowest P count (unwrap_or r count)
+  lowest_or_count None l = record { within = omega arith; earlier = l; found = λ below. absurd (omega arith) }
+  lowest_or_count (Some r) l =
+      record { within = omega (arith, l.inside); earlier = l.earlier; found = λ below. l.holds }
+
+  -- and back
+  pub lowest_in_some : {r : ℕ} → Lowest P count r → r < count → LowestIn P count (Some r)
+  lowest_in_some l below = record { inside = below; holds = l.found below; earlier = l.earlier }
+
+  pub lowest_in_none : {r : ℕ} → Lowest P count r → count ≤ r → LowestIn P count None
+  lowest_in_none l over k below = l.earlier k (omega (arith, l.within))
+
+  -- where all below i have P, the first that fails from there on
+  pub fails_some : {i : ℕ} → i < count → ((k : ℕ) → k < i → P k) → ¬ P i → FailingIn P count (Some i)
+  fails_some below passed fails = record { inside = below; fails = fails; earlier = passed }
+
+  pub first_fails_at : {r : ℕ} → FailingAt P count r → FirstFailing P count r
+  first_fails_at a = record { within = omega (arith, a.inside); earlier = a.earlier; fails = λ below. a.fails }
 
 -- the first that fails is one
 pub first_failing_unique : {P : ℕ → Type 0} {count r s : ℕ} → FirstFailing P count r → FirstFailing P count s → r ≡ s

@@ -8,11 +8,11 @@ abbrev pub counted : List ℕ → ℕ
 counted buffer = min (length buffer) most_cells
 
 -- written from the front, and what stood beyond stays
-abbrev pub over : List ℕ → List ℕ → List ℕ
+abbrev pub over : {A : Type 0} → List A → List A → List A
 over cells buffer = cells ++ drop (length cells) buffer
 
 -- and of the cells only as many as there is room for
-abbrev pub written : List ℕ → List ℕ → List ℕ
+abbrev pub written : {A : Type 0} → List A → List A → List A
 written cells buffer = over (take (length buffer) cells) buffer
 
 -- every cell is 0

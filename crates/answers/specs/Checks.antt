@@ -1,9 +1,10 @@
 -- Checks that go one after the other, each with the refusal that it gives: the first that stops is the answer.
 -- Document 01, "Refusals and their numbers".
-use Rattle.std.specs.Prelude.{◌≡◌, ◌≢◌, ℕ, ◌≤◌, ◌<◌}
+use Rattle.std.specs.Prelude.{◌≡◌, ◌≢◌, ℕ, ◌≤◌, ◌<◌, ⊤, Result, MatchResult}
 use Rattle.answers.specs.declared.Answer.{Answer}
 use Rattle.answers.specs.Answers.{refusal}
-use Rattle.answers.specs.Refusals.{served}
+use Rattle.answers.specs.Refusals.{served, detail_of}
+use Rattle.answers.specs.declared.refusals.Lent.{Lent}
 use Rattle.answers.specs.Refusals as refusals
 
 -- an earlier refusal passes through; otherwise the check stops with its own, or goes on
@@ -28,3 +29,11 @@ Lacking have want detail = Because (have < want) (refusal refusals.room want det
 -- the check that a buffer has room for so many cells
 abbrev pub Roomed : Answer → (have want detail : ℕ) → Answer → Type 0
 Roomed before have want detail = Checked before (Lacking have want detail) (want ≤ have)
+
+-- a check stops with a refusal of its own, or all is good
+abbrev pub Tested : (Bad : Answer → Type 0) (Good : Type 0) → Result ⊤ Answer → Type 0
+Tested Bad Good r = MatchResult r (λ _. Good) Bad
+
+-- the check that what is lent has room for so many cells
+abbrev pub RoomTested : (have want : ℕ) → Lent → Result ⊤ Answer → Type 0
+RoomTested have want lent = Tested (Lacking have want (detail_of lent)) (want ≤ have)

@@ -1,52 +1,33 @@
-// Lent buffers: the check that one has room, and cells written into the front of one.
-ghost use Rattle.std.specs.Prelude.{◌≡◌, min};
+// Lent buffers: the check that one has room, a cell of one, and cells written into the front of one.
+ghost use Rattle.std.specs.Prelude.{◌≡◌, slice_index_or};
 ghost use Rattle.answers.specs.Buffers.{written};
-ghost use Rattle.answers.specs.Checks.{Roomed};
+ghost use Rattle.answers.specs.Checks.{RoomTested};
 
-use crate::refusals::{DONE, ROOM};
+use crate::refusals::{Lent, Refusal};
 use crate::{Answer, refusal};
 
-// A buffer has room for so many cells, unless a check before this one has stopped.
-pub fn check_room(before: Answer, have: usize, want: usize, detail: u64) -> Answer
-    ensures { Roomed before have want detail result }
+// A buffer has room for so many cells.
+pub fn check_room(have: usize, want: usize, lent: Lent) -> Result<(), Answer>
+    ensures { RoomTested have want lent result }
 {
-    if before.number != DONE {
-        return before;
-    }
     if have < want {
-        refusal(ROOM, want as u64, detail)
+        Err(refusal(Refusal::Room, want as u64, lent.detail()))
     } else {
-        before
+        Ok(())
     }
 }
 
-// The lower of two numbers.
-pub fn least(x: usize, y: usize) -> usize
-    ensures { result ≡ min x y }
+// Cell i; past the end what is told.
+pub fn cell_or<T: Copy>(cells: &[T], i: usize, beyond: T) -> T
+    ensures { result ≡ slice_index_or cells.now i beyond }
 {
-    if x < y { x } else { y }
+    if i < cells.len() { cells[i] } else { beyond }
 }
 
-// Bytes into the front of a buffer, as many as it has room for.
-pub fn write_bytes(cells: &[u8], buffer: &mut [u8])
+// Cells into the front of a buffer, as many as it has room for.
+pub fn write_front<T: Copy>(cells: &[T], buffer: &mut [T])
     ensures { buffer.new ≡ written cells.now buffer.old }
 {
-    let count = least(cells.len(), buffer.len());
-    let mut i: usize = 0;
-    while i < count {
-        buffer[i] = cells[i];
-        i += 1;
-    }
-}
-
-// Words into the front of a buffer, as many as it has room for.
-pub fn write_words(cells: &[u64], buffer: &mut [u64])
-    ensures { buffer.new ≡ written cells.now buffer.old }
-{
-    let count = least(cells.len(), buffer.len());
-    let mut i: usize = 0;
-    while i < count {
-        buffer[i] = cells[i];
-        i += 1;
-    }
+    let count = cells.len().min(buffer.len());
+    buffer[..count].copy_from_slice(&cells[..count]);
 }

@@ -3,8 +3,9 @@
 
 ghost use Rattle.std.specs.Prelude.{◌≡◌};
 ghost use Rattle.answers.specs.Answers as answers;
+ghost use Rattle.answers.specs.Refusals.{number_of, served};
 
-use crate::refusals::DONE;
+use crate::refusals::{DONE, Refusal};
 use sets::{Set, none};
 
 pub mod buffers;
@@ -27,27 +28,33 @@ pub struct Answer {
 pub fn done(steps: u64) -> Answer
     ensures { result ≡ answers.done steps }
 {
-    stop(DONE, 0, 0, steps, none())
+    Answer {
+        number: DONE,
+        place: 0,
+        detail: 0,
+        steps,
+        expected: none(),
+        depth: 0,
+    }
 }
 
 // Refused before any step.
-pub fn refusal(number: u32, place: u64, detail: u64) -> Answer
-    ensures { result ≡ answers.refusal number place detail }
+pub fn refusal(why: Refusal, place: u64, detail: u64) -> Answer
+    ensures { result ≡ answers.refusal (number_of why) place detail }
 {
-    stop(number, place, detail, 0, none())
+    stop(why, place, detail, 0, none())
 }
 
 // Refused in steps. The depth is 0, as in the two above, until it is told by `at_depth`.
-pub fn stop(number: u32, place: u64, detail: u64, steps: u64, expected: Set) -> Answer
-    ensures { result ≡ answers.stop number place detail steps expected }
+pub fn stop(why: Refusal, place: u64, detail: u64, steps: u64, expected: Set) -> Answer
+    ensures { result ≡ answers.stop (number_of why) place detail steps expected }
 {
     Answer {
-        number,
+        number: why.number(),
         place,
         detail,
-        steps,
         expected,
-        depth: 0,
+        ..done(steps)
     }
 }
 
@@ -55,13 +62,5 @@ pub fn stop(number: u32, place: u64, detail: u64, steps: u64, expected: Set) -> 
 pub fn at_depth(answer: Answer, depth: u64) -> Answer
     ensures { result ≡ answers.at_depth depth answer }
 {
-    let expected = answer.expected;
-    Answer {
-        number: answer.number,
-        place: answer.place,
-        detail: answer.detail,
-        steps: answer.steps,
-        expected,
-        depth,
-    }
+    Answer { depth, ..answer }
 }

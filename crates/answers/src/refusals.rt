@@ -1,55 +1,69 @@
-// The numbers of the papers' tables of refusals, and the details of refusal 7.
+// The papers' tables of refusals, and the details of refusal 7.
+ghost use Rattle.std.specs.Prelude.{◌≡◌};
+ghost use Rattle.answers.specs.Refusals.{number_of, detail_of};
+
+// The number of an answer that refuses nothing.
 pub const DONE: u32 = 0;
 
-pub const SHORT: u32 = 1;
+// Why a call is refused, with the papers' numbers.
+#[derive(Clone, Copy, PartialEq, Eq, Debug)]
+pub enum Refusal {
+    Short = 1,
+    Mark = 2,
+    Extra = 3,
+    Limit = 4,
+    Symbol = 5,
+    Useless = 6,
+    Room = 7,
+    Conflict = 8,
+    Table = 9,
+    Token = 10,
+    Syntax = 11,
+    Production = 12,
+    Form = 13,
+    Pattern = 14,
+    NoToken = 15,
+    States = 16,
+    Differs = 17,
+    Profile = 21,
+}
 
-pub const MARK: u32 = 2;
+impl Refusal {
+    // The papers' number.
+    pub fn number(self) -> u32
+        ensures { result ≡ number_of self }
+    {
+        self as u32
+    }
+}
 
-pub const EXTRA: u32 = 3;
+// What is lent, of which refusal 7 finds one too short: the last two where a line is cut.
+#[derive(Clone, Copy, PartialEq, Eq, Debug)]
+pub enum Lent {
+    Stack,
+    List,
+    Output,
+    First,
+    Follow,
+    Table,
+    Machine,
+    Tokens,
+}
 
-pub const LIMIT: u32 = 4;
-
-pub const SYMBOL: u32 = 5;
-
-pub const USELESS: u32 = 6;
-
-pub const ROOM: u32 = 7;
-
-pub const CONFLICT: u32 = 8;
-
-pub const TABLE: u32 = 9;
-
-pub const TOKEN: u32 = 10;
-
-pub const SYNTAX: u32 = 11;
-
-pub const PRODUCTION: u32 = 12;
-
-pub const FORM: u32 = 13;
-
-pub const PATTERN: u32 = 14;
-
-pub const NO_TOKEN: u32 = 15;
-
-pub const STATES: u32 = 16;
-
-pub const DIFFERS: u32 = 17;
-
-pub const PROFILE: u32 = 21;
-
-pub const STACK_ROOM: u64 = 1;
-
-pub const LIST_ROOM: u64 = 2;
-
-pub const OUTPUT_ROOM: u64 = 3;
-
-pub const FIRST_ROOM: u64 = 4;
-
-pub const FOLLOW_ROOM: u64 = 5;
-
-pub const TABLE_ROOM: u64 = 6;
-
-// And where a line is cut.
-pub const MACHINE_ROOM: u64 = 1;
-
-pub const TOKEN_ROOM: u64 = 2;
+impl Lent {
+    // The papers' detail.
+    pub fn detail(self) -> u64
+        ensures { result ≡ detail_of self }
+    {
+        match self {
+            Lent::Stack => 1,
+            Lent::List => 2,
+            Lent::Output => 3,
+            Lent::First => 4,
+            Lent::Follow => 5,
+            Lent::Table => 6,
+            Lent::Machine => 1,
+            Lent::Tokens => 2,
+        }
+    }
+}

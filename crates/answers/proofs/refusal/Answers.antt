@@ -2,8 +2,11 @@
 use mathlib.Core.Path.{◌∙◌, ap}
 use Rattle.sets.proofs.Promise.{none_is, number_unique}
 use Rattle.answers.specs.Answers.{refusal, stop}
+use Rattle.answers.specs.Refusals.{number_of}
 use Rattle.answers.proofs.refusal.Goals as goal
 
 pub returns : goal.returns
 unfolding refusal stop
-returns c = c.stop.ensures ∙ ap (stop c.args.number c.args.place c.args.detail 0) (number_unique (none_is c.none.ensures))
+returns c =
+    let args = c.args in
+    c.stop.ensures ∙ ap (stop (number_of args.why) args.place args.detail 0) (number_unique (none_is c.none.ensures))
