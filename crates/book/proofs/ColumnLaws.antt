@@ -12,11 +12,11 @@ use lib.ListN.{get_or, set, replicate, length-set, length-replicate}
 use lib.Seq.{ext_get_or, get_or-set_same, get_or-set_other}
 use Rattle.grammar.specs.Grammar.{Form, Production, Rule}
 use Rattle.sets.specs.Calls.{Decides}
-use Rattle.sets.proofs.Promise.{decided, value_unique, decides_unique}
+use Rattle.sets.proofs.Promise.{decided, decides_unique}
 use Rattle.reader.specs.Fields.{left_at, right_at}
-use Rattle.book.specs.declared.Reading.{Reading}
+use Rattle.book.specs.declared.Index.{Index}
 use Rattle.book.specs.declared.columns.Outline.{Outline}
-use Rattle.book.specs.Columns.{outline_in, production_at, outlined, Gathered, Lefts, Lengths, Heads, IsOf}
+use Rattle.book.specs.Columns.{production_at, outlined, Gathered, Lefts, Lengths, Heads, IsOf}
 use Rattle.book.proofs.IndexGrammar.{production_found, production_missing}
 
 zeros_read : (n p : ℕ) → get_or (replicate {A = ℕ} n 0) p 0 ≡ 0
@@ -75,7 +75,7 @@ module _ {field : ℕ → ℕ} {places : List ℕ} where
       go p (yes l) = h.inside p l ∙ sym (k.inside p l)
       go p (no n) = h.beyond p (omega arith) ∙ sym (k.beyond p (omega arith))
 
-module _ (book places : List ℕ) (o : Outline) {p A : ℕ} {lefts : List ℕ} (column : Lefts book places o lefts) where
+module _ (book places : List ℕ) (o : Outline) {p A : ℕ} {lefts : List ℕ} (column : Gathered (left_at book) places o.productions lefts) where
   -- by the column p is a production of A exactly if the grammar has it as one
   pub is_of_rule : IsOf lefts o A p → (β : Form) × Rule (outlined book places o) p A β
   unfolding production_at
@@ -110,32 +110,26 @@ is_of_decided lefts o A {p} {left} inside e =
     (λ h. eq-eqb left A (e ∙ h.left))
 
 -- the one answer of each call
-pub outline_unique : (reading : Reading) {o o' : Outline} → o ≡ outline_in reading → o' ≡ outline_in reading → o ≡ o'
-outline_unique reading = value_unique
-
-pub lefts_unique : (book : List ℕ) {places : List ℕ} (o : Outline) {column column' : List ℕ}
-    → Lefts book places o column
-    → Lefts book places o column'
+pub lefts_unique : (book : List ℕ) (i : Index) {column column' : List ℕ}
+    → Lefts book i column
+    → Lefts book i column'
     → column ≡ column'
-lefts_unique book o = gathered_unique
+lefts_unique book i = gathered_unique
 
-pub lengths_unique : (book : List ℕ) {places : List ℕ} (o : Outline) {column column' : List ℕ}
-    → Lengths book places o column
-    → Lengths book places o column'
+pub lengths_unique : (book : List ℕ) (i : Index) {column column' : List ℕ}
+    → Lengths book i column
+    → Lengths book i column'
     → column ≡ column'
-lengths_unique book o = gathered_unique
+lengths_unique book i = gathered_unique
 
-pub heads_unique : (book : List ℕ) {places : List ℕ} (o : Outline) {column column' : List ℕ}
-    → Heads book places o column
-    → Heads book places o column'
+pub heads_unique : (book : List ℕ) (i : Index) {column column' : List ℕ}
+    → Heads book i column
+    → Heads book i column'
     → column ≡ column'
-heads_unique book o = gathered_unique
+heads_unique book i = gathered_unique
 
 pub is_of_unique : (lefts : List ℕ) (o : Outline) (A p : ℕ) (r r' : Bool)
     → Decides r (IsOf lefts o A p)
     → Decides r' (IsOf lefts o A p)
     → r ≡ r'
 is_of_unique lefts o A p = decides_unique (IsOf lefts o A p)
-
-pub gathered_at_unique : (column : List ℕ) (p : ℕ) {r r' : ℕ} → r ≡ get_or column p 0 → r' ≡ get_or column p 0 → r ≡ r'
-gathered_at_unique column p = value_unique

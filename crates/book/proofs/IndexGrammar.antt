@@ -10,11 +10,11 @@ use Rattle.grammar.specs.Grammar.{Production, Grammar}
 use Rattle.reader.specs.Book.{Limits}
 use Rattle.reader.specs.Fields.{symbol_at, form_in}
 use Rattle.reader.proofs.Promise.{form_spelled, read_limits}
-use Rattle.book.specs.declared.Reading.{Reading}
+use Rattle.book.specs.declared.Index.{Index}
 use Rattle.book.specs.declared.columns.Outline.{Outline}
 use Rattle.book.specs.Columns.{production_at, productions_from, outlined, grammar_in, Outlines}
 use Rattle.book.specs.Judging.{index_of, Serves}
-use Rattle.book.proofs.Index.{record_indexed, symbol_indexed}
+use Rattle.book.proofs.Indexing.{record_indexed, symbol_indexed}
 
 pub outlined_sized : (book places : List ℕ) (o : Outline) → Outlines o (outlined book places o)
 unfolding outlined
@@ -94,5 +94,5 @@ module _ {book : List ℕ} {g : Grammar} (serves : Serves book g) where
         productions = found i;
       }
 
-  pub reading_grammar : {r : Reading} → r ≡ index_of g → grammar_in book r ≡ g
+  pub reading_grammar : {i : Index} → i ≡ index_of g → grammar_in book i ≡ g
   reading_grammar e = ap (grammar_in book) e ∙ index_grammar

@@ -1,7 +1,7 @@
 pub mod Passes
 pub mod Filling
 pub mod Usefulness
-pub mod Index
+pub mod Indexing
 pub mod Sides
 pub mod Surveying
 pub mod Outcome

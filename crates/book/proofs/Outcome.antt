@@ -1,20 +1,20 @@
 -- From what the bytes spell, and the lowest useless nonterminal, to what judging answers.
-use mathlib.Core.Path.{◌≡◌, ap, ◌∙◌}
+use mathlib.Core.Path.{◌≡◌, refl, ap, ◌∙◌}
 use mathlib.Core.List.{List}
-use Prim.Native.Nat.{ℕ, ◌≤◌, ◌<◌, min}
+use Rattle.std.specs.Prelude.{Option, Some, None}
+use Prim.Native.Nat.{ℕ, min}
 use native.Mathlib.Omega.{arith}
 use lib.ListN.{length, get_or, replicate}
 use Rattle.grammar.specs.Grammar.{Grammar}
 use Rattle.answers.specs.Limits.{most_productions}
-use Rattle.answers.specs.declared.Answer.{Answer}
-use Rattle.answers.specs.Answers.{done, refusal}
+use Rattle.answers.specs.Answers.{refusal}
 use Rattle.answers.specs.Refusals.{useless}
 use Rattle.reader.specs.Book.{reads, spells}
 use Rattle.reader.specs.Fields.{places_of}
 use Rattle.reader.proofs.Promise.{read_limits}
-use Rattle.book.specs.Judging.{AllUseful, refusing, index_of, Judged, refuses, serves, useless_one}
+use Rattle.book.specs.Judging.{AllUseful, index_of, Indexes, Refuses, useless_one}
 use Rattle.book.specs.Useful.{Surveyed, FirstUseless, TellsUseless, Indexed}
-use Rattle.book.proofs.Index.{header_tokens, header_nonterminals, header_start, header_productions, places_indexed}
+use Rattle.book.proofs.Indexing.{header_tokens, header_nonterminals, header_start, header_productions, places_indexed}
 use Rattle.book.proofs.Sides.{sides_surveyed}
 
 module _ (b : List ℕ) where
@@ -41,7 +41,7 @@ module _ (b : List ℕ) where
       }
 
   -- the survey gives the index, and with it the lowest useless nonterminal
-  pub survey_decides : {g : Grammar} {places names lefts : List ℕ} {P N start count r : ℕ}
+  pub survey_decides : {g : Grammar} {places names lefts : List ℕ} {P N start count : ℕ} {r : Option ℕ}
       → spells b ≡ reads g
       → N ≡ get_or b 3 0
       → start ≡ get_or b 4 0
@@ -56,17 +56,20 @@ module _ (b : List ℕ) where
       let sides = sides_surveyed read (header_counted read P-is count_is) surveyed.named surveyed.left in
       (indexed, tells.first g sides indexed.numbered indexed.started)
 
-module _ {b places : List ℕ} {P N start r : ℕ} {g : Grammar} (indexed : Indexed b places P N start g) (first : FirstUseless g r) where
-  pub judged_useless : r < N → Judged b (refusing (refusal useless r 0))
-  judged_useless below =
-      let inside : r < g.nonterminals = omega (arith, indexed.numbered) in
-      refuses (useless_one indexed.read (record { inside = inside; useless = first.fails inside; lowest = first.earlier }))
+module _ {b places : List ℕ} {P N start : ℕ} {g : Grammar} (indexed : Indexed b places P N start g) where
+  pub judged_useless : {A : ℕ} → FirstUseless g (Some A) → Refuses b (refusal useless A 0)
+  judged_useless first =
+      useless_one indexed.read (record { inside = first.inside; useless = first.fails; lowest = first.earlier })
 
   -- the fields of the index are those that are read off the book
-  pub judged_served : {tokens : ℕ} {answer : Answer} → N ≤ r → tokens ≡ get_or b 2 0 → answer ≡ done 0
-      → Judged b (record { answer = answer; tokens = tokens; nonterminals = N; start = start; productions = P; places = places })
+  pub judged_served : {tokens : ℕ} → FirstUseless g None → tokens ≡ get_or b 2 0
+      → Indexes b
+      (record {
+        outline = record { tokens = tokens; nonterminals = N; start = start; productions = P };
+        places = places;
+      })
   unfolding index_of
-  judged_served past tokens_are answered =
-      let all : AllUseful g = record { useful = λ A inside. first.earlier A (omega (arith, indexed.numbered)) } in
-      rw (answered, tokens_are, header_tokens b indexed.read, indexed.numbered, indexed.started, indexed.counted, indexed.placed)
-      (serves (record { read = indexed.read; useful = all }))
+  judged_served first tokens_are =
+      let all : AllUseful g = record { useful = first } in
+      rw (tokens_are, header_tokens b indexed.read, indexed.numbered, indexed.started, indexed.counted, indexed.placed)
+      (record { grammar = g; serves = record { read = indexed.read; useful = all }; index = refl })

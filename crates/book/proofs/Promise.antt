@@ -10,21 +10,22 @@ use Rattle.grammar.specs.Grammar.{Grammar, Productive, Reachable, WellFormed}
 use Rattle.grammar.proofs.Useful.{useful_all}
 use Rattle.answers.specs.Limits.{longest_book}
 use Rattle.answers.specs.declared.Answer.{Answer}
-use Rattle.answers.specs.Answers.{done, refusal}
+use Rattle.answers.specs.Answers.{refusal}
 use Rattle.reader.specs.Book.{spells, Limits}
 use Rattle.reader.specs.Faults.{Fault, bad_mark, extra_byte, over_limit, not_a_symbol}
 use Rattle.reader.proofs.Promise.{refused_kinds, read_limits, judged_by_first}
-use Rattle.book.specs.declared.Reading.{Reading}
-use Rattle.book.specs.Judging.{refusing, index_of, Refuses, misread, useless_one, Serves, Judged, refuses, serves}
-use Rattle.book.proofs.Index.{record_indexed, symbol_indexed, place_fits, place_within, places_in_length}
+use Rattle.std.specs.Prelude.{Result, Ok, Err}
+use Rattle.book.specs.declared.Index.{Index}
+use Rattle.book.specs.Judging.{index_of, Refuses, misread, useless_one, Serves, Judged}
+use Rattle.book.proofs.Indexing.{record_indexed, symbol_indexed, place_fits, place_within, places_in_length}
 pub use Rattle.book.specs.Served.{Entry, Served}
 pub use Rattle.book.proofs.Examples.{house_reads, house_serves, useless_refused}
 pub use Rattle.book.proofs.IndexGrammar.{outlined_sized, production_found, production_missing}
 pub use Rattle.book.proofs.IndexGrammar.{index_grammar, reading_grammar}
 pub use Rattle.book.proofs.ColumnLaws.{is_of_rule, rule_is_of}
-pub use Rattle.book.proofs.ColumnLaws.{outline_unique, lefts_unique, lengths_unique, heads_unique}
-pub use Rattle.book.proofs.ColumnLaws.{gathered_at_unique, is_of_unique}
-pub use Rattle.book.proofs.Unique.{refuses_unique, refuses_not_serves, serves_unique, judged_unique}
+pub use Rattle.book.proofs.ColumnLaws.{lefts_unique, lengths_unique, heads_unique}
+pub use Rattle.book.proofs.ColumnLaws.{is_of_unique}
+pub use Rattle.book.proofs.Unique.{refuses_unique, refuses_not_serves, serves_unique, indexes_unique, judged_unique}
 
 fault_number : {n : ℕ} → Fault n → (1 ≤ n) × (n ≤ 6)
 fault_number bad_mark = omega arith
@@ -42,18 +43,9 @@ module _ {b : List ℕ} where
   pub refuses_some : {answer : Answer} → Refuses b answer → 1 ≤ answer.number
   refuses_some x = (refuses_number x).0
 
-  pub judged_done : {r : Reading} → Judged b r → r.answer.number ≡ 0 → (g : Grammar) × Serves b g × (r ≡ index_of g)
-  unfolding refusing
-  judged_done (refuses x) none = absurd (omega (arith, refuses_some x))
-  judged_done (serves {g = g} s) none = (g, s, refl)
-
-  pub judged_refused : {r : Reading}
-      → Judged b r
-      → r.answer.number ≢ 0
-      → Refuses b r.answer × (r ≡ refusing r.answer)
-  unfolding refusing index_of done
-  judged_refused (refuses x) some_number = (x, refl)
-  judged_refused (serves s) some_number = absurd (some_number refl)
+  -- and its answer is not done
+  pub refuses_not_done : {answer : Answer} → Refuses b answer → answer.number ≢ 0
+  refuses_not_done x none = absurd (omega (arith, refuses_some x))
 
 module _ {b : List ℕ} {g : Grammar} (s : Serves b g) where
   pub serves_limits : Limits g
@@ -86,7 +78,7 @@ module _ {b : List ℕ} {g : Grammar} (s : Serves b g) where
             };
       }
 
-  pub served : {r : Reading} → r ≡ index_of g → Served b g r
+  pub served : {i : Index} → i ≡ index_of g → Served b g i
   served same = rw same index_served
 
 -- books that spell the same are judged alike
@@ -98,10 +90,10 @@ module _ (b c : List ℕ) (same : spells b ≡ spells c) where
   pub serves_alike : {g : Grammar} → Serves c g → Serves b g
   serves_alike s = record { read = same ∙ s.read; useful = s.useful }
 
-  pub judged_alike : {r : Reading} → Judged c r → Judged b r
-  judged_alike (refuses x) = refuses (refuses_alike x)
-  judged_alike (serves s) = serves (serves_alike s)
+  pub judged_alike : (r : Result Index Answer) → Judged c r → Judged b r
+  judged_alike (Ok i) x = record { grammar = x.grammar; serves = serves_alike x.serves; index = x.index }
+  judged_alike (Err a) x = refuses_alike x
 
 -- a longer book is judged by its first 2,567 bytes
-pub judged_by_beginning : (m : ℕ) → suc longest_book ≤ m → (b : List ℕ) {r : Reading} → Judged (take m b) r → Judged b r
+pub judged_by_beginning : (m : ℕ) → suc longest_book ≤ m → (b : List ℕ) (r : Result Index Answer) → Judged (take m b) r → Judged b r
 judged_by_beginning m enough b = judged_alike b (take m b) (judged_by_first m enough b)

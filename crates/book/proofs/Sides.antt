@@ -13,7 +13,7 @@ use Rattle.reader.specs.Fields.{place_of_record}
 use Rattle.reader.proofs.Promise.{read_limits}
 use Rattle.book.specs.Useful.{IsNumber, NamedAt, RightNames, LeftName, SetsOf, Occurs, Sides}
 use Rattle.book.proofs.Filling.{exactly_alike}
-use Rattle.book.proofs.Index.{record_counted, symbol_counted}
+use Rattle.book.proofs.Indexing.{record_counted, symbol_counted}
 
 nonterminal_known : {g : Grammar} {A : ℕ} → Known g (Nonterminal A) → A < g.nonterminals
 nonterminal_known (known_nonterminal h) = h

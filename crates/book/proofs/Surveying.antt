@@ -14,7 +14,7 @@ use Rattle.reader.specs.Fields.{left_at, length_at, place_after, place_of_record
 use Rattle.reader.proofs.Promise.{places_turn, places_over, read_limits}
 use Rattle.book.specs.Useful.{IsNumber, NamedAt, RightNames, LeftName, SetsOf, Lists, Surveyable, Surveyed}
 use Rattle.book.proofs.Filling.{filled_none, filled_next}
-use Rattle.book.proofs.Index.{record_fits}
+use Rattle.book.proofs.Indexing.{record_fits}
 
 -- the first p records are surveyed, and with those that are left written over them the cells are the whole answer
 pub record Surveying (book : List ℕ) (count : ℕ) (before : List ℕ) (p place : ℕ) (places names lefts : List ℕ) : Type 0 where

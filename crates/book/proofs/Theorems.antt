@@ -1,7 +1,6 @@
 -- What judging promises, one page: each theorem under the sentence that it proves.
 -- Document 01, "The book" and "Refusals and their numbers"; the contract of `judge` is `Judged`.
 use mathlib.Core.Path.{◌≡◌}
-use mathlib.Core.Logic.{◌≢◌}
 use mathlib.Core.List.{List}
 use Prim.Native.Nat.{ℕ, suc, ◌≤◌}
 use native.Mathlib.Omega.{arith}
@@ -15,35 +14,34 @@ use Rattle.answers.specs.Answers.{refusal}
 use Rattle.answers.specs.Refusals.{useless}
 use Rattle.reader.specs.Book.{reads, spells, Limits}
 use Rattle.reader.proofs.Promise.{read_limits}
-use Rattle.book.specs.declared.Reading.{Reading}
+use Rattle.std.specs.Prelude.{Result, Ok, Err}
+use Rattle.book.specs.declared.Index.{Index}
 use Rattle.book.specs.Examples.{house_book, useless_book}
-use Rattle.book.specs.Judging.{LowestUseless, refusing, index_of, Refuses, useless_one, Serves, Judged}
+use Rattle.book.specs.Judging.{LowestUseless, index_of, Refuses, useless_one, Serves, Judged}
 use Rattle.book.specs.Served.{Served}
 use Rattle.book.proofs.Examples as examples
 use Rattle.book.proofs.Promise as promise
 use Rattle.book.proofs.Unique as unique
 
+-- judging allows one outcome
+pub judged_unique : (b : List ℕ) (r s : Result Index Answer)
+    → Judged b r
+    → Judged b s
+    → r ≡ s
+judged_unique = unique.judged_unique
+
 module _ {b : List ℕ} where
-  -- judging allows one outcome
-  pub judged_unique : {r s : Reading}
-      → Judged b r
-      → Judged b s
-      → r ≡ s
-  judged_unique = unique.judged_unique
+  -- where an index comes out, the book serves a grammar, and the index is that grammar's
+  pub judged_done : {i : Index}
+      → Judged b (Ok i)
+      → (g : Grammar) × Serves b g × (i ≡ index_of g)
+  judged_done x = (x.grammar, x.serves, x.index)
 
-  -- where the number is 0, the book serves a grammar, and the outcome is the index of that grammar
-  pub judged_done : {r : Reading}
-      → Judged b r
-      → r.answer.number ≡ 0
-      → (g : Grammar) × Serves b g × (r ≡ index_of g)
-  judged_done = promise.judged_done
-
-  -- otherwise the book is refused with the answer, and every other field is 0
-  pub judged_refused : {r : Reading}
-      → Judged b r
-      → r.answer.number ≢ 0
-      → Refuses b r.answer × (r ≡ refusing r.answer)
-  judged_refused = promise.judged_refused
+  -- otherwise the book is refused with the answer that comes out
+  pub judged_refused : {a : Answer}
+      → Judged b (Err a)
+      → Refuses b a
+  judged_refused x = x
 
   -- a refused book has one of the numbers 1 to 6
   pub refuses_number : {answer : Answer}
@@ -75,9 +73,9 @@ module _ {b : List ℕ} {g : Grammar} (s : Serves b g) where
   serves_productive = promise.serves_productive s
 
   -- its index gives the grammar back through the accessors of the book's bytes
-  pub served : {r : Reading}
-      → r ≡ index_of g
-      → Served b g r
+  pub served : {i : Index}
+      → i ≡ index_of g
+      → Served b g i
   served = promise.served s
 
 -- at most one nonterminal is the lowest useless one
@@ -108,7 +106,7 @@ dead_start_refused b read dead =
     })
 
 -- a longer book is judged by its beginning, of one byte more than the longest book has
-pub judged_by_beginning : (b : List ℕ) {r : Reading}
+pub judged_by_beginning : (b : List ℕ) (r : Result Index Answer)
     → Judged (take (suc longest_book) b) r
     → Judged b r
 judged_by_beginning = promise.judged_by_beginning (suc longest_book) (omega arith)

@@ -1,5 +1,5 @@
 -- Judging allows one outcome only. (A leaf whose contract says `r ≡ f inputs` allows one by `value_unique` of crate sets.)
-use mathlib.Core.Path.{◌≡◌, ap, ap₂}
+use mathlib.Core.Path.{◌≡◌, sym, ap, ap₂, ◌∙◌}
 use mathlib.Core.List.{List}
 use Prim.Native.Nat.{ℕ}
 use native.Mathlib.Omega.{arith}
@@ -11,8 +11,9 @@ use Rattle.answers.specs.Lowest.{FirstFailing}
 use Rattle.answers.proofs.Promise.{first_failing_unique}
 use Rattle.reader.specs.Book.{reads, spells}
 use Rattle.reader.proofs.Promise.{refused_not_reads}
-use Rattle.book.specs.declared.Reading.{Reading}
-use Rattle.book.specs.Judging.{LowestUseless, refusing, index_of, Refuses, misread, useless_one, Serves, Judged, refuses, serves}
+use Rattle.std.specs.Prelude.{Result, Ok, Err}
+use Rattle.book.specs.declared.Index.{Index}
+use Rattle.book.specs.Judging.{LowestUseless, index_of, Refuses, misread, useless_one, Serves, Indexes, Judged}
 
 pub reads_unique : (b : List ℕ) {g h : Grammar} → spells b ≡ reads g → spells b ≡ reads h → g ≡ h
 reads_unique b e f = cc
@@ -41,8 +42,11 @@ module _ {b : List ℕ} where
   pub serves_unique : {g h : Grammar} → Serves b g → Serves b h → g ≡ h
   serves_unique s t = reads_unique b s.read t.read
 
-  pub judged_unique : {r s : Reading} → Judged b r → Judged b s → r ≡ s
-  judged_unique (refuses x) (refuses y) = ap refusing (refuses_unique x y)
-  judged_unique (refuses x) (serves y) = absurd (refuses_not_serves x y)
-  judged_unique (serves x) (refuses y) = absurd (refuses_not_serves y x)
-  judged_unique (serves x) (serves y) = ap index_of (serves_unique x y)
+  pub indexes_unique : {i j : Index} → Indexes b i → Indexes b j → i ≡ j
+  indexes_unique x y = x.index ∙ ap index_of (serves_unique x.serves y.serves) ∙ sym y.index
+
+pub judged_unique : (b : List ℕ) (r s : Result Index Answer) → Judged b r → Judged b s → r ≡ s
+judged_unique b (Ok i) (Ok j) x y = ap Ok (indexes_unique x y)
+judged_unique b (Ok i) (Err a) x y = absurd (refuses_not_serves y x.serves)
+judged_unique b (Err a) (Ok i) x y = absurd (refuses_not_serves x y.serves)
+judged_unique b (Err a) (Err c) x y = ap Err (refuses_unique x y)

@@ -3,6 +3,7 @@ use mathlib.Core.Path.{◌≡◌, refl, sym, ◌∙◌, subst}
 use mathlib.Core.Bool.{true, false, false≢true, true≢false}
 use mathlib.Core.List.{List, [], ◌∷◌}
 use mathlib.Core.Option.{some}
+use Rattle.std.specs.Prelude.{Option, Some, None}
 use Prim.Native.Nat.{ℕ, zero, suc, ◌<◌}
 use native.Mathlib.Omega.{arith}
 use lib.ListN.{get_elem?}
@@ -14,11 +15,13 @@ use Rattle.grammar.proofs.Useful.{Named, a_token, named, Names, ProductiveClosed
 use Rattle.grammar.proofs.Every.{every_at, at_every}
 use Rattle.grammar.proofs.Rules.{rule_below, below_rule}
 use Rattle.sets.specs.Sets.{width, member, Exactly}
-use Rattle.sets.specs.Calls.{set_at}
+use Rattle.sets.specs.declared.Set.{Set}
+use Rattle.sets.specs.Calls.{set_at, number}
+use Rattle.sets.specs.Calls as calls
 use Rattle.sets.proofs.Promise.{member_none}
 use Rattle.book.specs.Closure.{Follows, InClosure, given, fired}
 use Rattle.book.specs.Useful.{IsNumber, SetsOf, KeptNames, Occurs, Sides, LowestMissing, FirstUseless, TellsUseless}
-use Rattle.book.proofs.Filling.{exactly_alike}
+use Rattle.book.proofs.Filling.{exactly_alike, none_exactly}
 
 behind_occurs : {B : ℕ} {v β : Form} → Behind B v β → Occurs β B
 behind_occurs first = record { index = 0; at = refl }
@@ -100,40 +103,45 @@ module _ {g : Grammar} {count : ℕ} {names lefts : List ℕ} (sides : Sides g c
     pub useful_exactly : {used : ℕ} → Exactly width used (InClosure lefts kept count seed) → Exactly width used (Useful g)
     useful_exactly = exactly_alike (λ k. used_sound) (useful_complete used_closed)
 
-pub lowest_useless : {g : Grammar} {used r : ℕ} → Exactly width used (Useful g) → LowestMissing used g.nonterminals r → FirstUseless g r
-lowest_useless {r = r} exact lowest =
+pub lowest_useless : {g : Grammar} {used : ℕ} (r : Option ℕ) → Exactly width used (Useful g) → LowestMissing used g.nonterminals r → FirstUseless g r
+lowest_useless None exact all = λ B below. exact.sound B (all B below)
+lowest_useless (Some A) exact lowest =
     record {
-      within = lowest.within;
+      inside = lowest.inside;
+      fails = λ useful. lowest.fails (exact.complete A useful);
       earlier = λ B below. exact.sound B (lowest.earlier B below);
-      fails = λ inside useful. lowest.fails inside (exact.complete r useful);
     }
 
 -- a start that is not productive makes every nonterminal useless
-pub all_useless : {g : Grammar} {m : ℕ} → Exactly width m (Productive g) → member g.start m ≡ false → FirstUseless g 0
-all_useless {g} exact fails =
-    record {
-      within = omega arith;
-      earlier = λ B none. absurd (omega arith);
-      fails = λ _ useful. true≢false (sym (exact.complete g.start (useful_start useful)) ∙ fails);
-    }
+pub all_useless : {g : Grammar} {m : ℕ} → Exactly width m (Productive g) → member g.start m ≡ false → (A : ℕ) → ¬ Useful g A
+all_useless {g} exact fails A useful = true≢false (sym (exact.complete g.start (useful_start useful)) ∙ fails)
 
 -- what the two closures and the lowest number missing in the second tell
 module _ {names lefts : List ℕ} {count productive nonterminals start : ℕ} (first : Exactly width productive (InClosure names lefts count 0)) where
-  pub tells_lowest : {kept : List ℕ} {seed used r : ℕ}
+  pub tells_lowest : {kept : List ℕ} {seed used : ℕ} (r : Option ℕ)
       → member start productive ≡ true
       → SetsOf (KeptNames names productive) count kept
       → Exactly width seed (IsNumber start)
       → Exactly width used (InClosure lefts kept count seed)
       → LowestMissing used nonterminals r
       → TellsUseless count names lefts nonterminals start r
-  tells_lowest starts kept one second lowest =
+  tells_lowest r starts kept one second lowest =
       record {
         first = λ g sides numbered started.
-            lowest_useless
+            lowest_useless r
             (useful_exactly sides (productive_exactly sides first) kept (rw started at one) (rw started at starts) second)
             (rw numbered at lowest);
       }
 
-  pub tells_all : member start productive ≡ false → TellsUseless count names lefts nonterminals start 0
-  tells_all fails =
-      record { first = λ g sides numbered started. all_useless (productive_exactly sides first) (rw started at fails) }
+  pub tells_all : {none : Set} (r : Option ℕ)
+      → calls.None none
+      → member start productive ≡ false
+      → LowestMissing (number none) nonterminals r
+      → TellsUseless count names lefts nonterminals start r
+  tells_all r empty fails lowest =
+      record {
+        first = λ g sides numbered started.
+            lowest_useless r
+            (none_exactly empty (all_useless (productive_exactly sides first) (rw started at fails)))
+            (rw numbered at lowest);
+      }

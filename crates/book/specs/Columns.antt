@@ -1,16 +1,11 @@
--- The columns of an index: T, N, start and P of a reading, the grammar that its places find in a book, and by
--- production the left side, the length of the right side and its first byte. For every book and every reading.
+-- The columns of an index: the grammar that its places find in a book, and by production the left side, the length of
+-- the right side and its first byte. For every book and every index.
 -- Document 01, "The book".
 use Rattle.std.specs.Prelude.{◌≡◌, List, [], ◌∷◌, ℕ, zero, suc, ◌%◌, ◌≤◌, ◌<◌, length, get_or}
 use Rattle.grammar.specs.Grammar.{Production, Grammar}
 use Rattle.reader.specs.Fields.{left_at, length_at, head_at, right_at}
-use Rattle.book.specs.declared.Reading.{Reading}
+use Rattle.book.specs.declared.Index.{Index}
 use Rattle.book.specs.declared.columns.Outline.{Outline}
-
--- the numbers of a reading
-abbrev pub outline_in : Reading → Outline
-outline_in r =
-    record { tokens = r.tokens; nonterminals = r.nonterminals; start = r.start; productions = r.productions }
 
 -- the production whose record stands at a place
 unfoldable pub production_at : List ℕ → ℕ → Production
@@ -33,9 +28,9 @@ outlined book places o =
       productions = productions_from book places o.productions 0;
     }
 
--- the grammar that a reading tells of
-abbrev pub grammar_in : List ℕ → Reading → Grammar
-grammar_in book r = outlined book r.places (outline_in r)
+-- the grammar that an index tells of
+abbrev pub grammar_in : List ℕ → Index → Grammar
+grammar_in book i = outlined book i.places i.outline
 
 -- the outline has the grammar's T and N
 pub record Outlines (o : Outline) (g : Grammar) : Type 0 where
@@ -49,15 +44,15 @@ pub record Gathered (field : ℕ → ℕ) (places : List ℕ) (count : ℕ) (col
   pub beyond : (p : ℕ) → count ≤ p → get_or column p 0 ≡ 0
 
 -- the left side of every production, and the length of its right side
-abbrev pub Lefts : (book places : List ℕ) → Outline → List ℕ → Type 0
-Lefts book places o = Gathered (left_at book) places o.productions
+abbrev pub Lefts : List ℕ → Index → List ℕ → Type 0
+Lefts book i = Gathered (left_at book) i.places i.outline.productions
 
-abbrev pub Lengths : (book places : List ℕ) → Outline → List ℕ → Type 0
-Lengths book places o = Gathered (length_at book) places o.productions
+abbrev pub Lengths : List ℕ → Index → List ℕ → Type 0
+Lengths book i = Gathered (length_at book) i.places i.outline.productions
 
 -- the byte where its symbols start: that of the first symbol, if there is one
-abbrev pub Heads : (book places : List ℕ) → Outline → List ℕ → Type 0
-Heads book places o = Gathered (head_at book) places o.productions
+abbrev pub Heads : List ℕ → Index → List ℕ → Type 0
+Heads book i = Gathered (head_at book) i.places i.outline.productions
 
 -- p is one of the productions, and its left side is A
 pub record IsOf (lefts : List ℕ) (o : Outline) (A p : ℕ) : Type 0 where

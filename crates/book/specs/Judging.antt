@@ -1,13 +1,13 @@
 -- What judging a book answers: the refusal 1 to 5 that its bytes spell, refusal 6, or the index of its grammar.
 -- Document 01, "The book" and "Refusals and their numbers".
-use Rattle.std.specs.Prelude.{◌≡◌, List, [], ◌∷◌, ◌++◌, ℕ, ◌+◌, ◌-◌, ◌<◌, length, replicate}
+use Rattle.std.specs.Prelude.{◌≡◌, List, [], ◌∷◌, ◌++◌, ℕ, ◌+◌, ◌-◌, ◌<◌, length, replicate, Result, MatchResult}
 use Rattle.grammar.specs.Grammar.{Production, Grammar, Useful}
 use Rattle.answers.specs.Limits.{most_productions}
 use Rattle.answers.specs.declared.Answer.{Answer}
-use Rattle.answers.specs.Answers.{done, refusal}
+use Rattle.answers.specs.Answers.{refusal}
 use Rattle.answers.specs.Refusals.{useless}
 use Rattle.reader.specs.Book.{refused, reads, spells}
-use Rattle.book.specs.declared.Reading.{Reading}
+use Rattle.book.specs.declared.Index.{Index}
 
 pub record AllUseful (g : Grammar) : Type 0 where
   pub useful : (A : ℕ) → A < g.nonterminals → Useful g A
@@ -27,26 +27,16 @@ record_places at (r ∷ rest) = at ∷ record_places (at + 4 + length r.right) r
 unfoldable pub places_in : List Production → List ℕ
 places_in ps = record_places 6 ps ++ replicate (most_productions - length ps) 0
 
--- on a refusal every other field is 0
-unfoldable pub refusing : Answer → Reading
-refusing answer =
-    record {
-      answer = answer;
-      tokens = 0;
-      nonterminals = 0;
-      start = 0;
-      productions = 0;
-      places = replicate most_productions 0;
-    }
-
-unfoldable pub index_of : Grammar → Reading
+unfoldable pub index_of : Grammar → Index
 index_of g =
     record {
-      answer = done 0;
-      tokens = g.tokens;
-      nonterminals = g.nonterminals;
-      start = g.start;
-      productions = length g.productions;
+      outline =
+          record {
+            tokens = g.tokens;
+            nonterminals = g.nonterminals;
+            start = g.start;
+            productions = length g.productions;
+          };
       places = places_in g.productions;
     }
 
@@ -63,6 +53,12 @@ pub record Serves (book : List ℕ) (g : Grammar) : Type 0 where
   pub read : spells book ≡ reads g
   pub useful : AllUseful g
 
-pub data Judged (book : List ℕ) : Reading → Type 0 where
-  refuses : {answer : Answer} → Refuses book answer → Judged book (refusing answer)
-  serves : {g : Grammar} → Serves book g → Judged book (index_of g)
+-- the index of the grammar that the book serves
+pub record Indexes (book : List ℕ) (i : Index) : Type 0 where
+  pub grammar : Grammar
+  pub serves : Serves book grammar
+  pub index : i ≡ index_of grammar
+
+-- an index, or the answer with which the book is refused
+abbrev pub Judged : List ℕ → Result Index Answer → Type 0
+Judged book r = MatchResult r (Indexes book) (Refuses book)

@@ -7,7 +7,7 @@ use Rattle.grammar.specs.declared.Symbol.{Symbol}
 use Rattle.grammar.specs.Grammar.{Form, Grammar, Rule}
 use Rattle.answers.specs.Limits.{most_productions, most_symbols, longest_book}
 use Rattle.reader.specs.Fields.{left_at, length_at, symbol_at}
-use Rattle.book.specs.declared.Reading.{Reading}
+use Rattle.book.specs.declared.Index.{Index}
 
 -- what a place of the book says: the production A → β
 pub record Entry (b : List ℕ) (at A : ℕ) (β : Form) : Type 0 where
@@ -19,10 +19,10 @@ pub record Entry (b : List ℕ) (at A : ℕ) (β : Form) : Type 0 where
   pub symbols : (i : ℕ) {s : Symbol} → get_elem? β i ≡ some s → symbol_at b at i ≡ s
 
 -- the index of a book that serves the grammar g
-pub record Served (b : List ℕ) (g : Grammar) (r : Reading) : Type 0 where
-  pub tokens : r.tokens ≡ g.tokens
-  pub nonterminals : r.nonterminals ≡ g.nonterminals
-  pub start : r.start ≡ g.start
-  pub productions : r.productions ≡ length g.productions
-  pub cells : length r.places ≡ most_productions
-  pub entry : {p A : ℕ} {β : Form} → Rule g p A β → Entry b (get_or r.places p 0) A β
+pub record Served (b : List ℕ) (g : Grammar) (i : Index) : Type 0 where
+  pub tokens : i.outline.tokens ≡ g.tokens
+  pub nonterminals : i.outline.nonterminals ≡ g.nonterminals
+  pub start : i.outline.start ≡ g.start
+  pub productions : i.outline.productions ≡ length g.productions
+  pub cells : length i.places ≡ most_productions
+  pub entry : {p A : ℕ} {β : Form} → Rule g p A β → Entry b (get_or i.places p 0) A β

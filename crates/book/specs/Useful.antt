@@ -1,6 +1,6 @@
 -- The steps to refusal 6: which nonterminals the right sides name, and the lowest nonterminal that is useless.
 -- Document 01, "Refusals and their numbers", 6; only contracts inside the crate cite what stands here.
-use Rattle.std.specs.Prelude.{◌≡◌, true, List, ℕ, ◌<◌, length}
+use Rattle.std.specs.Prelude.{◌≡◌, true, List, ℕ, ◌<◌, length, Option}
 use Rattle.std.proofs.Math.Option.{some}
 use Rattle.std.proofs.Math.ListN.{get_elem?}
 use Rattle.std.proofs.lemmas.List.Edits.{sets}
@@ -10,7 +10,7 @@ use Rattle.grammar.specs.Grammar.{Form, Grammar, Rule, Useful}
 use Rattle.sets.specs.Sets.{width, member, Exactly}
 use Rattle.sets.specs.Calls.{set_at}
 use Rattle.answers.specs.Limits.{most_productions}
-use Rattle.answers.specs.Lowest.{FirstFailing}
+use Rattle.answers.specs.Lowest.{FailingIn}
 use Rattle.reader.specs.Book.{reads, spells}
 use Rattle.reader.specs.Fields.{left_at, length_at, symbol_at, place_of_record, places_from}
 use Rattle.book.specs.Closure.{Follows}
@@ -80,16 +80,16 @@ pub record Sides (g : Grammar) (count : ℕ) (names lefts : List ℕ) : Type 0 w
   pub left_of : {p A : ℕ} {β : Form} → Rule g p A β → Exactly width (set_at lefts p) (λ k. k ≡ A)
   pub start_fits : g.start < width
 
--- the lowest number below `count` that is not in the set, or `count`
-abbrev pub LowestMissing : (set count : ℕ) → ℕ → Type 0
-LowestMissing set = FirstFailing (λ k. member k set ≡ true)
+-- the lowest number below `count` that is not in the set, if one is not
+abbrev pub LowestMissing : (set count : ℕ) → Option ℕ → Type 0
+LowestMissing set = FailingIn (λ k. member k set ≡ true)
 
--- the lowest useless nonterminal, or N where there is none
-abbrev pub FirstUseless : Grammar → ℕ → Type 0
-FirstUseless g = FirstFailing (Useful g) g.nonterminals
+-- the lowest useless nonterminal, if there is one
+abbrev pub FirstUseless : Grammar → Option ℕ → Type 0
+FirstUseless g = FailingIn (Useful g) g.nonterminals
 
 -- r is the lowest useless nonterminal of any grammar with these sides, so many nonterminals and this start symbol
-pub record TellsUseless (count : ℕ) (names lefts : List ℕ) (nonterminals start r : ℕ) : Type 0 where
+pub record TellsUseless (count : ℕ) (names lefts : List ℕ) (nonterminals start : ℕ) (r : Option ℕ) : Type 0 where
   pub first : (g : Grammar)
       → Sides g count names lefts
       → nonterminals ≡ g.nonterminals

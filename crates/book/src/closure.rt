@@ -22,10 +22,8 @@ fn pass(ins: &[u64], outs: &[u64], count: usize, reached: Set) -> Set
     ensures { Passed ins.now outs.now count count (number reached) (number result) }
 {
     let mut after = reached;
-    let mut p: usize = 0;
-    while p < count {
+    for p in 0..count {
         after = applied(ins, outs, p, after);
-        p += 1;
     }
     after
 }

@@ -4,13 +4,12 @@ ghost use Rattle.grammar.specs.Grammar.{Grammar};
 ghost use Rattle.answers.specs.Limits.{most_productions};
 ghost use Rattle.reader.specs.Book.{spells, reads};
 ghost use Rattle.book.specs.Judging.{Judged};
-ghost use Rattle.book.specs.Judging as judging;
 
+use crate::columns::Outline;
 use crate::useful::{first_useless, survey};
-use crate::{CELLS, Reading};
-use answers::limits::MOST_PRODUCTIONS;
-use answers::refusals::USELESS;
-use answers::{Answer, done, refusal};
+use crate::{CELLS, Index};
+use answers::refusals::Refusal;
+use answers::{Answer, refusal};
 use reader::Verdict;
 use reader::fields::{NONTERMINALS, PRODUCTIONS, START, TOKENS, byte_at};
 use reader::walk::read;
@@ -19,29 +18,11 @@ use reader::walk::read;
 fn cells_for(count: u8) -> usize
     ensures { result ≡ min count most_productions }
 {
-    if count < MOST_PRODUCTIONS {
-        count as usize
-    } else {
-        CELLS
-    }
-}
-
-// On a refusal every other field is 0.
-fn refusing(answer: Answer) -> Reading
-    ensures { result ≡ judging.refusing answer }
-{
-    Reading {
-        answer,
-        tokens: 0,
-        nonterminals: 0,
-        start: 0,
-        productions: 0,
-        places: [0u16; CELLS],
-    }
+    (count as usize).min(CELLS)
 }
 
 // Refusal 6 or the index of a book that spells a grammar.
-fn indexed(book: &[u8]) -> Reading
+fn indexed(book: &[u8]) -> Result<Index, Answer>
     requires { (g : Grammar) × (spells book.now ≡ reads g) }
     ensures { Judged book.now result }
 {
@@ -53,27 +34,26 @@ fn indexed(book: &[u8]) -> Reading
     let mut names = [0u64; CELLS];
     let mut lefts = [0u64; CELLS];
     survey(book, count, &mut places, &mut names, &mut lefts);
-    let lowest = first_useless(&mut names, &lefts, count, nonterminals, start);
-    if lowest < nonterminals {
-        return refusing(refusal(USELESS, lowest as u64, 0));
+    if let Some(lowest) = first_useless(&mut names, &lefts, count, nonterminals, start) {
+        return Err(refusal(Refusal::Useless, lowest as u64, 0));
     }
-    Reading {
-        answer: done(0),
-        tokens: byte_at(book, 0, TOKENS),
+    let tokens = byte_at(book, 0, TOKENS);
+    let outline = Outline {
+        tokens,
         nonterminals,
         start,
         productions,
-        places,
-    }
+    };
+    Ok(Index { outline, places })
 }
 
 // The refusal 1 to 6 of a book, or the index of its grammar.
-pub fn judge(book: &[u8]) -> Reading
+pub fn judge(book: &[u8]) -> Result<Index, Answer>
     ensures { Judged book.now result }
 {
     let verdict = read(book);
     match verdict {
         Verdict::Next(_) => indexed(book),
-        Verdict::Bad(number, place) => refusing(refusal(number, place as u64, 0)),
+        Verdict::Bad(number, place) => Err(refusal(number, place as u64, 0)),
     }
 }

@@ -1,7 +1,7 @@
 // Judged books: any bytes in, a refusal 1 to 6 or an index of the book out.
 #![tactic(auto)]
 
-use answers::Answer;
+use crate::columns::Outline;
 use answers::limits::MOST_PRODUCTIONS;
 
 mod closure;
@@ -12,13 +12,9 @@ mod useful;
 // An index has a cell for each record that a book can have.
 pub const CELLS: usize = MOST_PRODUCTIONS as usize;
 
-// The answer to judging a book and, where that is done, T, N, start, P and the place of each record.
+// The index of a book's grammar: T, N, the start symbol and P, and the place of each record.
 #[derive(Clone, Copy)]
-pub struct Reading {
-    pub answer: Answer,
-    pub tokens: u8,
-    pub nonterminals: u8,
-    pub start: u8,
-    pub productions: u8,
+pub struct Index {
+    pub outline: Outline,
     pub places: [u16; CELLS],
 }

@@ -28,11 +28,8 @@ fn names_at(book: &[u8], at: usize, count: usize) -> Set
     ensures { Exactly width (number result) (NamedAt book.now at count) }
 {
     let mut names = none();
-    let mut i: usize = 0;
-    while i < count {
-        let place = at + SYMBOLS + i;
-        names = with_symbol(names, symbol_of(book[place]));
-        i += 1;
+    for i in 0..count {
+        names = with_symbol(names, symbol_of(book[at + SYMBOLS + i]));
     }
     names
 }
@@ -51,15 +48,13 @@ pub(crate) fn survey(
         places.new names.new lefts.new }
 {
     let mut place: u16 = 6;
-    let mut p: usize = 0;
-    while p < count {
+    for p in 0..count {
         places[p] = place;
         let at = place as usize;
         let length = book[at + LENGTH];
         store(names, p, names_at(book, at, length as usize));
         store(lefts, p, single(book[at + LEFT]));
         place += 4 + length as u16;
-        p += 1;
     }
 }
 
@@ -79,25 +74,21 @@ fn keep_productive(names: &mut [u64], count: usize, productive: Set)
     requires { (count ≤ most_productions) × (length names.old ≡ most_productions) }
     ensures { SetsOf (KeptNames names.old (number productive)) count names.new }
 {
-    let mut p: usize = 0;
-    while p < count {
+    for p in 0..count {
         store(names, p, kept(load(names, p), productive));
-        p += 1;
     }
 }
 
-// The lowest number below `count` that is not in the set, or `count`.
-fn lowest_missing(set: Set, count: u8) -> u8
+// The lowest number below `count` that is not in the set, if one is not.
+fn lowest_missing(set: Set, count: u8) -> Option<u8>
     ensures { LowestMissing (number set) count result }
 {
-    let mut k: u8 = 0;
-    while k < count {
+    for k in 0..count {
         if !has(set, k) {
-            return k;
+            return Some(k);
         }
-        k += 1;
     }
-    k
+    None
 }
 
 // Productive first, then used through productive productions only: with a start that is not productive, nothing is.
@@ -107,16 +98,16 @@ pub(crate) fn first_useless(
     count: usize,
     nonterminals: u8,
     start: u8,
-) -> u8
+) -> Option<u8>
     requires { (count ≤ most_productions) × (length names.old ≡ most_productions) }
     ensures { TellsUseless count names.old lefts.now nonterminals start result }
 {
     let productive = closure(names, lefts, count, none());
-    if has(productive, start) {
+    let used = if has(productive, start) {
         keep_productive(names, count, productive);
-        let used = closure(lefts, names, count, single(start));
-        lowest_missing(used, nonterminals)
+        closure(lefts, names, count, single(start))
     } else {
-        0
-    }
+        none()
+    };
+    lowest_missing(used, nonterminals)
 }

@@ -1,12 +1,9 @@
 -- The invariant: what is gathered so far.
-use Prim.Native.Nat.{ℕ, ◌+◌, ◌-◌, ◌≤◌}
+use Prim.Native.Nat.{ℕ, ◌+◌, ◌≤◌}
 use lib.ListN.{get_or}
 use Rattle.book.specs.Columns.{Gathered}
 use Rattle.book.proofs.columns.gather.Given as goal
 
 abbrev pub invariant-loop-p : goal.invariant-loop-p
 invariant-loop-p l =
-    (l.p ≤ l.last) × Gathered (λ (at : ℕ). get_or l.book (at + l.more) 0) l.places l.p l.column
-
-abbrev pub decreases-loop-p : goal.decreases-loop-p
-decreases-loop-p l = l.last - l.p
+    (l.p ≤ l.p-end) × Gathered (λ (at : ℕ). get_or l.book (at + l.more) 0) l.index.places l.p l.column

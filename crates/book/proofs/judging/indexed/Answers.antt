@@ -18,20 +18,20 @@ survey-requires c =
       lefts_sized = search rules;
     }
 
-pub first_useless-lowest-requires : goal.first_useless-lowest-requires
-first_useless-lowest-requires c =
+pub first_useless-requires : goal.first_useless-requires
+first_useless-requires c =
     (omega (arith, c.cells_for-count.ensures), c.survey.ensures.named.size)
 
-pub returns-then-lowest-nonterminals : goal.returns-then-lowest-nonterminals
-returns-then-lowest-nonterminals c =
+pub returns-in-Some : goal.returns-in-Some
+returns-in-Some c =
     let (indexed, first) =
     survey_decides _ c.requires.1 c.byte_at-nonterminals.ensures c.byte_at-start.ensures c.byte_at-productions.ensures
-    c.cells_for-count.ensures c.survey.ensures c.first_useless-lowest.ensures in
-    rw (c.refusing.ensures, c.refusal.ensures) (judged_useless indexed first c.if-lowest-nonterminals.true)
+    c.cells_for-count.ensures c.survey.ensures (rw c.in-Some.is at c.first_useless.ensures) in
+    rw c.refusal.ensures (judged_useless indexed first)
 
 pub returns : goal.returns
 returns c =
     let (indexed, first) =
     survey_decides _ c.requires.1 c.byte_at-nonterminals.ensures c.byte_at-start.ensures c.byte_at-productions.ensures
-    c.cells_for-count.ensures c.survey.ensures c.first_useless-lowest.ensures in
-    judged_served indexed first c.if-lowest-nonterminals.false c.byte_at.ensures c.done.ensures
+    c.cells_for-count.ensures c.survey.ensures (rw c.in_default.is at c.first_useless.ensures) in
+    judged_served indexed first c.byte_at-tokens.ensures
