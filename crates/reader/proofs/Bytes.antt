@@ -11,11 +11,12 @@ use Rattle.grammar.specs.declared.Symbol.{Symbol}
 use Rattle.grammar.specs.declared.Symbol.TheVariants.{Token, Nonterminal}
 use Rattle.grammar.specs.Grammar.{Form, Grammar, Known, known_token, known_nonterminal}
 use Rattle.answers.specs.Limits.{most_tokens}
-use Rattle.answers.specs.Refusals.{short, mark, symbol}
+use Rattle.answers.specs.declared.refusals.Refusal.{Refusal}
+use Rattle.answers.specs.declared.refusals.Refusal.TheVariants as refusals
 use Rattle.reader.specs.Book.{Spelling, refused, reads, Rest, wanted, marked, symbol_of, symbols, byte_of}
 
-pub refused_not_reads : {x : Spelling} {n k : ℕ} {g : Grammar} → x ≡ refused n k → x ≡ reads g → ⊥
-refused_not_reads e f = let bad : ◌≡◌ {A = ℕ} 0 1 = cc in omega arith
+pub refused_not_reads : {x : Spelling} {why : Refusal} {k : ℕ} {g : Grammar} → x ≡ refused why k → x ≡ reads g → ⊥
+refused_not_reads e f = cc
 
 -- the symbol's byte reads as the symbol
 abbrev pub Spelled : (T N : ℕ) → Symbol → Type 0
@@ -49,33 +50,33 @@ module _ {g : Grammar} where
       by_tests false true false f h k = let bad : ◌≡◌ {A = ℕ} 0 1 = cc in absurd (omega arith)
       by_tests false false z f h k = let bad : ◌≡◌ {A = ℕ} 0 1 = cc in absurd (omega arith)
 
-module _ {A : Type 0} (byte : A → ℕ) (Fine : A → Type 0) (next : A → Rest) (refusal : ℕ) (r : Rest) where
+module _ {A : Type 0} (byte : A → ℕ) (Fine : A → Type 0) (next : A → Rest) (why : Refusal) (r : Rest) where
   -- a byte that stands for some a, or is refused
   pub data Look : ℕ → Type 0 where
     taken : (a : A) → Fine a → Look (byte a)
-    turned : (b : ℕ) → ((bs : List ℕ) (at : ℕ) → r (b ∷ bs) at ≡ refused refusal at) → Look b
+    turned : (b : ℕ) → ((bs : List ℕ) (at : ℕ) → r (b ∷ bs) at ≡ refused why at) → Look b
 
   -- the reader wants one byte that stands for some a, then goes on as `next a`
   pub record Takes : Type 0 where
-    pub missing : (at : ℕ) → r [] at ≡ refused short at
+    pub missing : (at : ℕ) → r [] at ≡ refused refusals.Short at
     pub goes : (a : A) → Fine a → (bs : List ℕ) (at : ℕ) → r (byte a ∷ bs) at ≡ next a bs (suc at)
     pub look : (b : ℕ) → Look b
 
-pub wanted_takes : (low high refusal : ℕ) {next : ℕ → Rest} → Takes (λ b. b) (λ b. (low ≤ b) × (b < high)) next refusal (wanted low high refusal next)
+pub wanted_takes : (low high : ℕ) (why : Refusal) {next : ℕ → Rest} → Takes (λ b. b) (λ b. (low ≤ b) × (b < high)) next why (wanted low high why next)
 unfolding wanted
-wanted_takes low high refusal {next} =
+wanted_takes low high why {next} =
     record {
       missing = λ at. refl;
       goes = λ b fine bs at. rw (le-leb low b fine.0, lt-ltb b high fine.1, wanted);
       look = λ b. by_tests b (leb low b) (ltb b high) refl refl;
     }
   where
-    by_tests : (b : ℕ) (x y : Bool) → leb low b ≡ x → ltb b high ≡ y → Look (λ b. b) (λ b. (low ≤ b) × (b < high)) next refusal (wanted low high refusal next) b
+    by_tests : (b : ℕ) (x y : Bool) → leb low b ≡ x → ltb b high ≡ y → Look (λ b. b) (λ b. (low ≤ b) × (b < high)) next why (wanted low high why next) b
     by_tests b true true e f = taken b (leb-true low b e, ltb-true b high f)
     by_tests b true false e f = turned b (λ bs at. rw (e, f, wanted))
     by_tests b false y e f = turned b (λ bs at. rw (e, wanted))
 
-pub symbols_takes : (T N l : ℕ) (next : Form → Rest) → Takes byte_of (Spelled T N) (λ s. symbols T N l (λ form. next (s ∷ form))) symbol (symbols T N (suc l) next)
+pub symbols_takes : (T N l : ℕ) (next : Form → Rest) → Takes byte_of (Spelled T N) (λ s. symbols T N l (λ form. next (s ∷ form))) refusals.Symbol (symbols T N (suc l) next)
 unfolding symbols
 symbols_takes T N l next =
     record {
@@ -84,7 +85,7 @@ symbols_takes T N l next =
       look = λ b. by_symbol b (symbol_of T N b) refl;
     }
   where
-    by_symbol : (b : ℕ) (x : Option Symbol) → symbol_of T N b ≡ x → Look byte_of (Spelled T N) (λ s. symbols T N l (λ form. next (s ∷ form))) symbol (symbols T N (suc l) next) b
+    by_symbol : (b : ℕ) (x : Option Symbol) → symbol_of T N b ≡ x → Look byte_of (Spelled T N) (λ s. symbols T N l (λ form. next (s ∷ form))) refusals.Symbol (symbols T N (suc l) next) b
     by_symbol b none e = turned b (λ bs at. rw (e, symbols))
     by_symbol b (some s) e =
         let same : b ≡ byte_of s = (symbol_of_known {g = record { tokens = T; nonterminals = N; start = 0; productions = [] }} b e).0 in
@@ -92,11 +93,11 @@ symbols_takes T N l next =
         rw same (taken s spelled)
 
 -- a byte within the range wanted is taken
-pub wanted_taken : (low high b refusal : ℕ) (next : ℕ → Rest) → low ≤ b → b < high → (bs : List ℕ) (at : ℕ) → wanted low high refusal next (b ∷ bs) at ≡ next b bs (suc at)
-wanted_taken low high b refusal next h k = (wanted_takes low high refusal).goes b (h, k)
+pub wanted_taken : (low high b : ℕ) (why : Refusal) (next : ℕ → Rest) → low ≤ b → b < high → (bs : List ℕ) (at : ℕ) → wanted low high why next (b ∷ bs) at ≡ next b bs (suc at)
+wanted_taken low high b why next h k = (wanted_takes low high why).goes b (h, k)
 
 pub marked_taken : (one other : ℕ) (next : Rest) (bs : List ℕ) (at : ℕ) → marked one other next (one ∷ (other ∷ bs)) at ≡ next bs (suc (suc at))
 unfolding marked
 marked_taken one other next bs at =
-    wanted_taken one (suc one) one mark (λ _. wanted other (suc other) mark (λ _. next)) (omega arith) (omega arith) (other ∷ bs) at
-    ∙ wanted_taken other (suc other) other mark (λ _. next) (omega arith) (omega arith) bs (suc at)
+    wanted_taken one (suc one) one refusals.Mark (λ _. wanted other (suc other) refusals.Mark (λ _. next)) (omega arith) (omega arith) (other ∷ bs) at
+    ∙ wanted_taken other (suc other) other refusals.Mark (λ _. next) (omega arith) (omega arith) bs (suc at)

@@ -9,6 +9,7 @@ use lib.Seq.{take_all, take-append-add}
 use Rattle.grammar.specs.declared.Symbol.TheVariants.{Token}
 use Rattle.grammar.specs.Grammar.{Production, Grammar}
 use Rattle.answers.specs.Limits.{most_productions, most_symbols, longest_book}
+use Rattle.answers.specs.declared.refusals.Refusal.{Refusal}
 use Rattle.reader.specs.Book.{Spelling, reads, refused, wanted, marked, symbol_of, symbols, records, ending, spells, byte_of, record_bytes, records_bytes, bytes_of, Limits, Continued}
 use Rattle.reader.proofs.Records.{records_size}
 use Rattle.reader.proofs.Positions.{records_bytes_length}
@@ -32,11 +33,11 @@ continued_fits : {b : List ℕ} → Continued b → length b ≤ longest_book
 continued_fits {b} c = omega (arith, longest_book_lem (b ++ c.more) c.read, length-append b c.more)
 
 -- no refusal names a place further on
-pub refused_within : (b : List ℕ) {n k : ℕ} → spells b ≡ refused n k → k ≤ longest_book
-refused_within b {n} {k} e = by_decided (spells_decided b) e
+pub refused_within : (b : List ℕ) {why : Refusal} {k : ℕ} → spells b ≡ refused why k → k ≤ longest_book
+refused_within b {why} {k} e = by_decided (spells_decided b) e
   where
-    by_decided : {x : Spelling} → FirstDecides spells 0 b x → x ≡ refused n k → k ≤ longest_book
-    by_decided whole e = let bad : ◌≡◌ {A = ℕ} 0 1 = cc in absurd (omega arith)
+    by_decided : {x : Spelling} → FirstDecides spells 0 b x → x ≡ refused why k → k ≤ longest_book
+    by_decided whole e = let no : ⊥ = cc in absurd no
     by_decided (ended j place g) e = let same : j ≡ k = cc in omega (arith, place, continued_fits (continued g))
     by_decided (stopped j fault used c rest split place g all) e = let same : j ≡ k = cc in omega (arith, place, continued_fits (continued g))
 

@@ -10,5 +10,5 @@ pub use Rattle.reader.proofs.Forms.{every_in, form_spelled, symbol_token, symbol
 pub use Rattle.reader.proofs.Forms.{symbol_low, symbol_high, symbol_none}
 pub use Rattle.reader.proofs.Written.{read_written, written_read, read_limits}
 pub use Rattle.reader.proofs.Longest.{longest_book_lem, judged_by_first, refused_within}
-pub use Rattle.reader.proofs.Place.{refused_kinds}
+pub use Rattle.reader.proofs.Place.{refused_kinds, refused_number}
 pub use Rattle.reader.proofs.Telling.{verdict_reads, verdict_refused}

@@ -10,9 +10,10 @@ use lib.ListN.{length, take}
 use Rattle.grammar.specs.declared.Symbol.{Symbol}
 use Rattle.grammar.specs.Grammar.{Grammar, Known}
 use Rattle.answers.specs.Limits.{longest_book}
-use Rattle.answers.specs.Refusals.{short}
+use Rattle.answers.specs.declared.refusals.Refusal.{Refusal}
+use Rattle.answers.specs.declared.refusals.Refusal.TheVariants as refusals
 use Rattle.reader.specs.Book.{refused, reads, spells, symbol_of, byte_of, bytes_of, Limits, Continued}
-use Rattle.reader.specs.Faults.{Refusal}
+use Rattle.reader.specs.Faults.{RefusedAt}
 use Rattle.reader.specs.Fields.{symbol_of_byte}
 use Rattle.reader.proofs.Bytes as bytes
 use Rattle.reader.proofs.Forms as forms
@@ -39,21 +40,21 @@ pub read_limits : (b : List ℕ) {g : Grammar}
 read_limits = written.read_limits
 
 -- a book that is refused has a number 1 to 5, and a place in the book, or at its end where a byte is missing
-pub refused_kinds : (b : List ℕ) {n k : ℕ}
-    → spells b ≡ refused n k
-    → Refusal b n k
+pub refused_kinds : (b : List ℕ) {why : Refusal} {k : ℕ}
+    → spells b ≡ refused why k
+    → RefusedAt b why k
 refused_kinds = place.refused_kinds
 
 -- a missing byte is missing behind the whole book, and the book can be continued to one that reads
 pub book_short : (b : List ℕ) {k : ℕ}
-    → spells b ≡ refused short k
+    → spells b ≡ refused refusals.Short k
     → (k ≡ length b) × Continued b
 book_short = place.book_short
 
 -- the bytes before a bad byte can be continued to a book that reads, and with that byte they cannot
-pub book_place : (b : List ℕ) {n k : ℕ}
-    → spells b ≡ refused n k
-    → n ≢ short
+pub book_place : (b : List ℕ) {why : Refusal} {k : ℕ}
+    → spells b ≡ refused why k
+    → why ≢ refusals.Short
     → Continued (take k b) × (¬ Continued (take (suc k) b))
 book_place = place.book_place
 
@@ -68,8 +69,8 @@ pub longest_reads : (b : List ℕ) × (g : Grammar) × (spells b ≡ reads g) ×
 longest_reads = longest.longest_reads
 
 -- no refusal names a place further on
-pub refused_within : (b : List ℕ) {n k : ℕ}
-    → spells b ≡ refused n k
+pub refused_within : (b : List ℕ) {why : Refusal} {k : ℕ}
+    → spells b ≡ refused why k
     → k ≤ longest_book
 refused_within = longest.refused_within
 

@@ -6,7 +6,7 @@ use native.Mathlib.Numerals.{add-one}
 use native.Mathlib.Omega.{arith}
 use lib.ListN.{set}
 use lib.Seq.{sets}
-use Rattle.reader.specs.declared.Verdict.{Verdict}
+use Rattle.reader.specs.Verdicts.{Verdict}
 use Rattle.reader.specs.Fields.{place_of_record, places_from}
 use Rattle.reader.specs.Positional.{symbol_from, symbols_from, record_from, each_record_from}
 

@@ -7,7 +7,8 @@ use lib.ListN.{length}
 use Rattle.grammar.specs.Grammar.{Form, Production, Grammar, Rule, Every, nothing, each}
 use Rattle.grammar.proofs.Every.{at_every, every_at, every_map}
 use Rattle.answers.specs.Limits.{most_tokens, most_nonterminals, most_productions, most_symbols}
-use Rattle.answers.specs.Refusals.{mark, limit, symbol}
+use Rattle.answers.specs.declared.refusals.Refusal.{Refusal}
+use Rattle.answers.specs.declared.refusals.Refusal.TheVariants as refusals
 use Rattle.reader.specs.Book.{Spelling, reads, Rest, marked, symbols, records, ending, spells, byte_of, record_bytes, records_bytes, bytes_of, Limits}
 use Rattle.reader.proofs.Bytes.{refused_not_reads, Spelled, Look, taken, turned, Takes, wanted_takes, symbols_takes, wanted_taken, marked_taken, symbol_of_byte_of, symbol_of_known}
 
@@ -64,11 +65,11 @@ read_written {g} limits =
 record Only (r : Rest) (W : List ℕ → Grammar → Type 0) : Type 0 where
   holds : (bs : List ℕ) (at : ℕ) (g : Grammar) → r bs at ≡ reads g → W bs g
 
-module _ {A : Type 0} {byte : A → ℕ} {Fine : A → Type 0} {next : A → Rest} {refusal : ℕ} {r : Rest} {W : List ℕ → Grammar → Type 0} where
-  takes_only : Takes byte Fine next refusal r → ((a : A) → Fine a → Only (next a) (λ bs. W (byte a ∷ bs))) → Only r W
+module _ {A : Type 0} {byte : A → ℕ} {Fine : A → Type 0} {next : A → Rest} {why : Refusal} {r : Rest} {W : List ℕ → Grammar → Type 0} where
+  takes_only : Takes byte Fine next why r → ((a : A) → Fine a → Only (next a) (λ bs. W (byte a ∷ bs))) → Only r W
   takes_only t h = record { holds = by_bytes }
     where
-      by_look : {b : ℕ} → Look byte Fine next refusal r b → (bs : List ℕ) (at : ℕ) (g : Grammar) → r (b ∷ bs) at ≡ reads g → W (b ∷ bs) g
+      by_look : {b : ℕ} → Look byte Fine next why r b → (bs : List ℕ) (at : ℕ) (g : Grammar) → r (b ∷ bs) at ≡ reads g → W (b ∷ bs) g
       by_look (taken a fine) bs at g e = (h a fine).holds bs (suc at) g (sym (t.goes a fine bs at) ∙ e)
       by_look (turned b stops) bs at g e = absurd (refused_not_reads (stops bs at) e)
 
@@ -86,8 +87,8 @@ symbols_only T N (suc l) {next} h =
 marked_only : (one other : ℕ) {next : Rest} {W : List ℕ → Grammar → Type 0} → Only next (λ bs. W (one ∷ (other ∷ bs))) → Only (marked one other next) W
 unfolding marked
 marked_only one other h =
-    takes_only (wanted_takes one (suc one) mark) λ a near.
-    takes_only (wanted_takes other (suc other) mark) λ b close.
+    takes_only (wanted_takes one (suc one) refusals.Mark) λ a near.
+    takes_only (wanted_takes other (suc other) refusals.Mark) λ b close.
     let first : a ≡ one = omega arith in
     let second : b ≡ other = omega arith in
     rw (first, second) h
@@ -98,8 +99,8 @@ unfolding records records_bytes record_bytes
 records_only T N zero h = h [] refl nothing
 records_only T N (suc p) h =
     marked_only 80 82
-    (takes_only (wanted_takes 0 N symbol) λ A known.
-    takes_only (wanted_takes 0 (suc most_symbols) limit) λ l fits.
+    (takes_only (wanted_takes 0 N refusals.Symbol) λ A known.
+    takes_only (wanted_takes 0 (suc most_symbols) refusals.Limit) λ l fits.
     symbols_only T N l λ form same spelled.
     records_only T N p λ ps count held.
     let kept : Recordable T N (record { left = A; right = form }) = record { left_known = known.1; length_fits = omega arith; right_spelled = spelled } in
@@ -136,10 +137,10 @@ spells_only : (b : List ℕ) (g : Grammar) → spells b ≡ reads g → (b ≡ b
 unfolding spells bytes_of ending
 spells_only b g e =
     let all : Only _ (λ bs g. (bs ≡ bytes_of g) × Limits g) = marked_only 71 82
-    (takes_only (wanted_takes 1 (suc most_tokens) limit) λ T tokens.
-    takes_only (wanted_takes 1 (suc most_nonterminals) limit) λ N nonterminals.
-    takes_only (wanted_takes 0 N limit) λ start known.
-    takes_only (wanted_takes 1 (suc most_productions) limit) λ P count.
+    (takes_only (wanted_takes 1 (suc most_tokens) refusals.Limit) λ T tokens.
+    takes_only (wanted_takes 1 (suc most_nonterminals) refusals.Limit) λ N nonterminals.
+    takes_only (wanted_takes 0 N refusals.Limit) λ start known.
+    takes_only (wanted_takes 1 (suc most_productions) refusals.Limit) λ P count.
     records_only T N P λ ps same held.
     ending_only (record { tokens = T; nonterminals = N; start = start; productions = ps })
     (rw (append-nil, same), held_limits _ tokens nonterminals known.1 (omega arith) held)) in

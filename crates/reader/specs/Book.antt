@@ -6,10 +6,11 @@ use Rattle.grammar.specs.declared.Symbol.{Symbol}
 use Rattle.grammar.specs.declared.Symbol.TheVariants.{Token, Nonterminal}
 use Rattle.grammar.specs.Grammar.{Form, Production, Grammar, Rule, WellFormed}
 use Rattle.answers.specs.Limits.{most_tokens, most_nonterminals, most_productions, most_symbols}
-use Rattle.answers.specs.Refusals.{short, mark, extra, limit, symbol}
+use Rattle.answers.specs.declared.refusals.Refusal.{Refusal}
+use Rattle.answers.specs.declared.refusals.Refusal.TheVariants as refusals
 
 pub data Spelling : Type 0 where
-  refused : (number place : ℕ) → Spelling
+  refused : (why : Refusal) (place : ℕ) → Spelling
   reads : Grammar → Spelling
 
 -- reading goes on with the bytes that are left and the place of the first of them
@@ -17,14 +18,14 @@ abbrev pub Rest : Type 0
 Rest = List ℕ → ℕ → Spelling
 
 -- a byte from `low` up to and without `high` is wanted, else the refusal at its place
-unfoldable pub wanted : (low high refusal : ℕ) → (ℕ → Rest) → Rest
-wanted low high refusal next [] at = refused short at
-wanted low high refusal next (b ∷ bs) at =
-    elim (leb low b && ltb b high) [ true ↦ next b bs (suc at) | false ↦ refused refusal at ]
+unfoldable pub wanted : (low high : ℕ) → Refusal → (ℕ → Rest) → Rest
+wanted low high why next [] at = refused refusals.Short at
+wanted low high why next (b ∷ bs) at =
+    elim (leb low b && ltb b high) [ true ↦ next b bs (suc at) | false ↦ refused why at ]
 
 -- a mark of two bytes
 unfoldable pub marked : (one other : ℕ) → Rest → Rest
-marked one other next = wanted one (suc one) mark (λ _. wanted other (suc other) mark (λ _. next))
+marked one other next = wanted one (suc one) refusals.Mark (λ _. wanted other (suc other) refusals.Mark (λ _. next))
 
 -- a token below T, or 128 + n for nonterminal n below N
 unfoldable pub symbol_of : (T N : ℕ) → ℕ → Option Symbol
@@ -40,10 +41,10 @@ IsSymbol T N byte = (s : Symbol) × (symbol_of T N byte ≡ some s)
 
 unfoldable pub symbols : (T N : ℕ) → ℕ → (Form → Rest) → Rest
 symbols T N zero next bs at = next [] bs at
-symbols T N (suc l) next [] at = refused short at
+symbols T N (suc l) next [] at = refused refusals.Short at
 symbols T N (suc l) next (b ∷ bs) at =
     elim (symbol_of T N b) [
-      | none ↦ refused symbol at
+      | none ↦ refused refusals.Symbol at
       | some s ↦ symbols T N l (λ form. next (s ∷ form)) bs (suc at)
     ]
 
@@ -52,24 +53,24 @@ unfoldable pub records : (T N : ℕ) → ℕ → (List Production → Rest) → 
 records T N zero next = next []
 records T N (suc p) next =
     marked 80 82
-    (wanted 0 N symbol λ A.
-    wanted 0 (suc most_symbols) limit λ l.
+    (wanted 0 N refusals.Symbol λ A.
+    wanted 0 (suc most_symbols) refusals.Limit λ l.
     symbols T N l λ form.
     records T N p λ rest.
     next (record { left = A; right = form } ∷ rest))
 
 unfoldable pub ending : Grammar → Rest
 ending g [] at = reads g
-ending g (b ∷ bs) at = refused extra at
+ending g (b ∷ bs) at = refused refusals.Extra at
 
 -- `GR`, T, N, start, P, the records, the end
 unfoldable pub spells : List ℕ → Spelling
 spells bs =
     marked 71 82
-    (wanted 1 (suc most_tokens) limit λ T.
-    wanted 1 (suc most_nonterminals) limit λ N.
-    wanted 0 N limit λ start.
-    wanted 1 (suc most_productions) limit λ P.
+    (wanted 1 (suc most_tokens) refusals.Limit λ T.
+    wanted 1 (suc most_nonterminals) refusals.Limit λ N.
+    wanted 0 N refusals.Limit λ start.
+    wanted 1 (suc most_productions) refusals.Limit λ P.
     records T N P λ productions.
     ending (record { tokens = T; nonterminals = N; start = start; productions = productions }))
     bs 0

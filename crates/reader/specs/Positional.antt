@@ -1,20 +1,20 @@
 -- The code's mirror: each part of the reader as a function of the whole book and of what reading has come to.
 -- Only contracts inside the crate cite it: what `read` answers is stated by `spells` alone, in Verdicts.
-use Rattle.std.specs.Prelude.{Bool, true, false, ◌&&◌, List, ℕ, zero, suc, ◌+◌, ◌-◌, leb, ltb, length, get_or}
+use Rattle.std.specs.Prelude.{Bool, true, false, ◌&&◌, List, ℕ, zero, suc, ◌+◌, ◌-◌, leb, ltb, length, get_or, Ok, Err}
 use Rattle.answers.specs.Limits.{most_tokens, most_nonterminals, most_productions, most_symbols}
-use Rattle.answers.specs.Refusals.{short, mark, extra, limit, symbol}
-use Rattle.reader.specs.declared.Verdict.{Verdict}
-use Rattle.reader.specs.declared.Verdict.TheVariants.{Next, Bad}
+use Rattle.answers.specs.declared.refusals.Refusal.{Refusal}
+use Rattle.answers.specs.declared.refusals.Refusal.TheVariants as refusals
+use Rattle.reader.specs.Verdicts.{Verdict, bad}
 
 -- reading goes on from a next place, and a refusal stays
 unfoldable pub and_then : Verdict → (ℕ → Verdict) → Verdict
-and_then (Next at) next = next at
-and_then (Bad number place) next = Bad number place
+and_then (Ok at) next = next at
+and_then (Err fault) next = Err fault
 
 -- the byte that is next, 0 after a refusal
 unfoldable pub next_byte : List ℕ → Verdict → ℕ
-next_byte b (Next at) = get_or b at 0
-next_byte b (Bad number place) = 0
+next_byte b (Ok at) = get_or b at 0
+next_byte b (Err fault) = 0
 
 unfoldable pub within : (low high : ℕ) → ℕ → Bool
 within low high byte = leb low byte && ltb byte high
@@ -22,36 +22,42 @@ within low high byte = leb low byte && ltb byte high
 unfoldable pub is_symbol : (T N : ℕ) → ℕ → Bool
 is_symbol T N byte = elim (ltb byte T) [ true ↦ true | false ↦ leb 128 byte && ltb (byte - 128) N ]
 
--- a byte stands at a place and lies in a range
-unfoldable pub within_at : List ℕ → (low high : ℕ) → ℕ → Bool
-within_at b low high at = ltb at (length b) && within low high (get_or b at 0)
-
 -- the byte at a place is missing, right or wrong
-unfoldable pub checked_at : List ℕ → Bool → ℕ → ℕ → Verdict
-checked_at b right refusal at =
+unfoldable pub checked_at : List ℕ → Bool → Refusal → ℕ → Verdict
+checked_at b right why at =
     elim (ltb at (length b)) [
-      | true ↦ elim right [ true ↦ Next (at + 1) | false ↦ Bad refusal at ]
-      | false ↦ Bad short (length b)
+      | true ↦ elim right [ true ↦ Ok (at + 1) | false ↦ bad why at ]
+      | false ↦ bad refusals.Short (length b)
     ]
 
-unfoldable pub wanted_from : List ℕ → (low high refusal : ℕ) → Verdict → Verdict
-wanted_from b low high refusal v = and_then v λ at. checked_at b (within low high (get_or b at 0)) refusal at
+-- a byte in a range is wanted
+unfoldable pub wanted_from : List ℕ → (low high : ℕ) → Refusal → Verdict → Verdict
+wanted_from b low high why v = and_then v λ at. checked_at b (within low high (get_or b at 0)) why at
 
 unfoldable pub symbol_from : List ℕ → (T N : ℕ) → Verdict → Verdict
-symbol_from b T N v = and_then v λ at. checked_at b (is_symbol T N (get_or b at 0)) symbol at
+symbol_from b T N v = and_then v λ at. checked_at b (is_symbol T N (get_or b at 0)) refusals.Symbol at
 
 unfoldable pub symbols_from : List ℕ → (T N : ℕ) → ℕ → Verdict → Verdict
 symbols_from b T N zero v = v
 symbols_from b T N (suc l) v = symbols_from b T N l (symbol_from b T N v)
 
 unfoldable pub marked_from : List ℕ → (one other : ℕ) → Verdict → Verdict
-marked_from b one other v = wanted_from b other (suc other) mark (wanted_from b one (suc one) mark v)
+marked_from b one other v =
+    wanted_from b other (suc other) refusals.Mark (wanted_from b one (suc one) refusals.Mark v)
 
 -- the length of a right side, then its symbols
 unfoldable pub right_from : List ℕ → (T N : ℕ) → Verdict → Verdict
-right_from b T N v = symbols_from b T N (next_byte b v) (wanted_from b 0 (suc most_symbols) limit v)
+right_from b T N v = symbols_from b T N (next_byte b v) (wanted_from b 0 (suc most_symbols) refusals.Limit v)
 
--- the four bytes from a place on begin a record: `PR`, a left side, the length of a right side
+-- `PR` and a left side
+unfoldable pub left_from : List ℕ → (N : ℕ) → Verdict → Verdict
+left_from b N v = wanted_from b 0 N refusals.Symbol (marked_from b 80 82 v)
+
+-- the four bytes that begin a record: `PR`, a left side, the length of a right side
+unfoldable pub head_from : List ℕ → (N : ℕ) → Verdict → Verdict
+head_from b N v = wanted_from b 0 (suc most_symbols) refusals.Limit (left_from b N v)
+
+-- they stand at a place
 unfoldable pub head_at : List ℕ → (N : ℕ) → ℕ → Bool
 head_at b N at =
     ltb (at + 3) (length b)
@@ -60,32 +66,28 @@ head_at b N at =
     && (within 0 N (get_or b (at + 2) 0) && within 0 (suc most_symbols) (get_or b (at + 3) 0))))
 
 unfoldable pub record_from : List ℕ → (T N : ℕ) → Verdict → Verdict
-record_from b T N v = right_from b T N (wanted_from b 0 N symbol (marked_from b 80 82 v))
+record_from b T N v = right_from b T N (left_from b N v)
 
 unfoldable pub each_record_from : List ℕ → (T N : ℕ) → ℕ → Verdict → Verdict
 each_record_from b T N zero v = v
 each_record_from b T N (suc p) v = each_record_from b T N p (record_from b T N v)
 
--- the header at a place, whose fourth byte is N
-unfoldable pub header_from : List ℕ → ℕ → Verdict
-header_from b at =
-    wanted_from b 1 (suc most_productions) limit
-    (wanted_from b 0 (get_or b (at + 3) 0) limit
-    (wanted_from b 1 (suc most_nonterminals) limit
-    (wanted_from b 1 (suc most_tokens) limit
-    (marked_from b 71 82 (Next at)))))
+-- the header, whose fourth byte is N
+unfoldable pub header_of : List ℕ → Verdict
+header_of b =
+    wanted_from b 1 (suc most_productions) refusals.Limit
+    (wanted_from b 0 (get_or b 3 0) refusals.Limit
+    (wanted_from b 1 (suc most_nonterminals) refusals.Limit
+    (wanted_from b 1 (suc most_tokens) refusals.Limit
+    (marked_from b 71 82 (Ok 0)))))
 
--- a byte is wanted where the book ends, unless it was refused
-unfoldable pub cut_off : List ℕ → Verdict → Verdict
-cut_off b v = and_then v λ _. Bad short (length b)
+-- the records, with T, N and P as the book's bytes 2, 3 and 5 have them
+unfoldable pub records_from : List ℕ → Verdict → Verdict
+records_from b v = each_record_from b (get_or b 2 0) (get_or b 3 0) (get_or b 5 0) v
 
--- reading goes on from a place, unless it was refused
-unfoldable pub resumed_at : ℕ → Verdict → Verdict
-resumed_at at v = and_then v λ _. Next at
+-- nothing stands at a place
+unfoldable pub ended_at : List ℕ → ℕ → Verdict
+ended_at b at = elim (ltb at (length b)) [ true ↦ bad refusals.Extra at | false ↦ Ok at ]
 
--- the records from a place on, with T, N and P as the book's bytes 2, 3 and 5 have them
-unfoldable pub records_from : List ℕ → ℕ → Verdict → Verdict
-records_from b at v = each_record_from b (get_or b 2 0) (get_or b 3 0) (get_or b 5 0) (resumed_at at v)
-
-unfoldable pub end_from : List ℕ → ℕ → Verdict → Verdict
-end_from b at v = and_then v λ _. elim (ltb at (length b)) [ true ↦ Bad extra at | false ↦ Next at ]
+unfoldable pub end_from : List ℕ → Verdict → Verdict
+end_from b v = and_then v (ended_at b)

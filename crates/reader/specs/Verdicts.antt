@@ -1,19 +1,21 @@
 -- What reading a whole book answers: the refusal that its bytes spell, or the book's length as the next place.
 -- Document 01, "Refusals and their numbers", 1 to 5. Only contracts inside the crate cite what stands here.
-use Rattle.std.specs.Prelude.{List, ℕ, length}
+use Rattle.std.specs.Prelude.{List, ℕ, length, Result, Ok, Err}
+use Rattle.answers.specs.declared.refusals.Refusal.{Refusal}
 use Rattle.reader.specs.Book.{Spelling, refused, reads, spells}
-use Rattle.reader.specs.declared.Verdict.{Verdict}
-use Rattle.reader.specs.declared.Verdict.TheVariants.{Next, Bad}
+use Rattle.reader.specs.declared.Fault.{Fault}
+
+-- what reading has come to: the next place, or a refusal and its place
+abbrev pub Verdict : Type 0
+Verdict = Result ℕ Fault
+
+abbrev pub bad : Refusal → ℕ → Verdict
+bad why place = Err (record { why = why; place = place })
 
 -- the verdict on so many bytes that come to a spelling
 unfoldable pub verdict_on : ℕ → Spelling → Verdict
-verdict_on size (refused number place) = Bad number place
-verdict_on size (reads g) = Next size
+verdict_on size (refused why place) = bad why place
+verdict_on size (reads g) = Ok size
 
 unfoldable pub verdict_of : List ℕ → Verdict
 verdict_of b = verdict_on (length b) (spells b)
-
--- the place that a verdict names
-unfoldable pub verdict_place : Verdict → ℕ
-verdict_place (Next at) = at
-verdict_place (Bad number place) = place

@@ -4,6 +4,7 @@ ghost use Rattle.sets.specs.Calls.{Decides};
 ghost use Rattle.reader.specs.Book.{byte_of, IsSymbol};
 ghost use Rattle.reader.specs.Fields.{left_at, length_at, symbol_at, symbol_of_byte};
 
+use answers::buffers::cell_or;
 use grammar::Symbol;
 
 // Where T, N, the start and P stand in the header, which begins with `GR`.
@@ -28,15 +29,9 @@ pub const SYMBOLS: usize = 4;
 pub fn byte_at(book: &[u8], at: usize, more: usize) -> u8
     ensures { result ≡ get_or book.now (at + more) 0 }
 {
-    if more < book.len() {
-        if at < book.len() - more {
-            let place = at + more;
-            book[place]
-        } else {
-            0
-        }
-    } else {
-        0
+    match at.checked_add(more) {
+        Some(place) => cell_or(book, place, 0),
+        None => 0,
     }
 }
 
@@ -44,10 +39,7 @@ pub fn byte_at(book: &[u8], at: usize, more: usize) -> u8
 pub fn place_at(places: &[u16], p: usize) -> u16
     ensures { result ≡ get_or places.now p 0 }
 {
-    if places.len() <= p {
-        return 0;
-    }
-    places[p]
+    cell_or(places, p, 0)
 }
 
 // The left side of the record at `at`.
@@ -90,19 +82,12 @@ pub fn symbol_at(book: &[u8], at: usize, i: usize) -> Symbol
 pub fn symbol_byte(book: &[u8], at: u16, i: u8) -> u8
     ensures { result ≡ byte_of (symbol_at book.now at i) }
 {
-    let place = at as usize + SYMBOLS + i as usize;
-    if place < book.len() { book[place] } else { 0 }
+    cell_or(book, at as usize + SYMBOLS + i as usize, 0)
 }
 
 // A token below `t`, or 128 and a nonterminal below `n`.
 pub fn is_symbol(byte: u8, t: u8, n: u8) -> bool
     ensures { Decides result (IsSymbol t n byte) }
 {
-    if byte < t {
-        true
-    } else if byte < 128 {
-        false
-    } else {
-        byte - 128 < n
-    }
+    byte < t || 128 <= byte && byte - 128 < n
 }

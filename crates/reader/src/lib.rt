@@ -2,19 +2,13 @@
 #![tactic(auto)]
 
 pub mod fields;
-mod spelling;
-pub mod walk;
+pub mod spelling;
 
-// What reading has come to: the next place, or a refusal with its number and place.
-#[derive(Clone, Copy)]
-pub enum Verdict {
-    Next(usize),
-    Bad(u32, usize),
-}
+use answers::refusals::Refusal;
 
-// A reader carries the caller's book and its own place.
-#[derive(Clone, Copy)]
-pub struct Reader<'a> {
-    pub book: &'a [u8],
-    pub at: usize,
+// Why a book is refused, and at which place.
+#[derive(Clone, Copy, PartialEq, Eq, Debug)]
+pub struct Fault {
+    pub why: Refusal,
+    pub place: usize,
 }

@@ -1,108 +1,71 @@
-// The bytes of a book judged from the front: refusals 1 to 5.
-ghost use Rattle.std.specs.Prelude.{◌≡◌, false, ℕ, suc, ◌+◌, ◌-◌, ◌≤◌, ltb, length};
-ghost use Rattle.reader.specs.declared.Verdict.TheVariants.{Next};
-ghost use Rattle.reader.specs.Verdicts.{verdict_place};
-ghost use Rattle.reader.specs.Positional.{within, within_at, checked_at, symbols_from, cut_off, head_at, record_from};
-ghost use Rattle.reader.specs.Positional.{each_record_from, header_from, records_from, end_from};
+// The bytes of a book judged from the front: refusals 1 to 5. What goes on answers the next place.
+ghost use Rattle.std.specs.Prelude.{◌≡◌, suc, ◌+◌, ◌-◌, ◌≤◌, ◌<◌, length, Ok};
+ghost use Rattle.reader.specs.Verdicts.{verdict_of};
+ghost use Rattle.reader.specs.Positional.{wanted_from, marked_from, symbols_from, head_at, head_from};
+ghost use Rattle.reader.specs.Positional.{record_from, each_record_from, header_of, records_from, ended_at};
 
-use crate::Verdict;
-use crate::fields::{
-    LEFT, LENGTH, NONTERMINALS, PRODUCTIONS, START, SYMBOLS, TOKENS, byte_at, is_symbol,
-};
+use crate::Fault;
+use crate::fields::{LENGTH, NONTERMINALS, PRODUCTIONS, SYMBOLS, TOKENS, byte_at, is_symbol};
 use answers::limits::{MOST_NONTERMINALS, MOST_PRODUCTIONS, MOST_SYMBOLS, MOST_TOKENS};
-use answers::refusals::{EXTRA, LIMIT, MARK, SHORT, SYMBOL};
+use answers::refusals::Refusal;
 
-// The place that a verdict names.
-pub(crate) fn place_of(v: Verdict) -> usize
-    ensures { result ≡ verdict_place v }
+// The book ends where a byte is still wanted.
+fn cut_off(book: &[u8]) -> Fault
+    ensures { result ≡ record { why = Refusal.Short; place = length book.now } }
 {
-    match v {
-        Verdict::Next(at) => at,
-        Verdict::Bad(_, place) => place,
+    Fault {
+        why: Refusal::Short,
+        place: book.len(),
     }
 }
 
-// The book has a byte at place `at + more`.
-fn stands(book: &[u8], at: usize, more: usize) -> bool
-    ensures { result ≡ ltb (at + more) (length book.now) }
+// A byte in `low .. high` is wanted at the place.
+fn wanted(book: &[u8], place: usize, low: u8, high: u8, why: Refusal) -> Result<usize, Fault>
+    ensures { result ≡ wanted_from book.now low high why (Ok place) }
 {
-    at < book.len() && more < book.len() - at
-}
-
-// The byte lies in `low .. high`.
-fn lies_in(byte: u8, low: u8, high: u8) -> bool
-    ensures { result ≡ within low high byte }
-{
-    low <= byte && byte < high
-}
-
-// The byte is the one wanted.
-fn is_byte(byte: u8, wanted: u8) -> bool
-    ensures { result ≡ within wanted (suc wanted) byte }
-{
-    byte == wanted
-}
-
-// The book has a byte at place `at + more`, and it lies in `low .. high`.
-fn is_within(book: &[u8], at: usize, more: usize, low: u8, high: u8) -> bool
-    ensures { result ≡ within_at book.now low high (at + more) }
-{
-    stands(book, at, more) && lies_in(book[at + more], low, high)
-}
-
-// The book has this byte at place `at + more`.
-fn is_mark(book: &[u8], at: usize, more: usize, wanted: u8) -> bool
-    ensures { result ≡ within_at book.now wanted (suc wanted) (at + more) }
-{
-    stands(book, at, more) && is_byte(book[at + more], wanted)
-}
-
-// The refusal for the byte at place `at + more`, which is missing or wrong.
-fn refused(book: &[u8], refusal: u32, at: usize, more: usize) -> Verdict
-    ensures { result ≡ checked_at book.now false refusal (at + more) }
-{
-    if stands(book, at, more) {
-        Verdict::Bad(refusal, at + more)
-    } else {
-        Verdict::Bad(SHORT, book.len())
+    match book.get(place) {
+        None => Err(cut_off(book)),
+        Some(byte) if low <= *byte && *byte < high => Ok(place + 1),
+        Some(_) => Err(Fault { why, place }),
     }
+}
+
+// A mark: the letter, then `R`.
+fn marked(book: &[u8], at: usize, letter: u8) -> Result<usize, Fault>
+    requires { letter < 255 }
+    ensures { result ≡ marked_from book.now letter 82 (Ok at) }
+{
+    let next = wanted(book, at, letter, letter + 1, Refusal::Mark)?;
+    wanted(book, next, b'R', b'R' + 1, Refusal::Mark)
 }
 
 // The bytes from `from` up to `last` are symbols of the grammar.
-fn symbols(book: &[u8], from: usize, last: usize, t: u8, n: u8) -> Verdict
+fn symbols(book: &[u8], from: usize, last: usize, t: u8, n: u8) -> Result<usize, Fault>
     requires { (from ≤ last) × (last ≤ length book.now) }
-    ensures { result ≡ symbols_from book.now t n (last - from) (Next from) }
+    ensures { result ≡ symbols_from book.now t n (last - from) (Ok from) }
 {
-    let mut at = from;
-    while at < last {
+    for at in from..last {
         if !is_symbol(book[at], t, n) {
-            return Verdict::Bad(SYMBOL, at);
+            return Err(Fault {
+                why: Refusal::Symbol,
+                place: at,
+            });
         }
-        at += 1;
     }
-    Verdict::Next(at)
-}
-
-// The book ends where a byte is still wanted.
-fn cut_off(book: &[u8], v: Verdict) -> Verdict
-    ensures { result ≡ cut_off book.now v }
-{
-    match v {
-        Verdict::Next(_) => Verdict::Bad(SHORT, book.len()),
-        Verdict::Bad(number, place) => Verdict::Bad(number, place),
-    }
+    Ok(last)
 }
 
 // A right side of so many symbols from `at` on.
-fn right(book: &[u8], at: usize, t: u8, n: u8, count: u8) -> Verdict
+fn right(book: &[u8], at: usize, t: u8, n: u8, count: u8) -> Result<usize, Fault>
     requires { at ≤ length book.now }
-    ensures { result ≡ symbols_from book.now t n count (Next at) }
+    ensures { result ≡ symbols_from book.now t n count (Ok at) }
 {
     let wanted = count as usize;
     if wanted <= book.len() - at {
         symbols(book, at, at + wanted, t, n)
     } else {
-        cut_off(book, symbols(book, at, book.len(), t, n))
+        symbols(book, at, book.len(), t, n)?;
+        Err(cut_off(book))
     }
 }
 
@@ -110,117 +73,79 @@ fn right(book: &[u8], at: usize, t: u8, n: u8, count: u8) -> Verdict
 fn is_head(book: &[u8], at: usize, n: u8) -> bool
     ensures { result ≡ head_at book.now n at }
 {
-    if !stands(book, at, LENGTH) {
+    let Some(rest) = book.get(at..) else {
         return false;
+    };
+    match rest {
+        [b'P', b'R', left, length, ..] => *left < n && *length <= MOST_SYMBOLS,
+        _ => false,
     }
-    if !is_byte(book[at], b'P') {
-        return false;
-    }
-    if !is_byte(book[at + 1], b'R') {
-        return false;
-    }
-    if !lies_in(book[at + LEFT], 0, n) {
-        return false;
-    }
-    lies_in(book[at + LENGTH], 0, MOST_SYMBOLS + 1)
 }
 
-// The refusal for the first of the four bytes from `at` on that is missing or wrong.
-fn refused_head(book: &[u8], at: usize, n: u8) -> Verdict
-    requires { head_at book.now n at ≡ false }
-    ensures { (T : ℕ) → result ≡ record_from book.now T n (Next at) }
+// The same four bytes, one by one: the first that is missing or wrong is refused.
+fn head(book: &[u8], at: usize, n: u8) -> Result<usize, Fault>
+    ensures { result ≡ head_from book.now n (Ok at) }
 {
-    if !is_mark(book, at, 0, b'P') {
-        return refused(book, MARK, at, 0);
-    }
-    if !is_mark(book, at, 1, b'R') {
-        return refused(book, MARK, at, 1);
-    }
-    if !is_within(book, at, LEFT, 0, n) {
-        return refused(book, SYMBOL, at, LEFT);
-    }
-    refused(book, LIMIT, at, LENGTH)
+    let left = marked(book, at, b'P')?;
+    let length = wanted(book, left, 0, n, Refusal::Symbol)?;
+    wanted(book, length, 0, MOST_SYMBOLS + 1, Refusal::Limit)
 }
 
 // The four bytes that begin a record, and its symbols.
-fn record(book: &[u8], at: usize, t: u8, n: u8) -> Verdict
-    ensures { result ≡ record_from book.now t n (Next at) }
+fn record(book: &[u8], at: usize, t: u8, n: u8) -> Result<usize, Fault>
+    ensures { result ≡ record_from book.now t n (Ok at) }
 {
     if is_head(book, at, n) {
         right(book, at + SYMBOLS, t, n, book[at + LENGTH])
     } else {
-        refused_head(book, at, n)
+        head(book, at, n)
     }
-}
-
-// So many records from `from` on.
-fn each_record(book: &[u8], from: usize, t: u8, n: u8, count: u8) -> Verdict
-    ensures { result ≡ each_record_from book.now t n count (Next from) }
-{
-    let mut at = from;
-    let mut p: u8 = 0;
-    while p < count {
-        let v = record(book, at, t, n);
-        let Verdict::Next(next) = v else {
-            return v;
-        };
-        at = next;
-        p += 1;
-    }
-    Verdict::Next(at)
 }
 
 // `GR`, T, N, the start below N, P.
-pub(crate) fn header(book: &[u8], at: usize) -> Verdict
-    ensures { result ≡ header_from book.now at }
+fn header(book: &[u8]) -> Result<usize, Fault>
+    ensures { result ≡ header_of book.now }
 {
-    if !is_mark(book, at, 0, b'G') {
-        return refused(book, MARK, at, 0);
-    }
-    if !is_mark(book, at, 1, b'R') {
-        return refused(book, MARK, at, 1);
-    }
-    if !is_within(book, at, TOKENS, 1, MOST_TOKENS + 1) {
-        return refused(book, LIMIT, at, TOKENS);
-    }
-    if !is_within(book, at, NONTERMINALS, 1, MOST_NONTERMINALS + 1) {
-        return refused(book, LIMIT, at, NONTERMINALS);
-    }
-    if !is_within(book, at, START, 0, byte_at(book, at, NONTERMINALS)) {
-        return refused(book, LIMIT, at, START);
-    }
-    if !is_within(book, at, PRODUCTIONS, 1, MOST_PRODUCTIONS + 1) {
-        return refused(book, LIMIT, at, PRODUCTIONS);
-    }
-    Verdict::Next(at + 6)
+    let tokens = marked(book, 0, b'G')?;
+    let nonterminals = wanted(book, tokens, 1, MOST_TOKENS + 1, Refusal::Limit)?;
+    let start = wanted(book, nonterminals, 1, MOST_NONTERMINALS + 1, Refusal::Limit)?;
+    let n = byte_at(book, 0, NONTERMINALS);
+    let productions = wanted(book, start, 0, n, Refusal::Limit)?;
+    wanted(book, productions, 1, MOST_PRODUCTIONS + 1, Refusal::Limit)
 }
 
-// The records from `at` on, as many as the header says.
-pub(crate) fn records(book: &[u8], at: usize, v: Verdict) -> Verdict
-    ensures { result ≡ records_from book.now at v }
+// The records from `from` on, as many as the header says.
+fn records(book: &[u8], from: usize) -> Result<usize, Fault>
+    ensures { result ≡ records_from book.now (Ok from) }
 {
-    match v {
-        Verdict::Next(_) => {
-            let t = byte_at(book, 0, TOKENS);
-            let n = byte_at(book, 0, NONTERMINALS);
-            each_record(book, at, t, n, byte_at(book, 0, PRODUCTIONS))
-        }
-        Verdict::Bad(number, place) => Verdict::Bad(number, place),
+    let t = byte_at(book, 0, TOKENS);
+    let n = byte_at(book, 0, NONTERMINALS);
+    let mut at = from;
+    for _ in 0..byte_at(book, 0, PRODUCTIONS) {
+        at = record(book, at, t, n)?;
     }
+    Ok(at)
 }
 
 // Nothing follows at `at`.
-pub(crate) fn end(book: &[u8], at: usize, v: Verdict) -> Verdict
-    ensures { result ≡ end_from book.now at v }
+fn end(book: &[u8], at: usize) -> Result<usize, Fault>
+    ensures { result ≡ ended_at book.now at }
 {
-    match v {
-        Verdict::Next(_) => {
-            if at < book.len() {
-                Verdict::Bad(EXTRA, at)
-            } else {
-                Verdict::Next(at)
-            }
-        }
-        Verdict::Bad(number, place) => Verdict::Bad(number, place),
+    if at < book.len() {
+        Err(Fault {
+            why: Refusal::Extra,
+            place: at,
+        })
+    } else {
+        Ok(at)
     }
+}
+
+// The refusal 1 to 5 of a book, or its length as the next place.
+pub fn read(book: &[u8]) -> Result<usize, Fault>
+    ensures { result ≡ verdict_of book.now }
+{
+    let behind = header(book)?;
+    let last = records(book, behind)?;
+    end(book, last)
 }

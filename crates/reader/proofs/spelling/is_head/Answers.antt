@@ -1,56 +1,40 @@
 -- The bytes are there or not, and where they are, the first that is not right decides.
-use Prim.Native.Nat.{◌+◌}
+use mathlib.Core.Path.{sym, ◌∙◌}
+use mathlib.Core.Logic.{⊎_elim}
+use Prim.Native.Nat.{◌+◌, ◌<◌}
 use native.Mathlib.Omega.{arith}
 use lib.ListN.{length}
-use borrow.Author.Tests.{ltb-true}
-use Rattle.reader.specs.Positional.{head_at}
-use Rattle.reader.proofs.Guards.{told_right, told_wrong}
+use borrow.Author.Tests.{le-ltb}
+use Rattle.reader.proofs.Heads.{head_short, row_first, row_second, row_left, row_length}
 use Rattle.reader.proofs.spelling.is_head.Goals as goal
 
-pub returns-then-not-stands : goal.returns-then-not-stands
-unfolding head_at
-returns-then-not-stands c = simp (head_at, told_wrong c.stands.ensures c.if-not-stands.true)
+pub returns-in_default : goal.returns-in_default
+returns-in_default c =
+    let short : length c.args.book.now < c.args.at + 4 = ⊎_elim (λ h. omega arith) (λ h. omega arith) c.in_default.ensures.lookup.0 in
+    sym (head_short _ _ _ short)
 
-pub bounds-book-at : goal.bounds-book-at
-bounds-book-at c = omega (arith, (ltb-true (c.args.at + 3) (length (c.args.book.now)) (told_right c.stands.ensures c.if-not-stands.false)))
+pub returns-then-left-n : goal.returns-then-left-n
+returns-then-left-n c =
+    let (low, end, same, fits) = c.in-Some.ensures.lookup.0 in
+    sym (row_length _ _ _ same fits c.in-80.len_at_least (omega arith) (omega arith) c.if-left-n.true)
 
-pub returns-then-not-is_byte : goal.returns-then-not-is_byte
-unfolding head_at
-returns-then-not-is_byte c = simp (head_at, (told_right c.stands.ensures c.if-not-stands.false), told_wrong c.is_byte.ensures c.if-not-is_byte.true)
+pub returns-else-left-n : goal.returns-else-left-n
+returns-else-left-n c =
+    let (low, end, same, fits) = c.in-Some.ensures.lookup.0 in
+    le-ltb _ _ c.if-left-n.false
+    ∙ sym (row_left _ _ _ same fits c.in-80.len_at_least (omega arith) (omega arith) c.if-left-n.false)
 
-pub overflow_add-at : goal.overflow_add-at
-overflow_add-at c = omega (arith, (ltb-true (c.args.at + 3) (length (c.args.book.now)) (told_right c.stands.ensures c.if-not-stands.false)))
+pub returns-in_default-rest : goal.returns-in_default-rest
+returns-in_default-rest c =
+    let (low, end, same, fits) = c.in-Some.ensures.lookup.0 in
+    sym (head_short _ _ _ (omega arith))
 
-pub bounds-book-at-2 : goal.bounds-book-at-2
-bounds-book-at-2 c = omega (arith, (ltb-true (c.args.at + 3) (length (c.args.book.now)) (told_right c.stands.ensures c.if-not-stands.false)))
+pub returns-in_default-rest-2 : goal.returns-in_default-rest-2
+returns-in_default-rest-2 c =
+    let (low, end, same, fits) = c.in-Some.ensures.lookup.0 in
+    sym (row_second _ _ _ same fits c.in_default-rest.len_at_least (omega arith) (λ e. omega arith))
 
-pub returns-then-not-is_byte-2 : goal.returns-then-not-is_byte-2
-unfolding head_at
-returns-then-not-is_byte-2 c =
-    simp (head_at, (told_right c.stands.ensures c.if-not-stands.false), (told_right c.is_byte.ensures c.if-not-is_byte.false), told_wrong c.is_byte-2.ensures c.if-not-is_byte-2.true)
-
-pub overflow_add-at-2 : goal.overflow_add-at-2
-overflow_add-at-2 c =
-    omega (arith, (ltb-true (c.args.at + 3) (length (c.args.book.now)) (told_right c.stands.ensures c.if-not-stands.false)))
-
-pub bounds-book-at-3 : goal.bounds-book-at-3
-bounds-book-at-3 c =
-    omega (arith, (ltb-true (c.args.at + 3) (length (c.args.book.now)) (told_right c.stands.ensures c.if-not-stands.false)))
-
-pub returns-then-not-lies_in : goal.returns-then-not-lies_in
-unfolding head_at
-returns-then-not-lies_in c =
-    simp (head_at, (told_right c.stands.ensures c.if-not-stands.false), (told_right c.is_byte.ensures c.if-not-is_byte.false), (told_right c.is_byte-2.ensures c.if-not-is_byte-2.false), told_wrong c.lies_in.ensures c.if-not-lies_in.true)
-
-pub overflow_add-at-3 : goal.overflow_add-at-3
-overflow_add-at-3 c =
-    omega (arith, (ltb-true (c.args.at + 3) (length (c.args.book.now)) (told_right c.stands.ensures c.if-not-stands.false)))
-
-pub bounds-book-at-4 : goal.bounds-book-at-4
-bounds-book-at-4 c =
-    omega (arith, (ltb-true (c.args.at + 3) (length (c.args.book.now)) (told_right c.stands.ensures c.if-not-stands.false)))
-
-pub returns : goal.returns
-unfolding head_at
-returns c =
-    simp (head_at, (told_right c.stands.ensures c.if-not-stands.false), (told_right c.is_byte.ensures c.if-not-is_byte.false), (told_right c.is_byte-2.ensures c.if-not-is_byte-2.false), (told_right c.lies_in.ensures c.if-not-lies_in.false), c.lies_in-2.ensures)
+pub returns-in_default-rest-3 : goal.returns-in_default-rest-3
+returns-in_default-rest-3 c =
+    let (low, end, same, fits) = c.in-Some.ensures.lookup.0 in
+    sym (row_first _ _ _ same fits c.in_default-rest.len_at_least (λ e. omega arith))

@@ -1,7 +1,7 @@
 -- The four bytes that begin a record are right, and the symbols follow; or they are not, and the first wrong one is refused.
 use mathlib.Core.Path.{sym, ◌∙◌}
 use native.Mathlib.Omega.{arith}
-use Rattle.reader.proofs.Heads.{head_inside, record_whole}
+use Rattle.reader.proofs.Heads.{head_inside, record_whole, record_wrong}
 use Rattle.reader.proofs.spelling.record.Goals as goal
 
 pub overflow_add-at : goal.overflow_add-at
@@ -16,11 +16,8 @@ bounds-book-at c = omega (arith, head_inside _ _ _ (sym c.is_head.ensures ∙ c.
 pub right-requires : goal.right-requires
 right-requires c = omega (arith, head_inside _ _ _ (sym c.is_head.ensures ∙ c.if-is_head.true))
 
-pub refused_head-requires : goal.refused_head-requires
-refused_head-requires c = sym c.is_head.ensures ∙ c.if-is_head.false
-
 pub returns-then-is_head : goal.returns-then-is_head
 returns-then-is_head c = c.right.ensures ∙ sym (record_whole _ _ _ (sym c.is_head.ensures ∙ c.if-is_head.true) _)
 
 pub returns-else-is_head : goal.returns-else-is_head
-returns-else-is_head c = c.refused_head.ensures _
+returns-else-is_head c = c.head.ensures ∙ sym (record_wrong _ _ _ _ (sym c.is_head.ensures ∙ c.if-is_head.false))
