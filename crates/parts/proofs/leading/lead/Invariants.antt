@@ -10,9 +10,5 @@ use Rattle.parts.proofs.leading.lead.Given as goal
 
 abbrev pub invariant-loop-i : goal.invariant-loop-i
 invariant-loop-i l =
-    (l.i ≤ position_words)
-    × (length l.follow ≡ length l.initial.follow)
+    (length l.follow ≡ length l.initial.follow)
     × Rows point_words l.initial.follow l.follow (Below l.last (points_in l.next) l.i)
-
-abbrev pub decreases-loop-i : goal.decreases-loop-i
-decreases-loop-i l = position_words - l.i
