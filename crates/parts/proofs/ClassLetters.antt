@@ -1,7 +1,6 @@
 -- A letter of a class: what is none outside is none in a class, nor is the dash.
 use mathlib.Core.Path.{◌≡◌, ◌∙◌}
 use mathlib.Core.Logic.{◌≢◌}
-use mathlib.Core.Bool.{false}
 use mathlib.Core.List.{List}
 use Prim.Native.Nat.{ℕ}
 use native.Mathlib.Omega.{arith}

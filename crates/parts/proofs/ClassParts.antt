@@ -1,5 +1,5 @@
 -- A class is read element by element: its first element, one more, and its end.
-use mathlib.Core.Path.{◌≡◌, refl, ◌∙◌}
+use mathlib.Core.Path.{◌≡◌, ◌∙◌}
 use mathlib.Core.Logic.{◌↔◌, ◌≢◌, ◌⊎◌, inl, inr, ⊎_elim}
 use mathlib.Core.List.{List, [], ◌∷◌, ◌++◌}
 use Prim.Native.Nat.{ℕ, ◌+◌, ◌≤◌}
@@ -9,7 +9,7 @@ use lib.ListN.{get_or}
 use Rattle.pattern.specs.Pattern.{Range, Class, InClass, here, there}
 use Rattle.pattern.specs.Marks.{close_class}
 use Rattle.parts.specs.declared.classes.Span.{Span}
-use Rattle.parts.specs.Classes.{no_element, no_end, NoElement, SpanPassed, Spread, ElementMeant, NoClass, ClassMeant, elements_pending, class_pending}
+use Rattle.parts.specs.Classes.{no_end, NoElement, SpanPassed, Spread, ElementMeant, NoClass, ClassMeant, elements_pending, class_pending}
 use Rattle.parts.proofs.Marks.{mark_inside}
 use Rattle.parts.proofs.Growth.{rows_then, rows_alike}
 use Rattle.parts.proofs.ClassReading.{class_closes}

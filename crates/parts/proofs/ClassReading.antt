@@ -1,7 +1,7 @@
 -- What the reader of one byte says in a class: of its letters and ranges, of its end, and of what can be neither.
 use mathlib.Core.Path.{◌≡◌, refl, sym, ap, ◌∙◌}
 use mathlib.Core.Logic.{◌≢◌}
-use mathlib.Core.Bool.{true, false}
+use mathlib.Core.Bool.{true}
 use mathlib.Core.List.{List, [], ◌∷◌, ◌++◌}
 use mathlib.Core.Option.{some, none}
 use Prim.Native.Nat.{ℕ, suc, ◌≤◌, ◌<◌, pred}

@@ -1,20 +1,16 @@
 -- Leading on word by word, and in a word from its lowest member on.
-use mathlib.Core.Path.{◌≡◌, refl, sym, ap, ◌∙◌}
+use mathlib.Core.Path.{◌≡◌, sym, ap, ◌∙◌}
 use mathlib.Core.Logic.{◌↔◌, ◌≢◌, ◌⊎◌, inl, inr}
-use mathlib.Core.Bool.{Bool, true, false, xor, false≢true}
+use mathlib.Core.Bool.{true, false, false≢true}
 use mathlib.Core.List.{List}
-use Prim.Native.Nat.{ℕ, zero, suc, ◌+◌, ◌-◌, ◌*◌, ◌/◌, ◌%◌, ◌^◌, ◌≤◌, ◌<◌}
-use native.Mathlib.Nat.{div-one}
+use Prim.Native.Nat.{ℕ, ◌+◌, ◌-◌, ◌*◌, ◌/◌, ◌%◌, ◌≤◌, ◌<◌}
 use native.Mathlib.Decide.{dec_lt, ℕ_discrete}
 use native.Mathlib.Omega.{arith}
-use lib.Bits.{bit_xor}
-use lib.Count.{count_trailing_zeros, under}
 use lib.ListN.{get_or}
-use borrow.Author.Tests.{eq-eqb, ne_eqb}
 use Rattle.sets.specs.Sets.{member, Subset}
 use Rattle.sets.specs.Words.{word_width, AreWords}
-use Rattle.sets.proofs.Members.{member_next, member_none, member_xor, member_power}
-use Rattle.sets.proofs.Promise.{subset_lt, fits_members, places_are}
+use Rattle.sets.proofs.Members.{member_none}
+use Rattle.sets.proofs.Promise.{fits_members, places_are}
 use Rattle.points.specs.Points.{Unite}
 use Rattle.points.proofs.Promise.{points_fit, member_points, without, without_there, without_other}
 use Rattle.answers.specs.Limits.{position_words, point_words}

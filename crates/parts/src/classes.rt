@@ -46,12 +46,7 @@ pub(crate) fn spread(readers: &mut [u64], low: u8, high: u8, position: usize)
 }
 
 // One element, whose bytes the position reads: the place behind it, or the place refused.
-fn element(
-    pattern: &[u8],
-    at: usize,
-    position: usize,
-    readers: &mut [u64],
-) -> Result<usize, usize>
+fn element(pattern: &[u8], at: usize, position: usize, readers: &mut [u64]) -> Result<usize, usize>
     ensures { ElementRead pattern.now at position readers.old result readers.new }
 {
     let span = span_at(pattern, at)?;

@@ -45,7 +45,15 @@ fn special(byte: u8) -> bool
 {
     matches!(
         byte,
-        OPEN_GROUP | CLOSE_GROUP | OPEN_CLASS | CLOSE_CLASS | BAR | STAR | PLUS | QUESTION | BACKSLASH
+        OPEN_GROUP
+            | CLOSE_GROUP
+            | OPEN_CLASS
+            | CLOSE_CLASS
+            | BAR
+            | STAR
+            | PLUS
+            | QUESTION
+            | BACKSLASH
     )
 }
 

@@ -1,5 +1,4 @@
 use mathlib.Core.Path.{refl, ◌∙◌}
-use native.Mathlib.Omega.{arith}
 use Rattle.parts.proofs.LeadingOn.{below_none, below_more, below_all}
 use Rattle.parts.proofs.leading.lead.Goals as goal
 

@@ -1,8 +1,7 @@
 -- `parts::leading::lead` meets its contract. The loop's invariant: the positions of the words gone through lead on.
 use mathlib.Core.Path.{◌≡◌}
-use Prim.Native.Nat.{◌-◌, ◌≤◌}
 use lib.ListN.{length}
-use Rattle.answers.specs.Limits.{position_words, point_words}
+use Rattle.answers.specs.Limits.{point_words}
 use Rattle.parts.specs.Rows.{Rows}
 use Rattle.parts.specs.Leading.{points_in}
 use Rattle.parts.proofs.LeadingOn.{Below}
