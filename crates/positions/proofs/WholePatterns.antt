@@ -7,7 +7,6 @@ use Prim.Native.Nat.{ℕ, ◌≤◌, ◌<◌}
 use native.Mathlib.Decide.{dec_lt, ℕ_discrete}
 use native.Mathlib.Omega.{arith}
 use lib.ListN.{length, get_or}
-use Rattle.sets.specs.Calls.{Decides}
 use Rattle.sets.proofs.Promise.{decides_true, decides_false}
 use Rattle.pattern.specs.Marks.{most_open_groups, close_group}
 use Rattle.pattern.specs.Written.{IsPattern, BadAt, malformed, empty}
