@@ -7,8 +7,7 @@ use Prim.Native.Nat.{ℕ, ◌≤◌, ◌<◌}
 use native.Mathlib.Omega.{arith}
 use lib.ListN.{length, drop, drop_of_length-le}
 use lib.Seq.{drop-cons}
-use Rattle.grammar.specs.Machine.{front}
-use Rattle.stack.specs.Ahead.{ahead_in, column_in}
+use Rattle.stack.specs.Ahead.{ahead_in}
 
 -- what a lookup lends is the first of what is left, or none
 pub ahead_lent : (bytes : List ℕ) (i : ℕ) (lent : Option (Bor ℕ))
@@ -18,12 +17,7 @@ unfolding ahead_in
 ahead_lent bytes i None h = rw (drop_of_length-le bytes h)
 ahead_lent bytes i (Some x) (h, at) = rw (at 0, drop-cons bytes i 0 h)
 
--- its column is the one at the front of the rest
-pub ahead_front : {a : Option ℕ} (rest : List ℕ) → a ≡ ahead_in rest → column_in a ≡ front rest
-unfolding ahead_in column_in
-ahead_front [] e = rw e
-ahead_front (t ∷ rest) e = rw e
-
+-- where a byte comes next it is the first of what is left, and at the end nothing is left
 pub next_first : {a : Option ℕ} {p : ℕ} (rest : List ℕ) → a ≡ ahead_in rest → a ≡ Some p → (v : List ℕ) × (rest ≡ p ∷ v)
 unfolding ahead_in
 next_first [] e f = let bad : ◌≡◌ {A = ℕ} 0 1 = cc in absurd (omega arith)
