@@ -1,4 +1,5 @@
 -- How deep a run or an expansion went, from what it answers; and that so many stack cells, and no fewer, are enough for it.
+use Rattle.std.specs.Prelude.{⊤, Result, Ok, Err}
 use mathlib.Core.Path.{◌≡◌, refl, sym, ap, ◌∙◌}
 use mathlib.Core.Logic.{◌↔◌, ◌⊎◌, inl, inr, ◌≢◌, ⊎_elim}
 use mathlib.Core.List.{List}
@@ -18,8 +19,8 @@ use Rattle.machine.specs.Machine.{Offered, stopped, final}
 use Rattle.machine.specs.declared.Reason.TheVariants.{FullStack}
 use Rattle.machine.specs.Expansion.{WithRoom, completes, misfits, ended}
 use Rattle.machine.specs.Expansion as machine
-use Rattle.machine.specs.declared.Upshot.{Upshot}
-use Rattle.machine.specs.declared.Upshot.TheVariants as upshots
+use Rattle.machine.specs.declared.Obstacle.{Obstacle}
+use Rattle.machine.specs.declared.Obstacle.TheVariants as obstacles
 use Rattle.machine.specs.Room.{right_of, peak}
 use Rattle.machine.specs.Stopping.{HadStack, Decided, accepted, refused, wanted_end, wanted_token, wanted_row}
 use Rattle.machine.proofs.Promise.{run_steps, run_tall, run_depth_same, run_depth_down, run_depth_short}
@@ -198,7 +199,7 @@ expansion_kinds (expanding.too_long s h) = inl (refusal_early limit longest_list
 expansion_kinds (expanding.no_stack s h e) = inl (refusal_early room 0 stack_room (omega arith))
 expansion_kinds (expanding.ended {g = g} s h k) = inr (g, s, h, k)
 
-with_room_had : {e : Upshot} → WithRoom e → e ≢ upshots.FullStack
+with_room_had : {e : Result ⊤ Obstacle} → WithRoom e → e ≢ Err obstacles.FullStack
 with_room_had completes f = let bad : ◌≡◌ {A = ℕ} 0 1 = cc in omega arith
 with_room_had misfits f = let bad : ◌≡◌ {A = ℕ} 0 1 = cc in omega arith
 
@@ -302,7 +303,7 @@ module _ (book list stack output : List ℕ) (r : Expanded) (o : MayExpand book 
       go g s short stacked (yes k) =
           let less : counted other < (expanded g list stack output).progress.height = omega (arith, expansion_held book list stack output r o s short stacked) in
           let (c, stops, sooner) = expand_depth_short g (counted output) list (counted stack) (counted other) (omega arith) less in
-          let answer : q.answer ≡ expand_answer (ended upshots.FullStack c) =
+          let answer : q.answer ≡ expand_answer (ended (Err obstacles.FullStack) c) =
           (expansion_ends book list other output q p s short (omega arith)).answer ∙ ap expand_answer stops in
           let steps = told_moves (ends_told_by g list stack output (expansion_ends book list stack output r o s short stacked)) in
           let fewer : q.answer.steps < r.answer.steps = omega (arith, ap (λ (x : Answer). x.steps) answer, steps, sooner) in

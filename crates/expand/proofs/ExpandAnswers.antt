@@ -1,4 +1,5 @@
 -- The answer of an expansion from what the code has for its end, and the outcome of a call.
+use Rattle.std.specs.Prelude.{⊤, Result, Ok}
 use mathlib.Core.Path.{◌≡◌, sym, ◌∙◌, ap, subst}
 use mathlib.Core.Logic.{◌≢◌}
 use mathlib.Core.List.{List}
@@ -18,19 +19,18 @@ use Rattle.book.specs.declared.Reading.{Reading}
 use Rattle.book.specs.Columns.{outline_in, outlined}
 use Rattle.book.proofs.Promise.{judged_done, judged_refused, reading_grammar}
 use Rattle.machine.specs.Expansion.{expansion, Expansion}
-use Rattle.machine.specs.declared.Upshot.{Upshot}
-use Rattle.machine.specs.declared.Upshot.TheVariants.{Finished}
+use Rattle.machine.specs.declared.Obstacle.{Obstacle}
 use Rattle.machine.proofs.Promise.{expand_steps}
 use Rattle.expand.specs.Expanding.{closing, answered_by, expand_answer, ExpandOutcome, refused, too_long, no_stack, ended}
 use Rattle.expand.specs.Turns.{unfolded, Unfolds, ExpandedOn}
 use Rattle.expand.specs.declared.Unfolding.{Unfolding}
 
 -- each way to end has its answer
-pub closing_done : {f : Upshot} (used steps : ℕ) {r : Answer} → r ≡ done steps → f ≡ Finished → r ≡ closing f used steps
+pub closing_done : {f : Result ⊤ Obstacle} (used steps : ℕ) {r : Answer} → r ≡ done steps → f ≡ Ok tt → r ≡ closing f used steps
 unfolding closing
 closing_done used steps h e = rw e h
 
-pub closing_stop : {f q : Upshot} (number used detail steps : ℕ) {set : Set} {r : Answer} → r ≡ stop number used detail steps set → None set → f ≡ q → stop number used detail steps no_set ≡ closing q used steps → r ≡ closing f used steps
+pub closing_stop : {f q : Result ⊤ Obstacle} (number used detail steps : ℕ) {set : Set} {r : Answer} → r ≡ stop number used detail steps set → None set → f ≡ q → stop number used detail steps no_set ≡ closing q used steps → r ≡ closing f used steps
 closing_stop number used detail steps {set} h empty e same =
     let none : set ≡ no_set = number_unique (none_is empty) in
     h ∙ ap (stop number used detail steps) none ∙ rw e same
@@ -48,12 +48,12 @@ module _ {g : Grammar} {list stack output : List ℕ} {u : Unfolding} {stack' ou
       omega (arith, ap (λ (x : Unfolding). x.used) h.answer, ap (λ (x : Unfolding). x.written) h.answer, counts.used, counts.written)
 
   -- the steps answered, and the stack cleared
-  pub unfolds_answered : {r : Answer} {cells : List ℕ} → r ≡ at_depth u.deepest (closing u.upshot u.used (u.used + u.written)) → cells ≡ cleared stack' → ExpandedOn g list stack output r cells output'
+  pub unfolds_answered : {r : Answer} {cells : List ℕ} → r ≡ at_depth u.deepest (closing u.ending u.used (u.used + u.written)) → cells ≡ cleared stack' → ExpandedOn g list stack output r cells output'
   unfolding unfolded answered_by expand_answer
   unfolds_answered answer clears =
       let e : Expansion = end g list stack output in
       record {
-        answer = answer ∙ ap (λ (x : Unfolding). at_depth x.deepest (closing x.upshot x.used (x.used + x.written))) h.answer ∙ ap (λ (n : ℕ). at_depth e.progress.height (closing e.ending e.progress.used n)) (sym (expand_steps g (counted stack) (counted output) list).moves);
+        answer = answer ∙ ap (λ (x : Unfolding). at_depth x.deepest (closing x.ending x.used (x.used + x.written))) h.answer ∙ ap (λ (n : ℕ). at_depth e.progress.height (closing e.ending e.progress.used n)) (sym (expand_steps g (counted stack) (counted output) list).moves);
         stack_cells = clears ∙ ap (λ (n : ℕ). replicate n 0) h.stack_length;
         output_cells = h.written;
       }

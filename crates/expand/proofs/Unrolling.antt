@@ -1,4 +1,5 @@
 -- The invariant of an expansion: the buffers hold a stack and a progress from which the machine comes to the expansion's end.
+use Rattle.std.specs.Prelude.{⊤, Result, Ok, Err}
 use mathlib.Core.Path.{◌≡◌, refl, sym, ◌∙◌, ap, subst, subst₂, subst₃}
 use mathlib.Core.Bool.{Bool}
 use mathlib.Core.List.{List, [], ◌∷◌, ◌++◌}
@@ -14,8 +15,8 @@ use Rattle.reader.specs.Book.{byte_of}
 use Rattle.book.specs.Columns.{outlined, Lefts, Lengths}
 use Rattle.book.specs.declared.columns.Outline.{Outline}
 use Rattle.machine.specs.Expansion.{opened, expansion, Course, Expansion, ended, wrote, applied, expand_from}
-use Rattle.machine.specs.declared.Upshot.{Upshot}
-use Rattle.machine.specs.declared.Upshot.TheVariants.{Finished, Unfit, FullStack, FullOutput}
+use Rattle.machine.specs.declared.Obstacle.{Obstacle}
+use Rattle.machine.specs.declared.Obstacle.TheVariants.{Unfit, FullStack, FullOutput}
 use Rattle.machine.specs.Room.{right_of, is_of}
 use Rattle.machine.proofs.Promise.{finished_is, left_over_is, too_short_is, misfit_is, no_stack_is, apply_is, no_output_is, write_is}
 use Rattle.stack.specs.Sides.{RightSide}
@@ -209,30 +210,30 @@ module _ (book places : List ℕ) (o : Outline) (lefts lengths list stack₀ out
               }
 
       -- where no move is made
-      closes : (e : Upshot) → runs (drop used list) u.form u.progress ≡ ended e u.progress → Unfolds (outlined book places o) list stack₀ output₀ (record { upshot = e; used = used; written = written; deepest = deepest }) stack output
+      closes : (e : Result ⊤ Obstacle) → runs (drop used list) u.form u.progress ≡ ended e u.progress → Unfolds (outlined book places o) list stack₀ output₀ (record { ending = e; used = used; written = written; deepest = deepest }) stack output
       unfolding unfolded ended
       closes e k =
           let last : whole ≡ ended e u.progress = sym u.same ∙ k in
           record {
-            answer = (λ i. record { upshot = e; used = u.used_is i; written = u.written_is i; deepest = u.deepest_is i }) ∙ ap unfolded (sym last);
+            answer = (λ i. record { ending = e; used = u.used_is i; written = u.written_is i; deepest = u.deepest_is i }) ∙ ap unfolded (sym last);
             written = u.output_cells ∙ ap (λ (x : Expansion). over x.progress.written output₀) (sym last);
             stack_length = unrolled_stack;
             output_length = unrolled_output;
           }
 
-      pub unrolled_close : {f : Upshot} → m ≡ Close f → Unfolds (outlined book places o) list stack₀ output₀ (record { upshot = f; used = used; written = written; deepest = deepest }) stack output
+      pub unrolled_close : {f : Result ⊤ Obstacle} → m ≡ Close f → Unfolds (outlined book places o) list stack₀ output₀ (record { ending = f; used = used; written = written; deepest = deepest }) stack output
       unrolled_close same = go (by_form same)
         where
           from : (ps : List ℕ) (α : Form) → drop used list ≡ ps → u.form ≡ α → {x : Expansion} → runs ps α u.progress ≡ x → runs (drop used list) u.form u.progress ≡ x
           from ps α f g h = rw (f, g) h
 
-          go : {f : Upshot} → Turns fits right (counted stack₀) (counted output₀) (drop used list) u.form (length u.progress.written) (Close f) → Unfolds (outlined book places o) list stack₀ output₀ (record { upshot = f; used = used; written = written; deepest = deepest }) stack output
-          go (Turns.finished e f) = closes Finished (from _ _ f e (finished_is fits right (counted stack₀) (counted output₀) u.progress))
-          go (Turns.left_over {p = p} {qs = qs} e f) = closes Unfit (from _ _ f e (left_over_is fits right (counted stack₀) (counted output₀) p qs u.progress))
-          go (Turns.too_short {A = A} {β = β} e f) = closes Unfit (from _ _ f e (too_short_is fits right (counted stack₀) (counted output₀) A β u.progress))
-          go (Turns.misfit {A = A} {p = p} {β = β} {qs = qs} e f g) = closes Unfit (from _ _ f e (misfit_is fits right (counted stack₀) (counted output₀) p A qs β u.progress g))
-          go (Turns.no_stack {A = A} {p = p} {β = β} {qs = qs} e f g h) = closes FullStack (from _ _ f e (no_stack_is fits right (counted stack₀) (counted output₀) p A qs β u.progress g h))
-          go (Turns.no_output {t = t} {β = β} e h) = closes FullOutput (from _ _ refl e (no_output_is fits right (counted stack₀) (counted output₀) t (drop used list) β u.progress h))
+          go : {f : Result ⊤ Obstacle} → Turns fits right (counted stack₀) (counted output₀) (drop used list) u.form (length u.progress.written) (Close f) → Unfolds (outlined book places o) list stack₀ output₀ (record { ending = f; used = used; written = written; deepest = deepest }) stack output
+          go (Turns.finished e f) = closes (Ok tt) (from _ _ f e (finished_is fits right (counted stack₀) (counted output₀) u.progress))
+          go (Turns.left_over {p = p} {qs = qs} e f) = closes (Err Unfit) (from _ _ f e (left_over_is fits right (counted stack₀) (counted output₀) p qs u.progress))
+          go (Turns.too_short {A = A} {β = β} e f) = closes (Err Unfit) (from _ _ f e (too_short_is fits right (counted stack₀) (counted output₀) A β u.progress))
+          go (Turns.misfit {A = A} {p = p} {β = β} {qs = qs} e f g) = closes (Err Unfit) (from _ _ f e (misfit_is fits right (counted stack₀) (counted output₀) p A qs β u.progress g))
+          go (Turns.no_stack {A = A} {p = p} {β = β} {qs = qs} e f g h) = closes (Err FullStack) (from _ _ f e (no_stack_is fits right (counted stack₀) (counted output₀) p A qs β u.progress g h))
+          go (Turns.no_output {t = t} {β = β} e h) = closes (Err FullOutput) (from _ _ refl e (no_output_is fits right (counted stack₀) (counted output₀) t (drop used list) β u.progress h))
 
 -- that the start symbol is put on the stack changes no room
 pub unfolds_from : {g : Grammar} {list : List ℕ} (stack : List ℕ) (b : ℕ) {stack₀ output : List ℕ}
@@ -250,10 +251,3 @@ unfolds_from {g} {list} stack b {stack₀} {output} e h =
       stack_length = h.stack_length ∙ long;
       output_length = h.output_length;
     }
-
--- said of an equal end
-pub unfolds_as : {g : Grammar} {list stack output : List ℕ} {q r : Unfolding} {stack' output' : List ℕ}
-    → q ≡ r
-    → Unfolds g list stack output r stack' output'
-    → Unfolds g list stack output q stack' output'
-unfolds_as e h = rw e h

@@ -13,10 +13,10 @@ use answers::refusals::{DONE, LIMIT, OUTPUT_ROOM, PRODUCTION, ROOM, STACK_ROOM};
 use answers::{Answer, at_depth, done, refusal, stop};
 use book::columns::{Outline, gather_lefts, gather_lengths, gathered, outline_of};
 use book::judging::judge;
-use machine::Upshot;
+use machine::Obstacle;
 use reader::fields::place_at;
 use sets::none;
-use stack::{clear, counts, greater, put_start, replace};
+use stack::{clear, counts, put_start, replace};
 
 mod turns;
 
@@ -25,29 +25,17 @@ mod turns;
 pub(crate) enum Turn {
     Write(u8),
     Apply(u8),
-    Close(Upshot),
+    Close(Result<(), Obstacle>),
 }
 
 // An expansion that has ended, with the productions used, the tokens written, and the most stack cells in use at any
 // moment.
 #[derive(Clone, Copy)]
 pub(crate) struct Unfolding {
-    pub upshot: Upshot,
+    pub ending: Result<(), Obstacle>,
     pub used: usize,
     pub written: usize,
     pub deepest: usize,
-}
-
-// An expansion that ends so.
-fn closed(upshot: Upshot, used: usize, written: usize, deepest: usize) -> Unfolding
-    ensures { result ≡ record { upshot = upshot; used = used; written = written; deepest = deepest } }
-{
-    Unfolding {
-        upshot,
-        used,
-        written,
-        deepest,
-    }
 }
 
 // From the start symbol on, tokens on top are written and the list's productions used.
@@ -95,11 +83,16 @@ fn unfold_all(
                 let below = height - 1;
                 replace(book, place_at(places, p as usize), count, stack, below);
                 height = below + count as usize;
-                deepest = greater(deepest, height);
+                deepest = deepest.max(height);
                 used += 1;
             }
-            Turn::Close(upshot) => {
-                return closed(upshot, used, written, deepest);
+            Turn::Close(ending) => {
+                return Unfolding {
+                    ending,
+                    used,
+                    written,
+                    deepest,
+                };
             }
         }
     }
@@ -108,23 +101,25 @@ fn unfold_all(
 // The paper's values of an expansion that has ended.
 fn values_of(u: Unfolding) -> Answer
     requires { u.used + u.written < 2 ^ 64 }
-    ensures { result ≡ closing u.upshot u.used (u.used + u.written) }
+    ensures { result ≡ closing u.ending u.used (u.used + u.written) }
 {
-    let upshot = u.upshot;
+    let ending = u.ending;
     let used = u.used as u64;
     let steps = used + u.written as u64;
-    match upshot {
-        Upshot::Finished => done(steps),
-        Upshot::Unfit => stop(PRODUCTION, used, 0, steps, none()),
-        Upshot::FullStack => stop(ROOM, used, STACK_ROOM, steps, none()),
-        Upshot::FullOutput => stop(ROOM, used, OUTPUT_ROOM, steps, none()),
+    match ending {
+        Ok(()) => done(steps),
+        Err(obstacle) => match obstacle {
+            Obstacle::Unfit => stop(PRODUCTION, used, 0, steps, none()),
+            Obstacle::FullStack => stop(ROOM, used, STACK_ROOM, steps, none()),
+            Obstacle::FullOutput => stop(ROOM, used, OUTPUT_ROOM, steps, none()),
+        },
     }
 }
 
 // The answer to an expansion that has ended: its values, and the most stack cells held.
 fn answer_to(u: Unfolding) -> Answer
     requires { u.used + u.written < 2 ^ 64 }
-    ensures { result ≡ at_depth u.deepest (closing u.upshot u.used (u.used + u.written)) }
+    ensures { result ≡ at_depth u.deepest (closing u.ending u.used (u.used + u.written)) }
 {
     let values = values_of(u);
     at_depth(values, u.deepest as u64)

@@ -5,17 +5,17 @@ ghost use Rattle.expand.specs.Turns.{emptied, TurnAt};
 use crate::Turn;
 use book::columns::{Outline, gathered, is_of};
 use grammar::Symbol;
-use machine::Upshot;
+use machine::Obstacle;
 use reader::fields::symbol_of;
-use stack::{Ahead, ahead_of, counts};
+use stack::{ahead_of, counts};
 
 // How an expansion ends where the stack is empty.
-fn at_bottom(ahead: Ahead) -> Upshot
+fn at_bottom(ahead: Option<u8>) -> Result<(), Obstacle>
     ensures { result ≡ emptied ahead }
 {
     match ahead {
-        Ahead::Next(_) => Upshot::Unfit,
-        Ahead::End => Upshot::Finished,
+        Some(_) => Err(Obstacle::Unfit),
+        None => Ok(()),
     }
 }
 
@@ -55,22 +55,22 @@ pub(crate) fn turn_at(
             if written < cells {
                 Turn::Write(t)
             } else {
-                Turn::Close(Upshot::FullOutput)
+                Turn::Close(Err(Obstacle::FullOutput))
             }
         }
         Symbol::Nonterminal(n) => {
             let ahead = ahead_of(list, used);
             match ahead {
-                Ahead::Next(p) => {
+                Some(p) => {
                     if !is_of(lefts, outline, n, p) {
-                        Turn::Close(Upshot::Unfit)
+                        Turn::Close(Err(Obstacle::Unfit))
                     } else if counts(stack.len()) < below + gathered(lengths, p) as usize {
-                        Turn::Close(Upshot::FullStack)
+                        Turn::Close(Err(Obstacle::FullStack))
                     } else {
                         Turn::Apply(p)
                     }
                 }
-                Ahead::End => Turn::Close(Upshot::Unfit),
+                None => Turn::Close(Err(Obstacle::Unfit)),
             }
         }
     }

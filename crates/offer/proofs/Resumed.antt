@@ -1,4 +1,5 @@
 -- A run in progress that its buffers spell, and what an offer to it answers and leaves.
+use Rattle.std.specs.Prelude.{Option, Some, None}
 use mathlib.Core.Path.{◌≡◌, refl, sym, ap, ◌∙◌}
 use mathlib.Core.List.{List}
 use Prim.Native.Nat.{ℕ, ◌+◌, ◌-◌, ◌≤◌, ◌<◌}
@@ -16,20 +17,18 @@ use Rattle.machine.specs.Machine.{Offered, taken, stopped, final}
 use Rattle.machine.specs.Room.{right_of}
 use Rattle.machine.proofs.Promise.{Grown, gained, offer_grown}
 use Rattle.stack.specs.Ahead.{column_in}
-use Rattle.stack.specs.declared.Ahead.TheVariants.{Next, End}
-use Rattle.stack.specs.declared.Ahead.{Ahead}
 use Rattle.stack.proofs.Promise.{cells_spelled, length_spelled, stacked_spelled}
 use Rattle.offer.specs.Offering.{Holds, Ready, ColumnAhead, OfferedAt}
 use Rattle.offer.specs.Resuming.{progress_of, reported, clamped, standing, offered_to, Offers, OfferedOn}
 use Rattle.offer.specs.Stops.{values_of, deepest_in, answer_of, answered, run_answer}
 use Rattle.offer.specs.declared.Progress.{Progress}
-use Rattle.offer.specs.declared.Reply.{Reply}
+use Rattle.offer.specs.Reply.{Reply}
 
-pub column_next : {column tokens : ℕ} → column < tokens → (g : Grammar) → g.tokens ≡ tokens → column_in (Next column) ≡ column_of g column
+pub column_next : {column tokens : ℕ} → column < tokens → (g : Grammar) → g.tokens ≡ tokens → column_in (Some column) ≡ column_of g column
 unfolding column_in column_of
 column_next {column} h g e = rw (lt-ltb column g.tokens (rw e h), column_of)
 
-pub column_end : {column tokens : ℕ} → tokens ≤ column → (g : Grammar) → g.tokens ≡ tokens → column_in End ≡ column_of g column
+pub column_end : {column tokens : ℕ} → tokens ≤ column → (g : Grammar) → g.tokens ≡ tokens → column_in None ≡ column_of g column
 unfolding column_in column_of
 column_end {column} h g e = rw (le-ltb column g.tokens (rw e h), column_of)
 
@@ -71,7 +70,7 @@ offered_told g table column {at} {stack} {list} ready =
     let grown : Grown (standing at stack list) (final o) (gained (column_of g column) o) = offer_grown (right_of g) (cell_of g table) (counted stack) (counted list) (counted list - at.listed) (column_of g column) (standing at stack list) (omega (arith, ready.listed)) in
     reply_told g table o (omega (arith, grown.steps, grown.matches, ap length grown.lists, length-append (take at.listed list) grown.new))
 
-module _ (book : List ℕ) (reading : Reading) (table : List ℕ) (column : ℕ) {ahead : Ahead}
+module _ (book : List ℕ) (reading : Reading) (table : List ℕ) (column : ℕ) {ahead : Option ℕ}
     (same : ColumnAhead column reading.tokens ahead) {stack list : List ℕ} {r : Reply} {stack' list' : List ℕ} where
   -- what is offered to every state that the buffers hold is offered to the one that they spell
   spelled_offers : {at : Progress}

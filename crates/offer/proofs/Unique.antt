@@ -8,7 +8,7 @@ use Rattle.book.specs.declared.Reading.{Reading}
 use Rattle.offer.specs.Resuming.{OfferResult, OfferedOn, OfferOutcome, refused, offered}
 use Rattle.offer.specs.Strings.{StringOutcome, no_stack, ended}
 use Rattle.offer.specs.declared.Progress.{Progress}
-use Rattle.offer.specs.declared.Reply.{Reply}
+use Rattle.offer.specs.Reply.{Reply}
 
 -- an offer on a grammar allows one outcome
 offered_on_unique : {g : Grammar} {table : List ℕ} {column : ℕ} {at : Progress} {stack list : List ℕ} {r q : Reply} {s l t m : List ℕ}

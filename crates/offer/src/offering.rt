@@ -1,39 +1,29 @@
 // One column offered to a run in progress.
-ghost use Rattle.std.specs.Prelude.{◌≡◌, ◌^◌, ◌≤◌, ◌<◌, length};
+ghost use Rattle.std.specs.Prelude.{◌≡◌, ◌-◌, ◌^◌, ◌≤◌, ◌<◌, length, set};
 ghost use Rattle.book.specs.Columns.{grammar_in, Lengths};
-ghost use Rattle.offer.specs.declared.Ending.TheVariants as endings;
-ghost use Rattle.offer.specs.Offering.{finished, finished_stack, ColumnAhead, Ready, OfferedAt};
+ghost use Rattle.offer.specs.Offering.{matched_at, ColumnAhead, Ready, OfferedAt};
 ghost use Rattle.offer.specs.Resuming.{clamped, OfferedOn, OfferOutcome};
 
 use crate::moves::choose;
-use crate::{Ending, Move, Progress, Reply};
+use crate::{Halt, Move, Progress};
 use answers::limits::MOST_CELLS;
 use answers::refusals::DONE;
 use book::Reading;
 use book::columns::{Outline, gather_lengths, gathered, outline_of};
 use reader::fields::place_at;
-use stack::{Ahead, counts, greater, lower, replace};
+use stack::{counts, replace};
 
-// The offer ends: a token that is matched is popped.
-fn finish(ending: Ending, stack: &mut [u8], at: Progress) -> Reply
-    requires { (ending ≡ endings.Match → 1 ≤ at.height)
-        × (at.height ≤ length stack.old)
-        × (at.matched < 2 ^ 63) }
-    ensures { (result ≡ finished ending at) × (stack.new ≡ finished_stack ending at stack.old) }
+// The token on top is matched and popped.
+fn pop(stack: &mut [u8], at: Progress) -> Progress
+    requires { (1 ≤ at.height) × (at.height ≤ length stack.old) × (at.matched < 2 ^ 63) }
+    ensures { (result ≡ matched_at at) × (stack.new ≡ set stack.old (at.height - 1) 0) }
 {
-    match ending {
-        Ending::Accept => Reply::Taken(at),
-        Ending::Match => {
-            let below = at.height - 1;
-            stack[below] = 0;
-            Reply::Taken(Progress {
-                height: below,
-                listed: at.listed,
-                matched: at.matched + 1,
-                deepest: at.deepest,
-            })
-        }
-        Ending::Stop(reason) => Reply::Stopped(reason, at),
+    let below = at.height - 1;
+    stack[below] = 0;
+    Progress {
+        height: below,
+        matched: at.matched + 1,
+        ..at
     }
 }
 
@@ -44,11 +34,11 @@ pub(crate) fn offer_at(
     lengths: &[u8],
     outline: Outline,
     table: &[u8],
-    ahead: Ahead,
+    ahead: Option<u8>,
     stack: &mut [u8],
     list: &mut [u8],
     at: Progress,
-) -> Reply
+) -> Result<Progress, Halt>
     requires { Ready at stack.old list.old × Lengths book.now places.now outline lengths.now }
     ensures { OfferedAt
         book.now
@@ -68,8 +58,18 @@ pub(crate) fn offer_at(
     let mut listed = at.listed;
     let mut deepest = at.deepest;
     loop {
+        let here = Progress {
+            height,
+            listed,
+            matched: at.matched,
+            deepest,
+        };
         let choice = choose(lengths, outline, table, ahead, stack, height, cells, listed);
-        match choice {
+        let next = match choice {
+            Ok(next) => next,
+            Err(reason) => return Err(Halt::Stopped(reason, here)),
+        };
+        match next {
             Move::Use(p) => {
                 let count = gathered(lengths, p);
                 let below = height - 1;
@@ -77,44 +77,30 @@ pub(crate) fn offer_at(
                 listed += 1;
                 replace(book, place_at(places, p as usize), count, stack, below);
                 height = below + count as usize;
-                deepest = greater(deepest, height);
+                deepest = deepest.max(height);
             }
-            Move::Finish(ending) => {
-                return finish(
-                    ending,
-                    stack,
-                    Progress {
-                        height,
-                        listed,
-                        matched: at.matched,
-                        deepest,
-                    },
-                );
-            }
+            Move::Match => return Ok(pop(stack, here)),
+            Move::Accept => return Ok(here),
         }
     }
 }
 
 // A column below T is a token, any other the end mark.
-fn column_ahead(column: u8, tokens: u8) -> Ahead
+fn column_ahead(column: u8, tokens: u8) -> Option<u8>
     ensures { ColumnAhead column tokens result }
 {
-    if column < tokens {
-        Ahead::Next(column)
-    } else {
-        Ahead::End
-    }
+    if column < tokens { Some(column) } else { None }
 }
 
 // The counts as far as they count; the most cells held are those of the stack now, whatever the caller tells.
 fn clamp(at: Progress, stack: usize, list: usize) -> Progress
     ensures { result ≡ clamped at stack list }
 {
-    let height = lower(at.height, counts(stack));
+    let height = at.height.min(counts(stack));
     Progress {
         height,
-        listed: lower(at.listed, counts(list)),
-        matched: lower(at.matched, MOST_CELLS),
+        listed: at.listed.min(counts(list)),
+        matched: at.matched.min(MOST_CELLS),
         deepest: height,
     }
 }
@@ -128,7 +114,7 @@ fn offer_on(
     stack: &mut [u8],
     list: &mut [u8],
     at: Progress,
-) -> Reply
+) -> Result<Progress, Halt>
     ensures { OfferedOn
         (grammar_in book.now reading)
         table.now
@@ -161,7 +147,7 @@ pub fn offer(
     stack: &mut [u8],
     list: &mut [u8],
     at: Progress,
-) -> Reply
+) -> Result<Progress, Halt>
     ensures { OfferOutcome
         book.now
         reading
@@ -176,7 +162,7 @@ pub fn offer(
 {
     let judged = reading.answer;
     if judged.number != DONE {
-        return Reply::Refused(judged);
+        return Err(Halt::Refused(judged));
     }
     offer_on(book, reading, table, column, stack, list, at)
 }

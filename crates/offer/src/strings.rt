@@ -4,10 +4,10 @@ ghost use Rattle.book.specs.Columns.{outlined, Lengths};
 ghost use Rattle.offer.specs.Strings.{Stepped, StringOutcome};
 
 use crate::offering::offer_at;
-use crate::{Progress, Reply};
+use crate::{Halt, Progress};
 use book::columns::{Outline, gather_lengths};
 use machine::Reason;
-use stack::{ahead_of, clear, put_start};
+use stack::{clear, put_start};
 
 // From the start symbol on, the tokens are offered one by one, then the end mark.
 fn offer_all(
@@ -19,7 +19,7 @@ fn offer_all(
     tokens: &[u8],
     stack: &mut [u8],
     list: &mut [u8],
-) -> Reply
+) -> Result<Progress, Halt>
     requires { (1 ≤ length stack.old) × Lengths book.now places.now outline lengths.now }
     ensures { Stepped
         (outlined book.now places.now outline)
@@ -38,20 +38,13 @@ fn offer_all(
         matched: 0,
         deepest: 1,
     };
-    loop {
-        let i = at.matched;
-        let ahead = ahead_of(tokens, i);
-        let reply = offer_at(
+    for token in tokens {
+        let ahead = Some(*token);
+        at = offer_at(
             book, places, lengths, outline, table, ahead, stack, list, at,
-        );
-        let Reply::Taken(next) = reply else {
-            return reply;
-        };
-        if tokens.len() <= i {
-            return reply;
-        }
-        at = next;
+        )?;
     }
+    offer_at(book, places, lengths, outline, table, None, stack, list, at)
 }
 
 // A whole token string offered, then the end mark, from the start symbol on; after that every stack cell is 0. Without
@@ -64,7 +57,7 @@ pub fn offer_string(
     tokens: &[u8],
     stack: &mut [u8],
     list: &mut [u8],
-) -> Reply
+) -> Result<Progress, Halt>
     ensures { StringOutcome
         (outlined book.now places.now outline)
         table.now
@@ -76,15 +69,13 @@ pub fn offer_string(
         list.new }
 {
     if stack.len() == 0 {
-        return Reply::Stopped(
-            Reason::FullStack,
-            Progress {
-                height: 0,
-                listed: 0,
-                matched: 0,
-                deepest: 0,
-            },
-        );
+        let at = Progress {
+            height: 0,
+            listed: 0,
+            matched: 0,
+            deepest: 0,
+        };
+        return Err(Halt::Stopped(Reason::FullStack, at));
     }
     let lengths = gather_lengths(book, places, outline);
     let reply = offer_all(book, places, &lengths, outline, table, tokens, stack, list);

@@ -1,5 +1,5 @@
 use native.Mathlib.Omega.{arith}
-use Rattle.expand.proofs.Unrolling.{unrolled_start, unrolled_stack, unrolled_output, unrolled_height, write_fits, unrolled_write, apply_fits, unrolled_apply, unrolled_close, unfolds_from, unfolds_as}
+use Rattle.expand.proofs.Unrolling.{unrolled_start, unrolled_stack, unrolled_output, unrolled_height, write_fits, unrolled_write, apply_fits, unrolled_apply, unrolled_close, unfolds_from}
 use Rattle.expand.proofs.unfold_all.Goals as goal
 
 pub loop-t-init : goal.loop-t-init
@@ -54,16 +54,16 @@ loop-t-smaller c =
 
 pub loop-t-preserved : goal.loop-t-preserved
 loop-t-preserved c =
-    unrolled_apply _ _ _ _ _ _ _ _ _ c.loop-t.invariant c.turn_at-turn.ensures c.in-Apply.is c.gathered-count.ensures c.place_at.ensures c.replace.ensures c.greater-deepest.ensures
+    unrolled_apply _ _ _ _ _ _ _ _ _ c.loop-t.invariant c.turn_at-turn.ensures c.in-Apply.is c.gathered-count.ensures c.place_at.ensures c.replace.ensures c.max-deepest.ensures
 
 pub shape_of-stack-in-Close : goal.shape_of-stack-in-Close
 shape_of-stack-in-Close c =
-    (unfolds_as c.closed.ensures (unfolds_from c.args.stack.now _ c.put_start.ensures (unrolled_close _ _ _ _ _ _ _ _ _ c.loop-t.invariant c.turn_at-turn.ensures c.in-Close.is))).stack_length
+    (unfolds_from c.args.stack.now _ c.put_start.ensures (unrolled_close _ _ _ _ _ _ _ _ _ c.loop-t.invariant c.turn_at-turn.ensures c.in-Close.is)).stack_length
 
 pub shape_of-output-in-Close : goal.shape_of-output-in-Close
 shape_of-output-in-Close c =
-    (unfolds_as c.closed.ensures (unfolds_from c.args.stack.now _ c.put_start.ensures (unrolled_close _ _ _ _ _ _ _ _ _ c.loop-t.invariant c.turn_at-turn.ensures c.in-Close.is))).output_length
+    (unfolds_from c.args.stack.now _ c.put_start.ensures (unrolled_close _ _ _ _ _ _ _ _ _ c.loop-t.invariant c.turn_at-turn.ensures c.in-Close.is)).output_length
 
 pub returns-in-Close : goal.returns-in-Close
 returns-in-Close c =
-    unfolds_as c.closed.ensures (unfolds_from c.args.stack.now _ c.put_start.ensures (unrolled_close _ _ _ _ _ _ _ _ _ c.loop-t.invariant c.turn_at-turn.ensures c.in-Close.is))
+    unfolds_from c.args.stack.now _ c.put_start.ensures (unrolled_close _ _ _ _ _ _ _ _ _ c.loop-t.invariant c.turn_at-turn.ensures c.in-Close.is)

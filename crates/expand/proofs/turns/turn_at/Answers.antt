@@ -19,16 +19,16 @@ returns-else-written-cells c =
 
 pub returns-then-not-is_of : goal.returns-then-not-is_of
 returns-then-not-is_of c =
-    record { turns = λ book places lefts lengths. turn_misfit (spelled_top _ _ c.if-height-eq0.false c.symbol_of-symbol.ensures) c.in-Nonterminal.is c.ahead_of-ahead.ensures c.in-Next.is (is_of_fits _ _ _ _ _ c.is_of.result lefts c.is_of.ensures ∙ c.if-not-is_of.true) }
+    record { turns = λ book places lefts lengths. turn_misfit (spelled_top _ _ c.if-height-eq0.false c.symbol_of-symbol.ensures) c.in-Nonterminal.is c.ahead_of-ahead.ensures c.in-Some.is (is_of_fits _ _ _ _ _ c.is_of.result lefts c.is_of.ensures ∙ c.if-not-is_of.true) }
 
 pub returns-then-counts-below : goal.returns-then-counts-below
 returns-then-counts-below c =
-    record { turns = λ book places lefts lengths. turn_no_stack (spelled_top _ _ c.if-height-eq0.false c.symbol_of-symbol.ensures) c.in-Nonterminal.is c.ahead_of-ahead.ensures c.in-Next.is (is_of_fits _ _ _ _ _ c.is_of.result lefts c.is_of.ensures ∙ c.if-not-is_of.false) (omega (arith, replaced_length (right_side book places c.args.outline _ lengths c.gathered.ensures) c.args.stack.now (c.args.height - 1))) }
+    record { turns = λ book places lefts lengths. turn_no_stack (spelled_top _ _ c.if-height-eq0.false c.symbol_of-symbol.ensures) c.in-Nonterminal.is c.ahead_of-ahead.ensures c.in-Some.is (is_of_fits _ _ _ _ _ c.is_of.result lefts c.is_of.ensures ∙ c.if-not-is_of.false) (omega (arith, replaced_length (right_side book places c.args.outline _ lengths c.gathered.ensures) c.args.stack.now (c.args.height - 1))) }
 
 pub returns-else-counts-below : goal.returns-else-counts-below
 returns-else-counts-below c =
-    record { turns = λ book places lefts lengths. turn_apply (spelled_top _ _ c.if-height-eq0.false c.symbol_of-symbol.ensures) c.in-Nonterminal.is c.ahead_of-ahead.ensures c.in-Next.is (is_of_fits _ _ _ _ _ c.is_of.result lefts c.is_of.ensures ∙ c.if-not-is_of.false) (omega (arith, replaced_length (right_side book places c.args.outline _ lengths c.gathered.ensures) c.args.stack.now (c.args.height - 1))) }
+    record { turns = λ book places lefts lengths. turn_apply (spelled_top _ _ c.if-height-eq0.false c.symbol_of-symbol.ensures) c.in-Nonterminal.is c.ahead_of-ahead.ensures c.in-Some.is (is_of_fits _ _ _ _ _ c.is_of.result lefts c.is_of.ensures ∙ c.if-not-is_of.false) (omega (arith, replaced_length (right_side book places c.args.outline _ lengths c.gathered.ensures) c.args.stack.now (c.args.height - 1))) }
 
-pub returns-in-End : goal.returns-in-End
-returns-in-End c =
-    record { turns = λ book places lefts lengths. turn_too_short (spelled_top _ _ c.if-height-eq0.false c.symbol_of-symbol.ensures) c.in-Nonterminal.is c.ahead_of-ahead.ensures c.in-End.is }
+pub returns-in-None : goal.returns-in-None
+returns-in-None c =
+    record { turns = λ book places lefts lengths. turn_too_short (spelled_top _ _ c.if-height-eq0.false c.symbol_of-symbol.ensures) c.in-Nonterminal.is c.ahead_of-ahead.ensures c.in-None.is }
