@@ -9,7 +9,7 @@ use Rattle.grammar.specs.House.{house}
 use Rattle.grammar.proofs.House.{house_useful_lem}
 use Rattle.grammar.proofs.WorkedUseful.{productives, usefuls, productive_test, useful_test, has, has_every, productives_sound, usefuls_sound, usefuls_exact}
 use Rattle.answers.specs.Answers.{refusal}
-use Rattle.answers.specs.Refusals.{short, mark, extra, limit, symbol}
+use Rattle.answers.specs.declared.refusals.Refusal.TheVariants as refusals
 use Rattle.reader.specs.Book.{refused, reads, spells, marked, wanted, records, symbols, symbol_of, ending}
 use Rattle.book.specs.Examples.{GR, PR, house_book, useless_book, useless_grammar}
 use Rattle.book.specs.Judging.{LowestUseless, Refuses, useless_one, Serves}
@@ -22,23 +22,23 @@ pub house_serves : Serves house_book house
 house_serves = record { read = house_reads; useful = record { useful = house_useful_lem } }
 
 -- nothing at all; a wrong second mark byte; a byte behind H; T out of range, though the book ends there; a left side that is N
-no_byte : spells [] ≡ refused short 0
+no_byte : spells [] ≡ refused refusals.Short 0
 unfolding spells marked wanted
 no_byte = refl
 
-wrong_mark : spells (0x47 ∷ 0x50 ∷ []) ≡ refused mark 1
+wrong_mark : spells (0x47 ∷ 0x50 ∷ []) ≡ refused refusals.Mark 1
 unfolding spells marked wanted
 wrong_mark = refl
 
-byte_behind : spells (house_book ++ 0x00 ∷ []) ≡ refused extra 39
+byte_behind : spells (house_book ++ 0x00 ∷ []) ≡ refused refusals.Extra 39
 unfolding spells marked wanted records symbols symbol_of ending house_book
 byte_behind = refl
 
-tokens_over : spells (GR (63 ∷ [])) ≡ refused limit 2
+tokens_over : spells (GR (63 ∷ [])) ≡ refused refusals.Limit 2
 unfolding spells marked wanted
 tokens_over = refl
 
-left_side_strange : spells (GR (1 ∷ 1 ∷ 0 ∷ 1 ∷ []) ++ PR (1 ∷ [])) ≡ refused symbol 8
+left_side_strange : spells (GR (1 ∷ 1 ∷ 0 ∷ 1 ∷ []) ++ PR (1 ∷ [])) ≡ refused refusals.Symbol 8
 unfolding spells marked wanted records symbols symbol_of ending
 left_side_strange = refl
 

@@ -1,7 +1,7 @@
 -- What crates above cite of judging: a judged book is refused, or it serves a grammar, which the index gives back
 -- through the accessors of `reader::fields`.
 use mathlib.Core.Path.{◌≡◌, refl, ◌∙◌}
-use mathlib.Core.Logic.{◌≢◌, ⊎_elim}
+use mathlib.Core.Logic.{◌≢◌}
 use mathlib.Core.List.{List}
 use Prim.Native.Nat.{ℕ, suc, ◌≤◌}
 use native.Mathlib.Omega.{arith}
@@ -12,8 +12,7 @@ use Rattle.answers.specs.Limits.{longest_book}
 use Rattle.answers.specs.declared.Answer.{Answer}
 use Rattle.answers.specs.Answers.{refusal}
 use Rattle.reader.specs.Book.{spells, Limits}
-use Rattle.reader.specs.Faults.{Fault, bad_mark, extra_byte, over_limit, not_a_symbol}
-use Rattle.reader.proofs.Promise.{refused_kinds, read_limits, judged_by_first}
+use Rattle.reader.proofs.Promise.{refused_number, read_limits, judged_by_first}
 use Rattle.std.specs.Prelude.{Result, Ok, Err}
 use Rattle.book.specs.declared.Index.{Index}
 use Rattle.book.specs.Judging.{index_of, Refuses, misread, useless_one, Serves, Judged}
@@ -27,17 +26,11 @@ pub use Rattle.book.proofs.ColumnLaws.{lefts_unique, lengths_unique, heads_uniqu
 pub use Rattle.book.proofs.ColumnLaws.{is_of_unique}
 pub use Rattle.book.proofs.Unique.{refuses_unique, refuses_not_serves, serves_unique, indexes_unique, judged_unique}
 
-fault_number : {n : ℕ} → Fault n → (1 ≤ n) × (n ≤ 6)
-fault_number bad_mark = omega arith
-fault_number extra_byte = omega arith
-fault_number over_limit = omega arith
-fault_number not_a_symbol = omega arith
-
 module _ {b : List ℕ} where
   -- a refused book has one of the numbers 1 to 6
   pub refuses_number : {answer : Answer} → Refuses b answer → (1 ≤ answer.number) × (answer.number ≤ 6)
   unfolding refusal
-  refuses_number (misread e) = ⊎_elim (λ same. omega arith) fault_number (refused_kinds b e).kind
+  refuses_number (misread e) = omega (arith, refused_number b e)
   refuses_number (useless_one e h) = omega arith
 
   pub refuses_some : {answer : Answer} → Refuses b answer → 1 ≤ answer.number

@@ -6,7 +6,8 @@ use native.Mathlib.Omega.{arith}
 use Rattle.grammar.specs.Grammar.{Grammar, Useful}
 use Rattle.answers.specs.declared.Answer.{Answer}
 use Rattle.answers.specs.Answers.{refusal}
-use Rattle.answers.specs.Refusals.{useless}
+use Rattle.answers.specs.declared.refusals.Refusal.{Refusal}
+use Rattle.answers.specs.Refusals.{number_of, useless}
 use Rattle.answers.specs.Lowest.{FirstFailing}
 use Rattle.answers.proofs.Promise.{first_failing_unique}
 use Rattle.reader.specs.Book.{reads, spells}
@@ -27,10 +28,10 @@ lowest_unique h k = first_failing_unique (lowest_failing h) (lowest_failing k)
 
 module _ {b : List ℕ} where
   pub refuses_unique : {r s : Answer} → Refuses b r → Refuses b s → r ≡ s
-  refuses_unique (misread {number = n} {place = p} e) (misread {number = m} {place = q} f) =
-      let numbers : n ≡ m = cc in
+  refuses_unique (misread {why = w} {place = p} e) (misread {why = v} {place = q} f) =
+      let kinds : w ≡ v = cc in
       let places : p ≡ q = cc in
-      ap₂ (λ (n p : ℕ). refusal n p 0) numbers places
+      ap₂ (λ (w : Refusal) (p : ℕ). refusal (number_of w) p 0) kinds places
   refuses_unique (misread e) (useless_one f h) = absurd (refused_not_reads e f)
   refuses_unique (useless_one e h) (misread f) = absurd (refused_not_reads f e)
   refuses_unique (useless_one e h) (useless_one f k) = ap (λ (A : ℕ). refusal useless A 0) (lowest_unique h (rw (← (reads_unique b e f)) at k))

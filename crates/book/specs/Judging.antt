@@ -5,7 +5,8 @@ use Rattle.grammar.specs.Grammar.{Production, Grammar, Useful}
 use Rattle.answers.specs.Limits.{most_productions}
 use Rattle.answers.specs.declared.Answer.{Answer}
 use Rattle.answers.specs.Answers.{refusal}
-use Rattle.answers.specs.Refusals.{useless}
+use Rattle.answers.specs.declared.refusals.Refusal.{Refusal}
+use Rattle.answers.specs.Refusals.{number_of, useless}
 use Rattle.reader.specs.Book.{refused, reads, spells}
 use Rattle.book.specs.declared.Index.{Index}
 
@@ -42,7 +43,7 @@ index_of g =
 
 -- the book is refused with this answer, 1 to 5 or 6
 pub data Refuses (book : List ℕ) : Answer → Type 0 where
-  misread : {number place : ℕ} → spells book ≡ refused number place → Refuses book (refusal number place 0)
+  misread : {why : Refusal} {place : ℕ} → spells book ≡ refused why place → Refuses book (refusal (number_of why) place 0)
   useless_one : {g : Grammar} {A : ℕ}
       → spells book ≡ reads g
       → LowestUseless g A

@@ -10,7 +10,6 @@ use crate::useful::{first_useless, survey};
 use crate::{CELLS, Index};
 use answers::refusals::Refusal;
 use answers::{Answer, refusal};
-use reader::Verdict;
 use reader::fields::{NONTERMINALS, PRODUCTIONS, START, TOKENS, byte_at};
 use reader::walk::read;
 
@@ -51,9 +50,6 @@ fn indexed(book: &[u8]) -> Result<Index, Answer>
 pub fn judge(book: &[u8]) -> Result<Index, Answer>
     ensures { Judged book.now result }
 {
-    let verdict = read(book);
-    match verdict {
-        Verdict::Next(_) => indexed(book),
-        Verdict::Bad(number, place) => Err(refusal(number, place as u64, 0)),
-    }
+    read(book)?;
+    indexed(book)
 }

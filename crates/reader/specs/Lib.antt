@@ -3,3 +3,4 @@ pub mod Faults
 pub mod Fields
 pub mod Verdicts
 pub mod Positional
+pub mod Reader

@@ -1,6 +1,5 @@
 // The bytes of a book judged from the front: refusals 1 to 5. What goes on answers the next place.
 ghost use Rattle.std.specs.Prelude.{◌≡◌, suc, ◌+◌, ◌-◌, ◌≤◌, ◌<◌, length, Ok};
-ghost use Rattle.reader.specs.Verdicts.{verdict_of};
 ghost use Rattle.reader.specs.Positional.{wanted_from, marked_from, symbols_from, head_at, head_from};
 ghost use Rattle.reader.specs.Positional.{record_from, each_record_from, header_of, records_from, ended_at};
 
@@ -103,7 +102,7 @@ fn record(book: &[u8], at: usize, t: u8, n: u8) -> Result<usize, Fault>
 }
 
 // `GR`, T, N, the start below N, P.
-fn header(book: &[u8]) -> Result<usize, Fault>
+pub(crate) fn header(book: &[u8]) -> Result<usize, Fault>
     ensures { result ≡ header_of book.now }
 {
     let tokens = marked(book, 0, b'G')?;
@@ -115,7 +114,7 @@ fn header(book: &[u8]) -> Result<usize, Fault>
 }
 
 // The records from `from` on, as many as the header says.
-fn records(book: &[u8], from: usize) -> Result<usize, Fault>
+pub(crate) fn records(book: &[u8], from: usize) -> Result<usize, Fault>
     ensures { result ≡ records_from book.now (Ok from) }
 {
     let t = byte_at(book, 0, TOKENS);
@@ -128,7 +127,7 @@ fn records(book: &[u8], from: usize) -> Result<usize, Fault>
 }
 
 // Nothing follows at `at`.
-fn end(book: &[u8], at: usize) -> Result<usize, Fault>
+pub(crate) fn end(book: &[u8], at: usize) -> Result<usize, Fault>
     ensures { result ≡ ended_at book.now at }
 {
     if at < book.len() {
@@ -139,13 +138,4 @@ fn end(book: &[u8], at: usize) -> Result<usize, Fault>
     } else {
         Ok(at)
     }
-}
-
-// The refusal 1 to 5 of a book, or its length as the next place.
-pub fn read(book: &[u8]) -> Result<usize, Fault>
-    ensures { result ≡ verdict_of book.now }
-{
-    let behind = header(book)?;
-    let last = records(book, behind)?;
-    end(book, last)
 }
