@@ -9,8 +9,8 @@ use Rattle.grammar.specs.Grammar.{Form}
 use Rattle.grammar.specs.declared.Symbol.TheVariants.{Token, Nonterminal}
 use Rattle.grammar.specs.declared.Symbol.{Symbol}
 use Rattle.sets.specs.Calls.{Decides}
-use Rattle.book.specs.declared.columns.Outline.{Outline}
-use Rattle.book.specs.Columns.{outlined, Lefts, IsOf}
+use Rattle.book.specs.declared.Index.{Index}
+use Rattle.book.specs.Columns.{grammar_in, Lefts, IsOf}
 use Rattle.book.proofs.Promise.{is_of_rule, rule_is_of}
 use Rattle.machine.specs.Room.{is_of}
 use Rattle.machine.specs.declared.Obstacle.{Obstacle}
@@ -22,15 +22,15 @@ use Rattle.expand.specs.Turns.{emptied, Turns}
 use Rattle.expand.specs.declared.Turn.TheVariants.{Write, Apply, Close}
 
 -- what the column of left sides decides is whether the machine takes the production for one of A
-pub is_of_fits : (book places : List ℕ) (o : Outline) {lefts : List ℕ} (A p : ℕ) (r : Bool)
-    → Lefts book places o lefts
-    → Decides r (IsOf lefts o A p)
-    → is_of (outlined book places o) A p ≡ r
-is_of_fits book places o A p true column h = rule_fits (is_of_rule book places o column h).1
-is_of_fits book places o A p false column h = go (is_of (outlined book places o) A p) refl
+pub is_of_fits : (book : List ℕ) (index : Index) {lefts : List ℕ} (A p : ℕ) (r : Bool)
+    → Lefts book index lefts
+    → Decides r (IsOf lefts index.outline A p)
+    → is_of (grammar_in book index) A p ≡ r
+is_of_fits book index A p true column h = rule_fits (is_of_rule book index.places index.outline column h).1
+is_of_fits book index A p false column h = go (is_of (grammar_in book index) A p) refl
   where
-    go : (x : Bool) → is_of (outlined book places o) A p ≡ x → x ≡ false
-    go true e = absurd (h (rule_is_of book places o column (fits_rule p A e)))
+    go : (x : Bool) → is_of (grammar_in book index) A p ≡ x → x ≡ false
+    go true e = absurd (h (rule_is_of book index.places index.outline column (fits_rule p A e)))
     go false e = refl
 
 module _ {fits : ℕ → ℕ → Bool} {right : ℕ → Form} {room output : ℕ} {ps : List ℕ} {α : Form} {written : ℕ} where

@@ -12,8 +12,8 @@ use Rattle.grammar.specs.declared.Symbol.TheVariants.{Token, Nonterminal}
 use Rattle.answers.specs.Buffers.{over, counted}
 use Rattle.reader.specs.Fields.{form_in}
 use Rattle.reader.specs.Book.{byte_of}
-use Rattle.book.specs.Columns.{outlined, Lefts, Lengths}
-use Rattle.book.specs.declared.columns.Outline.{Outline}
+use Rattle.book.specs.Columns.{grammar_in, outlined, Lefts, Lengths}
+use Rattle.book.specs.declared.Index.{Index}
 use Rattle.machine.specs.Expansion.{opened, expansion, Course, Expansion, ended, wrote, applied, expand_from}
 use Rattle.machine.specs.declared.Obstacle.{Obstacle}
 use Rattle.machine.specs.declared.Obstacle.TheVariants.{Unfit, FullStack, FullOutput}
@@ -33,23 +33,23 @@ drop_next [] used {p} {qs} e = let none : ◌≡◌ {A = List ℕ} [] (p ∷ qs)
 drop_next (x ∷ list) zero e = ((cc), omega arith)
 drop_next (x ∷ list) (suc used) e = let (rest, inside) = drop_next list used e in let one : suc used + 1 ≡ suc (used + 1) = omega arith in (rw one rest, omega arith)
 
-module _ (book places : List ℕ) (o : Outline) (lefts lengths list stack₀ output₀ : List ℕ) (cells : ℕ) where
+module _ (book : List ℕ) (index : Index) (lefts lengths list stack₀ output₀ : List ℕ) (cells : ℕ) where
   abbrev fits : ℕ → ℕ → Bool
-  fits = is_of (outlined book places o)
+  fits = is_of (grammar_in book index)
 
   abbrev right : ℕ → Form
-  right = right_of (outlined book places o)
+  right = right_of (grammar_in book index)
 
   abbrev runs : List ℕ → Form → Course → Expansion
   runs = expand_from fits right (counted stack₀) (counted output₀)
 
   abbrev whole : Expansion
-  whole = expansion (outlined book places o) (counted stack₀) (counted output₀) list
+  whole = expansion (grammar_in book index) (counted stack₀) (counted output₀) list
 
   -- what stays: the columns are the book's, and so many cells of the output count
   pub record Given : Type 0 where
-    pub lefts_are : Lefts book places o lefts
-    pub lengths_are : Lengths book places o lengths
+    pub lefts_are : Lefts book index lefts
+    pub lengths_are : Lengths book index lengths
     pub cells_are : cells ≡ counted output₀
 
   pub record Unrolled (stack output : List ℕ) (height used written deepest : ℕ) : Type 0 where
@@ -69,12 +69,12 @@ module _ (book places : List ℕ) (o : Outline) (lefts lengths list stack₀ out
     pub stack_cells : stack ≡ stacked form progress.height stack₀
     pub output_cells : output ≡ over progress.written output₀
 
-  pub unrolled_start : (stack : List ℕ) → Given → 1 ≤ length stack → stack₀ ≡ set stack 0 (byte_of (Nonterminal (o.start % 128))) → Unrolled stack₀ output₀ 1 0 0 1
+  pub unrolled_start : (stack : List ℕ) → Given → 1 ≤ length stack → stack₀ ≡ set stack 0 (byte_of (Nonterminal (index.outline.start % 128))) → Unrolled stack₀ output₀ 1 0 0 1
   unfolding opened outlined
   unrolled_start stack given h e =
       record {
         given = given;
-        form = Nonterminal (o.start % 128) ∷ [];
+        form = Nonterminal (index.outline.start % 128) ∷ [];
         progress = opened;
         same = refl;
         height_is = refl;
@@ -83,10 +83,10 @@ module _ (book places : List ℕ) (o : Outline) (lefts lengths list stack₀ out
         deepest_is = refl;
         inside = omega arith;
         highest = omega arith;
-        stack_room = omega (arith, ap length e, length-set stack 0 (byte_of (Nonterminal (o.start % 128))));
+        stack_room = omega (arith, ap length e, length-set stack 0 (byte_of (Nonterminal (index.outline.start % 128))));
         output_room = omega arith;
-        spelled = each (nonterminal_spelled (o.start % 128)) nothing;
-        stack_cells = rw e (stacked_open (Nonterminal (o.start % 128)) stack h);
+        spelled = each (nonterminal_spelled (index.outline.start % 128)) nothing;
+        stack_cells = rw e (stacked_open (Nonterminal (index.outline.start % 128)) stack h);
         output_cells = refl;
       }
 
@@ -103,11 +103,11 @@ module _ (book places : List ℕ) (o : Outline) (lefts lengths list stack₀ out
     unrolled_spells : spelled_by stack height ≡ u.form
     unrolled_spells = rw (u.height_is, u.stack_cells) (spelled_stacked u.spelled u.progress.height stack₀)
 
-    module _ {m : Turn} (turn : TurnAt lefts lengths o list used stack height written cells m) where
+    module _ {m : Turn} (turn : TurnAt lefts lengths index list used stack height written cells m) where
       -- the turn is chosen by what the buffers hold and the room as it was lent
       by_form : {n : Turn} → m ≡ n → Turns fits right (counted stack₀) (counted output₀) (drop used list) u.form (length u.progress.written) n
       by_form same =
-          let k = turn.turns book places u.given.lefts_are u.given.lengths_are in
+          let k = turn.turns book u.given.lefts_are u.given.lengths_are in
           subst₃ (λ (α : Form) (w : ℕ) (n : Turn). Turns fits right (counted stack₀) (counted output₀) (drop used list) α w n) unrolled_spells u.written_is same
           (subst₂ (λ (room cells : ℕ). Turns fits right room cells (drop used list) (spelled_by stack height) written m) (ap (λ (n : ℕ). min n 65535) unrolled_stack) u.given.cells_are k)
 
@@ -155,26 +155,26 @@ module _ (book places : List ℕ) (o : Outline) (lefts lengths list stack₀ out
       pub apply_fits : {p count : ℕ} → m ≡ Apply p → count ≡ get_or lengths p 0 → ApplyFits count
       apply_fits {p = p} {count = count} same e = go (by_form same)
         where
-          side : RightSide book places o p count
-          side = right_side book places o p u.given.lengths_are e
+          side : RightSide book index p count
+          side = right_side book index p u.given.lengths_are e
 
           go : Turns fits right (counted stack₀) (counted output₀) (drop used list) u.form (length u.progress.written) (Apply p) → ApplyFits count
           go (Turns.applies {β = β} e f g h) =
-              let many : length (right p) ≡ count = ap length side.symbols ∙ length_symbols book (get_or places p 0 + 4) count in
+              let many : length (right p) ≡ count = ap length side.symbols ∙ length_symbols book (get_or index.places p 0 + 4) count in
               record { some_symbol = omega (arith, u.height_is, ap length e); list_left = (drop_next list used f).1; stack_left = omega (arith, u.height_is, ap length e, length-append (right p) β) }
 
       pub unrolled_apply : {p count place deeper : ℕ} {after : List ℕ}
           → m ≡ Apply p
           → count ≡ get_or lengths p 0
-          → place ≡ get_or places p 0
+          → place ≡ get_or index.places p 0
           → after ≡ replacing (stack_bytes (form_in book (place + 4) count)) (height - 1) stack
           → deeper ≡ max deepest (height - 1 + count)
           → Unrolled after output (height - 1 + count) (used + 1) written deeper
       unfolding applied
       unrolled_apply {p = p} {count = count} {place = place} {deeper = deeper} {after = after} same counts at replaced greatest = go (by_form same)
         where
-          side : RightSide book places o p count
-          side = right_side book places o p u.given.lengths_are counts
+          side : RightSide book index p count
+          side = right_side book index p u.given.lengths_are counts
 
           room : ApplyFits count
           room = apply_fits same counts
@@ -188,7 +188,7 @@ module _ (book places : List ℕ) (o : Outline) (lefts lengths list stack₀ out
           go (Turns.applies {A = A} {β = β} {qs = qs} e f g h) =
               let n : height ≡ suc (length β) = u.height_is ∙ ap length e in
               let below : height - 1 ≡ length β = omega arith in
-              let many : length (right p) ≡ count = ap length side.symbols ∙ length_symbols book (get_or places p 0 + 4) count in
+              let many : length (right p) ≡ count = ap length side.symbols ∙ length_symbols book (get_or index.places p 0 + 4) count in
               let long = length-append (right p) β in
               let (rest, inside) = drop_next list used f in
               record {
@@ -204,13 +204,13 @@ module _ (book places : List ℕ) (o : Outline) (lefts lengths list stack₀ out
                 highest = omega arith;
                 stack_room = omega (arith, u.stack_room);
                 output_room = u.output_room;
-                spelled = every_append (subst (λ (γ : Form). Every Spelled γ) (sym side.symbols) (symbols_spelled book (get_or places p 0 + 4) count)) (every_rest (subst (λ (γ : Form). Every Spelled γ) e u.spelled));
+                spelled = every_append (subst (λ (γ : Form). Every Spelled γ) (sym side.symbols) (symbols_spelled book (get_or index.places p 0 + 4) count)) (every_rest (subst (λ (γ : Form). Every Spelled γ) e u.spelled));
                 stack_cells = cells_are ∙ rw (at, below, u.stack_cells, e, ← side.symbols) (stacked_replace (Nonterminal A) (right p) β u.progress.height stack₀ (omega (arith, u.highest, u.height_is)) (omega arith));
                 output_cells = u.output_cells;
               }
 
       -- where no move is made
-      closes : (e : Result ⊤ Obstacle) → runs (drop used list) u.form u.progress ≡ ended e u.progress → Unfolds (outlined book places o) list stack₀ output₀ (record { ending = e; used = used; written = written; deepest = deepest }) stack output
+      closes : (e : Result ⊤ Obstacle) → runs (drop used list) u.form u.progress ≡ ended e u.progress → Unfolds (grammar_in book index) list stack₀ output₀ (record { ending = e; used = used; written = written; deepest = deepest }) stack output
       unfolding unfolded ended
       closes e k =
           let last : whole ≡ ended e u.progress = sym u.same ∙ k in
@@ -221,13 +221,13 @@ module _ (book places : List ℕ) (o : Outline) (lefts lengths list stack₀ out
             output_length = unrolled_output;
           }
 
-      pub unrolled_close : {f : Result ⊤ Obstacle} → m ≡ Close f → Unfolds (outlined book places o) list stack₀ output₀ (record { ending = f; used = used; written = written; deepest = deepest }) stack output
+      pub unrolled_close : {f : Result ⊤ Obstacle} → m ≡ Close f → Unfolds (grammar_in book index) list stack₀ output₀ (record { ending = f; used = used; written = written; deepest = deepest }) stack output
       unrolled_close same = go (by_form same)
         where
           from : (ps : List ℕ) (α : Form) → drop used list ≡ ps → u.form ≡ α → {x : Expansion} → runs ps α u.progress ≡ x → runs (drop used list) u.form u.progress ≡ x
           from ps α f g h = rw (f, g) h
 
-          go : {f : Result ⊤ Obstacle} → Turns fits right (counted stack₀) (counted output₀) (drop used list) u.form (length u.progress.written) (Close f) → Unfolds (outlined book places o) list stack₀ output₀ (record { ending = f; used = used; written = written; deepest = deepest }) stack output
+          go : {f : Result ⊤ Obstacle} → Turns fits right (counted stack₀) (counted output₀) (drop used list) u.form (length u.progress.written) (Close f) → Unfolds (grammar_in book index) list stack₀ output₀ (record { ending = f; used = used; written = written; deepest = deepest }) stack output
           go (Turns.finished e f) = closes (Ok tt) (from _ _ f e (finished_is fits right (counted stack₀) (counted output₀) u.progress))
           go (Turns.left_over {p = p} {qs = qs} e f) = closes (Err Unfit) (from _ _ f e (left_over_is fits right (counted stack₀) (counted output₀) p qs u.progress))
           go (Turns.too_short {A = A} {β = β} e f) = closes (Err Unfit) (from _ _ f e (too_short_is fits right (counted stack₀) (counted output₀) A β u.progress))

@@ -5,8 +5,8 @@ use Rattle.grammar.specs.Grammar.{Form, Grammar}
 use Rattle.grammar.specs.declared.Symbol.TheVariants.{Token, Nonterminal}
 use Rattle.answers.specs.declared.Answer.{Answer}
 use Rattle.answers.specs.Buffers.{over, counted, cleared}
-use Rattle.book.specs.declared.columns.Outline.{Outline}
-use Rattle.book.specs.Columns.{outlined, Lefts, Lengths}
+use Rattle.book.specs.declared.Index.{Index}
+use Rattle.book.specs.Columns.{grammar_in, Lefts, Lengths}
 use Rattle.machine.specs.Room.{is_of, right_of}
 use Rattle.machine.specs.Expansion.{expansion, Expansion}
 use Rattle.machine.specs.declared.Obstacle.{Obstacle}
@@ -51,14 +51,14 @@ module _ (fits : ℕ → ℕ → Bool) (right : ℕ → Form) (cells output : �
 
 -- what is done next with the first cells of the stack in use, so many productions of the list used, and so many tokens
 -- written of the output's cells; by the columns of any book
-pub record TurnAt (lefts lengths : List ℕ) (o : Outline) (list : List ℕ) (used : ℕ) (stack : List ℕ)
+pub record TurnAt (lefts lengths : List ℕ) (index : Index) (list : List ℕ) (used : ℕ) (stack : List ℕ)
     (height written cells : ℕ) (r : Turn) : Type 0 where
-  pub turns : (book places : List ℕ)
-      → Lefts book places o lefts
-      → Lengths book places o lengths
+  pub turns : (book : List ℕ)
+      → Lefts book index lefts
+      → Lengths book index lengths
       → Turns
-      (is_of (outlined book places o))
-      (right_of (outlined book places o))
+      (is_of (grammar_in book index))
+      (right_of (grammar_in book index))
       (counted stack)
       cells
       (drop used list)

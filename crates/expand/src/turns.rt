@@ -3,7 +3,9 @@ ghost use Rattle.std.specs.Prelude.{◌≡◌, ◌≤◌, length};
 ghost use Rattle.expand.specs.Turns.{emptied, TurnAt};
 
 use crate::Turn;
-use book::columns::{Outline, gathered, is_of};
+use answers::buffers::cell_or;
+use book::Index;
+use book::columns::is_of;
 use grammar::Symbol;
 use machine::Obstacle;
 use reader::fields::symbol_of;
@@ -24,7 +26,7 @@ fn at_bottom(ahead: Option<u8>) -> Result<(), Obstacle>
 pub(crate) fn turn_at(
     lefts: &[u8],
     lengths: &[u8],
-    outline: Outline,
+    index: &Index,
     list: &[u8],
     used: usize,
     stack: &[u8],
@@ -36,7 +38,7 @@ pub(crate) fn turn_at(
     ensures { TurnAt
         lefts.now
         lengths.now
-        outline
+        index.now
         list.now
         used
         stack.now
@@ -62,9 +64,11 @@ pub(crate) fn turn_at(
             let ahead = ahead_of(list, used);
             match ahead {
                 Some(p) => {
-                    if !is_of(lefts, outline, n, p) {
+                    if !is_of(lefts, index.outline, n, p) {
                         Turn::Close(Err(Obstacle::Unfit))
-                    } else if counts(stack.len()) < below + gathered(lengths, p) as usize {
+                    } else if counts(stack.len())
+                        < below + cell_or(lengths, p as usize, 0) as usize
+                    {
                         Turn::Close(Err(Obstacle::FullStack))
                     } else {
                         Turn::Apply(p)

@@ -14,8 +14,8 @@ returns-in-Unfit c = closing_stop 12 _ 0 _ c.stop.ensures c.none.ensures (c.in-E
 
 pub returns-in-FullStack : goal.returns-in-FullStack
 unfolding closing
-returns-in-FullStack c = closing_stop 7 _ 1 _ c.stop-in-FullStack.ensures c.none-in-FullStack.ensures (c.in-Err.is ∙ ap Err c.in-FullStack.is) refl
+returns-in-FullStack c = closing_stop 7 _ 1 _ (rw c.detail.ensures at c.stop-in-FullStack.ensures) c.none-in-FullStack.ensures (c.in-Err.is ∙ ap Err c.in-FullStack.is) refl
 
 pub returns-in-FullOutput : goal.returns-in-FullOutput
 unfolding closing
-returns-in-FullOutput c = closing_stop 7 _ 3 _ c.stop-in-FullOutput.ensures c.none-in-FullOutput.ensures (c.in-Err.is ∙ ap Err c.in-FullOutput.is) refl
+returns-in-FullOutput c = closing_stop 7 _ 3 _ (rw c.detail-in-FullOutput.ensures at c.stop-in-FullOutput.ensures) c.none-in-FullOutput.ensures (c.in-Err.is ∙ ap Err c.in-FullOutput.is) refl
