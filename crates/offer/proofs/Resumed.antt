@@ -9,8 +9,8 @@ use lib.Seq.{length-take-le}
 use borrow.Author.Tests.{lt-ltb, le-ltb}
 use Rattle.grammar.specs.Grammar.{Grammar}
 use Rattle.answers.specs.Buffers.{counted}
-use Rattle.book.specs.declared.Reading.{Reading}
-use Rattle.book.specs.Columns.{outline_in, grammar_in}
+use Rattle.book.specs.declared.Index.{Index}
+use Rattle.book.specs.Columns.{grammar_in}
 use Rattle.book.proofs.Promise.{outlined_sized}
 use Rattle.table.specs.Table.{column_of, cell_of}
 use Rattle.machine.specs.Machine.{Offered, taken, stopped, final}
@@ -70,31 +70,31 @@ offered_told g table column {at} {stack} {list} ready =
     let grown : Grown (standing at stack list) (final o) (gained (column_of g column) o) = offer_grown (right_of g) (cell_of g table) (counted stack) (counted list) (counted list - at.listed) (column_of g column) (standing at stack list) (omega (arith, ready.listed)) in
     reply_told g table o (omega (arith, grown.steps, grown.matches, ap length grown.lists, length-append (take at.listed list) grown.new))
 
-module _ (book : List ℕ) (reading : Reading) (table : List ℕ) (column : ℕ) {ahead : Option ℕ}
-    (same : ColumnAhead column reading.tokens ahead) {stack list : List ℕ} {r : Reply} {stack' list' : List ℕ} where
+module _ (book : List ℕ) (index : Index) (table : List ℕ) (column : ℕ) {ahead : Option ℕ}
+    (same : ColumnAhead column index.outline.tokens ahead) {stack list : List ℕ} {r : Reply} {stack' list' : List ℕ} where
   -- what is offered to every state that the buffers hold is offered to the one that they spell
   spelled_offers : {at : Progress}
       → Ready at stack list
       → at.deepest ≡ at.height
-      → OfferedAt book reading.places (outline_in reading) table ahead at stack list r stack' list'
-      → Offers (offered_to (grammar_in book reading) table column at stack list) stack list r stack' list'
+      → OfferedAt book index table ahead at stack list r stack' list'
+      → Offers (offered_to (grammar_in book index) table column at stack list) stack list r stack' list'
   unfolding offered_to
   spelled_offers {at} ready deepest offered =
       let x = offered.offers (standing at stack list) (standing_held ready deepest) in
-      let sized = outlined_sized book reading.places (outline_in reading) in
-      rw (← same.same (grammar_in book reading) sized.tokens)
+      let sized = outlined_sized book index.places index.outline in
+      rw (← same.same (grammar_in book index) sized.tokens)
       (record { answer = x.answer; stack_cells = x.holds.stack_cells; list_cells = x.holds.list_cells })
 
   pub offer_resumed : (at : Progress) {from : Progress}
       → from ≡ clamped at (length stack) (length list)
-      → OfferedAt book reading.places (outline_in reading) table ahead from stack list r stack' list'
-      → OfferedOn (grammar_in book reading) table column at stack list r stack' list'
+      → OfferedAt book index table ahead from stack list r stack' list'
+      → OfferedOn (grammar_in book index) table column at stack list r stack' list'
   unfolding clamped
   offer_resumed at clamps offered =
       let ready = clamped_ready at stack list in
-      let x : Offers (offered_to (grammar_in book reading) table column (clamped at (length stack) (length list)) stack list) stack list r stack' list' =
+      let x : Offers (offered_to (grammar_in book index) table column (clamped at (length stack) (length list)) stack list) stack list r stack' list' =
       spelled_offers ready refl (rw clamps at offered) in
       record {
         offers = x;
-        told = ap (answer_of (grammar_in book reading) table) x.answer ∙ offered_told (grammar_in book reading) table column ready;
+        told = ap (answer_of (grammar_in book index) table) x.answer ∙ offered_told (grammar_in book index) table column ready;
       }

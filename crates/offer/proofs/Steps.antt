@@ -13,8 +13,8 @@ use Rattle.grammar.specs.Machine.{front}
 use Rattle.grammar.specs.declared.Symbol.TheVariants.{Nonterminal}
 use Rattle.answers.specs.Buffers.{over, counted, cleared}
 use Rattle.reader.specs.Book.{byte_of}
-use Rattle.book.specs.Columns.{outlined}
-use Rattle.book.specs.declared.columns.Outline.{Outline}
+use Rattle.book.specs.Columns.{grammar_in}
+use Rattle.book.specs.declared.Index.{Index}
 use Rattle.table.specs.Table.{cell_of}
 use Rattle.machine.specs.Machine.{State, Offered, taken, stopped, begun, offer, run_from, final}
 use Rattle.machine.specs.declared.Reason.{Reason}
@@ -99,15 +99,15 @@ pub front_end : (tokens : List ℕ) {i matched : ℕ} → length tokens ≤ i �
 unfolding column_in
 front_end tokens h e = rw (e, drop_of_length-le tokens h)
 
-module _ (book places : List ℕ) (o : Outline) (table tokens stack₀ list₀ : List ℕ) where
+module _ (book : List ℕ) (index : Index) (table tokens stack₀ list₀ : List ℕ) where
   abbrev right : ℕ → Form
-  right = right_of (outlined book places o)
+  right = right_of (grammar_in book index)
 
   abbrev cell : ℕ → Column → math.Option ℕ
-  cell = cell_of (outlined book places o) table
+  cell = cell_of (grammar_in book index) table
 
   abbrev pub whole : Offered
-  whole = ran (outlined book places o) table tokens stack₀ list₀
+  whole = ran (grammar_in book index) table tokens stack₀ list₀
 
   pub record Running (at : Progress) (stack list : List ℕ) : Type 0 where
     pub state : State
@@ -120,15 +120,15 @@ module _ (book places : List ℕ) (o : Outline) (table tokens stack₀ list₀ :
 
   -- what the run leaves before the stack is cleared
   abbrev Ends : Reply → List ℕ → List ℕ → Type 0
-  Ends = Stepped (outlined book places o) table tokens stack₀ list₀
+  Ends = Stepped (grammar_in book index) table tokens stack₀ list₀
 
-  pub running_start : (stack : List ℕ) → 1 ≤ length stack → stack₀ ≡ set stack 0 (byte_of (Nonterminal (o.start % 128))) → Running (record { height = 1; listed = 0; matched = 0; deepest = 1 }) stack₀ list₀
+  pub running_start : (stack : List ℕ) → 1 ≤ length stack → stack₀ ≡ set stack 0 (byte_of (Nonterminal (index.outline.start % 128))) → Running (record { height = 1; listed = 0; matched = 0; deepest = 1 }) stack₀ list₀
   unfolding ran begun outlined
   running_start stack h e =
       record {
-        state = begun (o.start % 128);
+        state = begun (index.outline.start % 128);
         same = refl;
-        holds = rw e (begun_held (o.start % 128) stack list₀ h);
+        holds = rw e (begun_held (index.outline.start % 128) stack list₀ h);
         inside = omega arith;
         lists = refl;
         stack_length = refl;
@@ -155,7 +155,7 @@ module _ (book places : List ℕ) (o : Outline) (table tokens stack₀ list₀ :
     next = offer right cell (counted stack₀) (counted list₀) left (front rest) w.state
 
     module _ {a : Option ℕ} {r : Reply} {stack' list' : List ℕ} (ahead : column_in a ≡ front rest)
-        (offered : OfferedAt book places o table a at stack list r stack' list') where
+        (offered : OfferedAt book index table a at stack list r stack' list') where
       offering : Offering next stack list r stack' list'
       offering =
           let room : counted stack ≡ counted stack₀ = ap (λ (n : ℕ). min n 65535) w.stack_length in

@@ -3,8 +3,8 @@
 use Rattle.std.specs.Prelude.{◌≡◌, List, ℕ, ◌+◌, ◌-◌, ◌^◌, ◌≤◌, ◌<◌, length, Option}
 use Rattle.grammar.specs.Grammar.{Grammar, Every}
 use Rattle.answers.specs.Buffers.{over, counted}
-use Rattle.book.specs.declared.columns.Outline.{Outline}
-use Rattle.book.specs.Columns.{outlined}
+use Rattle.book.specs.declared.Index.{Index}
+use Rattle.book.specs.Columns.{grammar_in}
 use Rattle.table.specs.Table.{column_of, cell_of}
 use Rattle.machine.specs.Machine.{State, Offered, final, offer}
 use Rattle.machine.specs.Room.{right_of}
@@ -49,14 +49,14 @@ pub record ColumnAhead (column T : ℕ) (r : Option ℕ) : Type 0 where
   pub same : (g : Grammar) → g.tokens ≡ T → column_in r ≡ column_of g column
 
 -- whatever state the buffers hold, they come to what the machine makes of it
-pub record OfferedAt (book places : List ℕ) (o : Outline) (table : List ℕ) (ahead : Option ℕ) (at : Progress)
+pub record OfferedAt (book : List ℕ) (index : Index) (table : List ℕ) (ahead : Option ℕ) (at : Progress)
     (stack list : List ℕ) (r : Reply) (stack' list' : List ℕ) : Type 0 where
   pub offers : (s : State)
       → Holds s at stack list stack list
       → Offering
       (offer
-      (right_of (outlined book places o))
-      (cell_of (outlined book places o) table)
+      (right_of (grammar_in book index))
+      (cell_of (grammar_in book index) table)
       (counted stack)
       (counted list)
       (counted list - at.listed)

@@ -1,12 +1,12 @@
 -- One column offered to a run in progress, for every book, reading, table, buffer and count.
 -- Document 01, "Running and expanding": at most 65,535 cells of a buffer count, and so of the matched tokens that the
 -- caller tells of. Document 02, W7: the most stack cells held are told of this one offer.
-use Rattle.std.specs.Prelude.{◌≡◌, ◌≢◌, List, ℕ, ◌+◌, ◌-◌, min, length, take, Ok, Err}
+use Rattle.std.specs.Prelude.{◌≡◌, List, ℕ, ◌+◌, ◌-◌, min, length, take, Result, Ok, Err}
 use Rattle.grammar.specs.Grammar.{Grammar}
-use Rattle.answers.specs.Refusals.{served}
+use Rattle.answers.specs.declared.Answer.{Answer}
 use Rattle.answers.specs.Buffers.{over, counted}
 use Rattle.answers.specs.Limits.{most_cells}
-use Rattle.book.specs.declared.Reading.{Reading}
+use Rattle.book.specs.declared.Index.{Index}
 use Rattle.book.specs.Columns.{grammar_in}
 use Rattle.table.specs.Table.{column_of, cell_of}
 use Rattle.machine.specs.Machine.{State, Offered, taken, stopped, final, offer}
@@ -84,13 +84,14 @@ pub record OfferedOn (g : Grammar) (table : List ℕ) (column : ℕ) (at : Progr
   pub told : answer_of g table r
       ≡ run_answer g table (offered_to g table column (clamped at (length stack) (length list)) stack list)
 
--- an offer: the refusal of a reading that was refused, with nothing changed, or an offer on the grammar that it tells
--- of
-pub data OfferOutcome (book : List ℕ) (reading : Reading) (table : List ℕ) (column : ℕ) (at : Progress)
+-- an offer: the refusal of a book that was refused, with nothing changed, or an offer on the grammar that its index
+-- tells of
+pub data OfferOutcome (book : List ℕ) (reading : Result Index Answer) (table : List ℕ) (column : ℕ) (at : Progress)
     (stack list : List ℕ) : Reply → List ℕ → List ℕ → Type 0 where
-  refused : reading.answer.number ≢ served
-      → OfferOutcome book reading table column at stack list (Err (Refused reading.answer)) stack list
-  offered : {r : Reply} {stack' list' : List ℕ}
-      → reading.answer.number ≡ served
-      → OfferedOn (grammar_in book reading) table column at stack list r stack' list'
+  refused : {answer : Answer}
+      → reading ≡ Err answer
+      → OfferOutcome book reading table column at stack list (Err (Refused answer)) stack list
+  offered : {index : Index} {r : Reply} {stack' list' : List ℕ}
+      → reading ≡ Ok index
+      → OfferedOn (grammar_in book index) table column at stack list r stack' list'
       → OfferOutcome book reading table column at stack list r stack' list'

@@ -5,7 +5,9 @@ ghost use Rattle.stack.specs.Ahead.{column_in};
 ghost use Rattle.offer.specs.Moves.{Bottom, CellFacing, Decision, Choice};
 
 use crate::{Move, Step};
-use book::columns::{Outline, gathered};
+use answers::buffers::cell_or;
+use book::Index;
+use book::columns::Outline;
 use grammar::Symbol;
 use machine::Reason;
 use reader::fields::symbol_of;
@@ -78,7 +80,7 @@ fn at_bottom(ahead: Option<u8>) -> Result<Move, Reason>
 // What is done next with the first `height` cells of the stack in use and `listed` of the list's `cells`.
 pub(crate) fn choose(
     lengths: &[u8],
-    outline: Outline,
+    index: &Index,
     table: &[u8],
     ahead: Option<u8>,
     stack: &[u8],
@@ -89,7 +91,7 @@ pub(crate) fn choose(
     requires { height ≤ length stack.now }
     ensures { Choice
         lengths.now
-        outline
+        index.now
         table.now
         ahead
         stack.now
@@ -103,14 +105,14 @@ pub(crate) fn choose(
     }
     let below = height - 1;
     let symbol = symbol_of(stack[below]);
-    let choice = decide(Step { symbol, ahead }, table, outline)?;
+    let choice = decide(Step { symbol, ahead }, table, index.outline)?;
     let Move::Use(p) = choice else {
         return Ok(choice);
     };
     if cells <= listed {
         return Err(Reason::FullList);
     }
-    if counts(stack.len()) < below + gathered(lengths, p) as usize {
+    if counts(stack.len()) < below + cell_or(lengths, p as usize, 0) as usize {
         return Err(Reason::FullStack);
     }
     Ok(choice)

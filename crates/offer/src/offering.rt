@@ -6,11 +6,11 @@ ghost use Rattle.offer.specs.Resuming.{clamped, OfferedOn, OfferOutcome};
 
 use crate::moves::choose;
 use crate::{Halt, Move, Progress};
+use answers::Answer;
+use answers::buffers::cell_or;
 use answers::limits::MOST_CELLS;
-use answers::refusals::DONE;
-use book::Reading;
-use book::columns::{Outline, gather_lengths, gathered, outline_of};
-use reader::fields::place_at;
+use book::Index;
+use book::columns::gather_lengths;
 use stack::{counts, replace};
 
 // The token on top is matched and popped.
@@ -30,20 +30,18 @@ fn pop(stack: &mut [u8], at: Progress) -> Progress
 // One column is offered: productions are used until it is taken or the run stops.
 pub(crate) fn offer_at(
     book: &[u8],
-    places: &[u16],
+    index: &Index,
     lengths: &[u8],
-    outline: Outline,
     table: &[u8],
     ahead: Option<u8>,
     stack: &mut [u8],
     list: &mut [u8],
     at: Progress,
 ) -> Result<Progress, Halt>
-    requires { Ready at stack.old list.old × Lengths book.now places.now outline lengths.now }
+    requires { Ready at stack.old list.old × Lengths book.now index.now lengths.now }
     ensures { OfferedAt
         book.now
-        places.now
-        outline
+        index.now
         table.now
         ahead
         at
@@ -64,18 +62,19 @@ pub(crate) fn offer_at(
             matched: at.matched,
             deepest,
         };
-        let choice = choose(lengths, outline, table, ahead, stack, height, cells, listed);
+        let choice = choose(lengths, index, table, ahead, stack, height, cells, listed);
         let next = match choice {
             Ok(next) => next,
             Err(reason) => return Err(Halt::Stopped(reason, here)),
         };
         match next {
             Move::Use(p) => {
-                let count = gathered(lengths, p);
+                let count = cell_or(lengths, p as usize, 0);
                 let below = height - 1;
                 list[listed] = p;
                 listed += 1;
-                replace(book, place_at(places, p as usize), count, stack, below);
+                let at = cell_or(&index.places, p as usize, 0);
+                replace(book, at, count, stack, below);
                 height = below + count as usize;
                 deepest = deepest.max(height);
             }
@@ -105,10 +104,10 @@ fn clamp(at: Progress, stack: usize, list: usize) -> Progress
     }
 }
 
-// One column offered to a run in progress, by the grammar that a reading tells of.
+// One column offered to a run in progress, by the grammar that an index tells of.
 fn offer_on(
     book: &[u8],
-    reading: Reading,
+    index: &Index,
     table: &[u8],
     column: u8,
     stack: &mut [u8],
@@ -116,7 +115,7 @@ fn offer_on(
     at: Progress,
 ) -> Result<Progress, Halt>
     ensures { OfferedOn
-        (grammar_in book.now reading)
+        (grammar_in book.now index.now)
         table.now
         column
         at
@@ -126,14 +125,10 @@ fn offer_on(
         stack.new
         list.new }
 {
-    let places = reading.places;
-    let outline = outline_of(reading);
-    let lengths = gather_lengths(book, &places, outline);
-    let ahead = column_ahead(column, reading.tokens);
+    let lengths = gather_lengths(book, index);
+    let ahead = column_ahead(column, index.outline.tokens);
     let from = clamp(at, stack.len(), list.len());
-    offer_at(
-        book, &places, &lengths, outline, table, ahead, stack, list, from,
-    )
+    offer_at(book, index, &lengths, table, ahead, stack, list, from)
 }
 
 // One column offered to a run in progress, whatever the reading and the counts; every column from T on is the end
@@ -141,7 +136,7 @@ fn offer_on(
 // was refused, that is the reply, and nothing changes.
 pub fn offer(
     book: &[u8],
-    reading: Reading,
+    reading: Result<Index, Answer>,
     table: &[u8],
     column: u8,
     stack: &mut [u8],
@@ -160,9 +155,6 @@ pub fn offer(
         stack.new
         list.new }
 {
-    let judged = reading.answer;
-    if judged.number != DONE {
-        return Err(Halt::Refused(judged));
-    }
-    offer_on(book, reading, table, column, stack, list, at)
+    let index = reading?;
+    offer_on(book, &index, table, column, stack, list, at)
 }
