@@ -13,7 +13,7 @@ use Rattle.grammar.specs.Machine.{front}
 use Rattle.grammar.specs.declared.Symbol.TheVariants.{Nonterminal}
 use Rattle.answers.specs.Buffers.{over, counted, cleared}
 use Rattle.reader.specs.Book.{byte_of}
-use Rattle.book.specs.Columns.{grammar_in}
+use Rattle.book.specs.Columns.{grammar_in, outlined}
 use Rattle.book.specs.declared.Index.{Index}
 use Rattle.table.specs.Table.{cell_of}
 use Rattle.machine.specs.Machine.{State, Offered, taken, stopped, begun, offer, run_from, final}

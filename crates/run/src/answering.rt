@@ -117,7 +117,13 @@ fn values_of(table: &[u8], outline: Outline, reply: Result<Progress, Halt>) -> A
         Halt::Stopped(reason, _) => {
             let expected = expects(table, outline, reason);
             let place = at.matched as u64;
-            stop(refusal_of(reason), place, detail_of(reason), steps, expected)
+            stop(
+                refusal_of(reason),
+                place,
+                detail_of(reason),
+                steps,
+                expected,
+            )
         }
         Halt::Refused(answer) => answer,
     }

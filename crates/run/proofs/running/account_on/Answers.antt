@@ -9,7 +9,9 @@ pub returns-in-Err : goal.returns-in-Err
 returns-in-Err c = account_barred (c.in-Err.ensures.checked c.args.stack.now refl)
 
 pub answer_of-requires : goal.answer_of-requires
-answer_of-requires c = ?
+answer_of-requires c =
+    string_countable c.offer_string-reply.ensures (omega (arith, (c.in_default.ensures.checked c.args.stack.now refl).short))
 
 pub returns : goal.returns
-returns c = ?
+returns c =
+    account_stepped (c.in_default.ensures.checked c.args.stack.now refl) (outlined_sized _ _ _) c.offer_string-reply.ensures c.progress_of-at.ensures c.answer_of.ensures
