@@ -40,9 +40,7 @@ fn offer_all(
     };
     for token in tokens {
         let ahead = Some(*token);
-        at = offer_at(
-            book, index, lengths, table, ahead, stack, list, at,
-        )?;
+        at = offer_at(book, index, lengths, table, ahead, stack, list, at)?;
     }
     offer_at(book, index, lengths, table, None, stack, list, at)
 }

@@ -1,6 +1,6 @@
 -- The calls on a judged book: each allows one outcome, and on what judging gives, a table that fits and tokens of the book's own the judged
 -- run is the run.
-use Rattle.std.specs.Prelude.{Result, Ok, Err}
+use Rattle.std.specs.Prelude.{Result}
 use mathlib.Core.Path.{◌≡◌, refl, sym, ap, ◌∙◌, subst}
 use mathlib.Core.List.{List}
 use Prim.Native.Nat.{ℕ, ◌+◌, ◌-◌}
@@ -9,7 +9,7 @@ use lib.ListN.{length}
 use Rattle.grammar.specs.Grammar.{Grammar}
 use Rattle.answers.specs.declared.Answer.{Answer}
 use Rattle.answers.specs.Answers.{refusal, at_depth}
-use Rattle.book.specs.Judging.{Refuses, misread, useless_one, Serves, Judged, Indexes}
+use Rattle.book.specs.Judging.{Refuses, misread, useless_one, Serves, Judged}
 use Rattle.book.specs.declared.Index.{Index}
 use Rattle.book.specs.Columns.{grammar_in}
 use Rattle.book.proofs.Promise.{reading_grammar}

@@ -1,13 +1,12 @@
 -- The answer of a run from the reply that the code has for its outcome.
 use mathlib.Core.Path.{◌≡◌, refl, ◌∙◌, ap, subst}
-use mathlib.Core.Logic.{◌≢◌}
 use mathlib.Core.List.{List}
 use Prim.Native.Nat.{ℕ, ◌+◌, ◌-◌, ◌^◌, ◌≤◌, ◌<◌}
 use native.Mathlib.Omega.{arith}
 use lib.ListN.{length, take, drop, length-drop}
 use lib.Seq.{take_all}
 use Rattle.grammar.specs.Grammar.{Grammar}
-use Rattle.answers.specs.Answers.{done, refusal, stop, at_depth}
+use Rattle.answers.specs.Answers.{refusal, stop, at_depth}
 use Rattle.answers.specs.declared.Answer.{Answer}
 use Rattle.answers.specs.Buffers.{counted}
 use Rattle.book.specs.Judging.{Refuses, Indexes}

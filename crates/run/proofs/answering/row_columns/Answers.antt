@@ -1,6 +1,5 @@
 use Rattle.sets.proofs.Promise.{none_is}
 use Rattle.offer.specs.Stops.{filled_below}
-use Rattle.run.proofs.Expected.{rows_over}
 use Rattle.run.proofs.answering.row_columns.Goals as goal
 
 pub loop-j-init : goal.loop-j-init
