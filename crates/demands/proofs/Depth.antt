@@ -30,7 +30,8 @@ use Rattle.offer.specs.Stops.{answered, run_answer}
 use Rattle.offer.proofs.Promise.{told_steps, told_depth}
 use Rattle.run.specs.Running.{Barred, Admits, RunOutcome}
 use Rattle.run.specs.Running as running
-use Rattle.run.proofs.Promise.{Result, run_outcome_unique}
+use Rattle.run.proofs.Promise.{run_outcome_unique}
+use Rattle.run.proofs.Promise as runs
 use Rattle.expand.specs.Expanding.{closing, answered_by, expand_answer, ExpandOutcome}
 use Rattle.expand.specs.Expanding as expanding
 use Rattle.expand.proofs.Promise.{told_height, told_moves, told_complete, told_with_room, expand_outcome_unique}
@@ -140,7 +141,7 @@ module _ (book table tokens stack list : List ℕ) (r : Ran) (o : MayRun book ta
       goes : {a : Answer} {t l : List ℕ} → r.answer ≡ a → r.list ≡ l → RunOutcome book table tokens other list a t l → (q.answer ≡ r.answer) × (q.list ≡ r.list)
       goes e f c =
           let same = run_outcome_unique book table tokens other list p c in
-          (ap (λ (x : Result). x.0) same ∙ sym e, ap (λ (x : Result). x.2) same ∙ sym f)
+          (ap (λ (x : runs.Result). x.0) same ∙ sym e, ap (λ (x : runs.Result). x.2) same ∙ sym f)
 
       go : {a : Answer} {t l : List ℕ} → r.answer ≡ a → r.stack ≡ t → r.list ≡ l → RunOutcome book table tokens stack list a t l
           → r.answer.depth ≤ counted other → (q.answer ≡ r.answer) × (q.list ≡ r.list)
@@ -177,7 +178,7 @@ module _ (book table tokens stack list : List ℕ) (r : Ran) (o : MayRun book ta
       go g s a (no n) =
           let none : length other ≡ 0 = omega arith in
           let same = run_outcome_unique book table tokens other list p (running.barred s (running.no_stack a.fits a.short a.known none)) in
-          (ap (λ (x : Result). x.0.number) same, ap (λ (x : Result). x.0.detail) same, λ k. absurd (omega arith))
+          (ap (λ (x : runs.Result). x.0.number) same, ap (λ (x : runs.Result). x.0.detail) same, λ k. absurd (omega arith))
 
 module _ (book table tokens stack list : List ℕ) (r : Ran) (o : MayRun book table tokens stack list r) where
   -- a string that is accepted: as deep as its derivation is high
@@ -272,7 +273,7 @@ module _ (book list stack output : List ℕ) (r : Expanded) (o : MayExpand book 
       goes : {a : Answer} {t w : List ℕ} → r.answer ≡ a → r.output ≡ w → ExpandOutcome book list other output a t w → (q.answer ≡ r.answer) × (q.output ≡ r.output)
       goes e f c =
           let same = expand_outcome_unique book list other output p c in
-          (ap (λ (x : Result). x.0) same ∙ sym e, ap (λ (x : Result). x.2) same ∙ sym f)
+          (ap (λ (x : runs.Result). x.0) same ∙ sym e, ap (λ (x : runs.Result). x.2) same ∙ sym f)
 
       go : {a : Answer} {t w : List ℕ} → r.answer ≡ a → r.stack ≡ t → r.output ≡ w → ExpandOutcome book list stack output a t w
           → r.answer.depth ≤ counted other → (q.answer ≡ r.answer) × (q.output ≡ r.output)
@@ -311,7 +312,7 @@ module _ (book list stack output : List ℕ) (r : Expanded) (o : MayExpand book 
       go g s short stacked (no n) =
           let none : length other ≡ 0 = omega arith in
           let same = expand_outcome_unique book list other output p (expanding.no_stack s short none) in
-          (ap (λ (x : Result). x.0.number) same, ap (λ (x : Result). x.0.detail) same, λ k. absurd (omega arith))
+          (ap (λ (x : runs.Result). x.0.number) same, ap (λ (x : runs.Result). x.0.detail) same, λ k. absurd (omega arith))
 
 module _ (book list stack output : List ℕ) (r : Expanded) (o : MayExpand book list stack output r) where
   -- a complete list: as deep as its derivation is high
