@@ -22,7 +22,7 @@ use Rattle.answers.specs.Lowest.{LowestAt}
 use Rattle.answers.specs.Refusals as refusals
 use Rattle.book.specs.declared.Index.{Index}
 use Rattle.first.specs.Forms.{Lists}
-use Rattle.first.proofs.Promise.{given_lists, given_served, given_limits, left_is, rule_at, no_member}
+use Rattle.first.proofs.Promise.{given_lists, given_served, given_limits, given_count, left_is, rule_at, no_member}
 use Rattle.table.specs.Table.{size, row_at, column_at, ClaimsCell, held}
 use Rattle.table.specs.Fitting.{Fits}
 use Rattle.table.specs.Fitting as fitting
@@ -121,11 +121,11 @@ module _ {book : List ℕ} {index : Index} {ahead table : List ℕ} (x : Compara
 
   -- a contested cell has a row and two claimants, which are the first conflict
   module _ {r : ℕ} (found : LowestAt (λ i. Twice (Claimed i)) (length table) r) where
-    pub compare_contested : (row_of T r < 256) × Twice (Claimed r)
+    pub compare_contested : (index.outline.productions ≤ 128) × (row_of T r < 256) × Twice (Claimed r)
     compare_contested =
         let row = row_inside g {i = r} (omega (arith, found.inside, x.fits.sized)) in
         let same_row : row_of T r ≡ row_at g r = ap (λ (t : ℕ). r / (t + 1)) same in
-        (omega (arith, (given_limits x.given).nonterminals_fit), found.holds)
+        (given_count x.given, omega (arith, (given_limits x.given).nonterminals_fit), found.holds)
 
     pub compare_conflict : {a : Answer} → Disputed (Claimed r) r a → CheckOutcome book table a
     compare_conflict (disputed k) =

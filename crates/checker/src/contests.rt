@@ -114,7 +114,7 @@ fn claimant(
 
 // The refusal of a contested cell: its lowest claimant, and the next from there on.
 pub(crate) fn conflict_at(book: &[u8], index: &Index, ahead: &[u64], cell: usize) -> Answer
-    requires { (row_of index.now.outline.tokens cell < 256)
+    requires { (index.now.outline.productions ≤ 128) × (row_of index.now.outline.tokens cell < 256)
         × Twice (claims_before (left_of book.now index.now.places)
         (set_at ahead.now) index.now.outline.tokens index.now.outline.productions cell) }
     ensures { Disputed (claims_before (left_of book.now index.now.places)

@@ -8,7 +8,7 @@ use Rattle.checker.proofs.check_all.Goals as goal
 pub returns-in_err-index : goal.returns-in_err-index
 returns-in_err-index c =
     let p = err_from_is_err_and c.from_residual.result c.from_residual.ensures.1 in
-    rw (p.1, p.2) ?
+    rw (p.1, p.2, c.in_err-index.ensures.1) (refused c.in_err-index.ensures.0)
 
 pub slice_bounds-compare-end : goal.slice_bounds-compare-end
 slice_bounds-compare-end c = sym c.in_ok-index.ensures.looks.sized
