@@ -15,7 +15,7 @@ use answers::{Answer, done, refusal};
 use reader::fields::{
     NONTERMINALS, PRODUCTIONS, START, SYMBOLS, TOKENS, byte_at, left_at, length_at,
 };
-use reader::spelling::read;
+use reader::walk::read;
 use text::{decimal, put};
 
 // No sheet of a book is longer.
