@@ -7,7 +7,7 @@ ghost use Rattle.states.specs.Making as making;
 use crate::filling::fill;
 use crate::finding::{find, runs};
 use answers::limits::{BYTE_VALUES, MOST_STATES, POINT_WORDS, ROW_CELLS};
-use answers::refusals::{MACHINE_ROOM, ROOM, STATES};
+use answers::refusals::{Lent, Refusal};
 use answers::{Answer, done, refusal};
 
 mod filling;
@@ -55,11 +55,11 @@ pub fn make(readers: &[u64], follow: &[u64], machine: &mut [u16]) -> MachineMade
     let mut sets = [0u64; SETS];
     let count = find(&mut sets, readers, &ends, follow);
     if MOST_STATES < count {
-        return not_made(STATES, MOST_STATES as u64, 0);
+        return not_made(Refusal::States, MOST_STATES as u64, 0);
     }
     let cells = count * ROW_CELLS;
     if machine.len() < cells {
-        return not_made(ROOM, cells as u64, MACHINE_ROOM);
+        return not_made(Refusal::Room, cells as u64, Lent::Machine.detail());
     }
     fill(machine, &sets, count, readers, &ends, follow);
     made_of(count as u64)
