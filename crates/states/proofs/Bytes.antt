@@ -7,6 +7,8 @@ use native.Mathlib.Decide.{dec_lt}
 use native.Mathlib.Omega.{arith}
 use lib.ListN.{get_or, set, length-set}
 use lib.Seq.{get_or-set_same, get_or-set_other}
+use Rattle.std.specs.List.{between}
+use Rattle.std.proofs.lemmas.List.Edits.{get_or-between}
 use Rattle.sets.specs.Sets.{Exactly}
 use Rattle.sets.specs.Words.{places}
 use Rattle.points.proofs.Promise.{points_alike}
@@ -14,12 +16,20 @@ use Rattle.answers.specs.Limits.{position_words, point_words, byte_values}
 use Rattle.moves.specs.Tables.{readers_of, NextPoint}
 use Rattle.states.specs.Searching.{RunEnd, Runs}
 
--- bytes whose words are the same have the same readers
-pub same_readers : (readers : List ℕ) (b c : ℕ)
-    → ((j : ℕ) → j < position_words → get_or readers (c * position_words + j) 0 ≡ get_or readers (b * position_words + j) 0)
-    → readers_of readers c ≡ readers_of readers b
+-- where two parts of the table one behind the other are the same, two bytes have the same readers
+pub part_readers : (readers : List ℕ) (b : ℕ)
+    → between (b * position_words + position_words) (b * position_words + position_words + position_words) readers
+    ≡ between (b * position_words) (b * position_words + position_words) readers
+    → readers_of readers (b + 1) ≡ readers_of readers b
 unfolding readers_of
-same_readers readers b c alike = points_alike readers readers (c * position_words) (b * position_words) position_words alike
+part_readers readers b same =
+    let next : (b + 1) * position_words ≡ b * position_words + position_words = omega arith in
+    rw next
+    (points_alike readers readers (b * position_words + position_words) (b * position_words) position_words
+    (λ j inside.
+    sym (get_or-between readers (b * position_words + position_words) (b * position_words + position_words + position_words) j 0 (omega arith))
+    ∙ ap (λ (l : List ℕ). get_or l j 0) same
+    ∙ get_or-between readers (b * position_words) (b * position_words + position_words) j 0 (omega arith)))
 
 -- a byte by itself
 pub run_one : (readers : List ℕ) (b : ℕ) → b < byte_values → RunEnd readers b (b + 1)

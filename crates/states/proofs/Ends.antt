@@ -1,6 +1,6 @@
 -- The lowest end in a set: what it says, and where it is found word by word.
 use mathlib.Core.Path.{◌≡◌, refl, sym, ◌∙◌}
-use mathlib.Core.Bool.{true, false, cond}
+use mathlib.Core.Bool.{Bool, true, false, cond}
 use mathlib.Core.List.{List}
 use Prim.Native.Nat.{ℕ, zero, suc, ◌+◌, ◌-◌, ◌*◌, ◌/◌, ◌%◌, ◌≤◌, ◌<◌}
 use native.Mathlib.Decide.{dec_lt}
@@ -10,7 +10,7 @@ use lib.ListN.{get_or}
 use borrow.Author.Tests.{lt-ltb, le-ltb}
 use Rattle.sets.specs.Sets.{member}
 use Rattle.sets.specs.Words.{word_width, AreWords}
-use Rattle.points.specs.Points.{Lowest}
+use Rattle.answers.specs.Lowest.{LowestAt}
 use Rattle.points.proofs.Promise.{member_points}
 use Rattle.answers.specs.Limits.{most_patterns, most_positions, position_words, point_words}
 use Rattle.moves.specs.Tables.{set_of}
@@ -61,6 +61,10 @@ token_end x j there lower = go (dec_lt j most_patterns)
         rw (le-ltb j most_patterns (omega arith))
         (sym (end_none x 0 most_patterns (λ i above below. lower i (omega arith))))
 
+not_true : (b : Bool) → ¬ (b ≡ true) → b ≡ false
+not_true true none = absurd (none refl)
+not_true false none = refl
+
 -- no end in the words before word i
 abbrev pub NoEnd : List ℕ → ℕ → ℕ → Type 0
 NoEnd sets s i = (k : ℕ) → k < (i - position_words) * word_width → member (most_positions + k) (set_of sets s) ≡ false
@@ -77,27 +81,31 @@ module _ (sets : List ℕ) (s : ℕ) (hs : AreWords sets) where
       let place : (most_positions + k) % word_width ≡ k - (i - position_words) * word_width = omega arith in
       member_points sets (s * point_words) point_words (most_positions + k) hs (omega arith) ∙ rw (word, place)
 
-  module _ (i bit : ℕ) (from : position_words ≤ i) (inside : i < point_words)
-      (lowest : Lowest (get_or sets (s * point_words + i) 0) bit)
-      (before : NoEnd sets s i) where
-    lower : (k : ℕ) → k < (i - position_words) * word_width + bit → member (most_positions + k) (set_of sets s) ≡ false
-    lower k below = go (dec_lt k ((i - position_words) * word_width))
+  module _ (i : ℕ) (from : position_words ≤ i) (inside : i < point_words) (before : NoEnd sets s i) where
+    -- no end is lower than where the word has no member yet
+    lower : (bit : ℕ) → bit ≤ word_width → ((k : ℕ) → k < bit → ¬ (member k (get_or sets (s * point_words + i) 0) ≡ true))
+        → (k : ℕ) → k < (i - position_words) * word_width + bit
+        → member (most_positions + k) (set_of sets s) ≡ false
+    lower bit short none k below = go (dec_lt k ((i - position_words) * word_width))
       where
         go : Dec (k < (i - position_words) * word_width) → member (most_positions + k) (set_of sets s) ≡ false
         go (yes early) = before k early
         go (no late) =
-            here i k from inside (omega arith) (omega (arith, lowest.within))
-            ∙ lowest.below (k - (i - position_words) * word_width) (omega arith)
+            here i k from inside (omega arith) (omega arith)
+            ∙ not_true (member (k - (i - position_words) * word_width) (get_or sets (s * point_words + i) 0))
+            (none (k - (i - position_words) * word_width) (omega arith))
 
-    pub ends_found : bit < word_width
+    pub ends_found : {bit : ℕ} → LowestAt (λ (k : ℕ). member k (get_or sets (s * point_words + i) 0) ≡ true) word_width bit
         → end_cell ((i - position_words) * word_width + bit) ≡ token_of (set_of sets s)
-    ends_found short =
+    ends_found {bit} lowest =
         let end = (i - position_words) * word_width + bit in
+        let short : bit < word_width = lowest.inside in
         let place : end - (i - position_words) * word_width ≡ bit = omega arith in
-        token_end (set_of sets s) end (here i end from inside (omega arith) (omega arith) ∙ rw place (lowest.there short)) lower
+        token_end (set_of sets s) end (here i end from inside (omega arith) (omega arith) ∙ rw place lowest.holds)
+        (lower bit (omega arith) lowest.earlier)
 
-    pub ends_more : word_width ≤ bit → NoEnd sets s (i + 1)
-    ends_more past k below = lower k (omega arith)
+    pub ends_more : ((k : ℕ) → k < word_width → ¬ (member k (get_or sets (s * point_words + i) 0) ≡ true)) → NoEnd sets s (i + 1)
+    ends_more none k below = lower word_width (omega arith) none k (omega arith)
 
 pub ends_none : (sets : List ℕ) (s i : ℕ) → point_words ≤ i → NoEnd sets s i → no_cell ≡ token_of (set_of sets s)
 unfolding token_of

@@ -9,13 +9,9 @@ use lib.Seq.{get_or-set_same, get_or-set_other}
 use Rattle.answers.specs.Limits.{byte_values, row_cells}
 use Rattle.moves.specs.Tables.{readers_of, set_of}
 use Rattle.states.specs.Machine.{token_of}
-use Rattle.states.specs.Searching.{Target, RunEnd}
+use Rattle.states.specs.Searching.{RunEnd}
 use Rattle.states.specs.Filling.{Cell, CellsSpread, Filled}
 use Rattle.states.proofs.Bytes.{exactly_repeats}
-
-module _ {readers follow sets : List ℕ} {n i b r : ℕ} where
-  pub cell_target : {next : List ℕ} → Target readers follow sets n i b next r → Cell readers follow sets n i b r
-  cell_target {next} t = record { points = set_of next 0; exact = t.exact; number = t.number }
 
 -- by a byte with the same readers
 cell_run : {readers follow sets : List ℕ} {n i b c r : ℕ} → readers_of readers c ≡ readers_of readers b
@@ -27,33 +23,6 @@ cell_run {readers} {follow} {sets} {n} {i} {b} {c} same cell =
       exact = exactly_repeats readers follow (set_of sets i) b c (sym same) cell.exact;
       number = cell.number;
     }
-
--- the cells of a run, one by one
-pub spread_none : (machine : List ℕ) (from value : ℕ) → CellsSpread machine from from value machine
-spread_none machine from value =
-    record {
-      long = refl;
-      there = λ k low high. absurd (omega arith);
-      before_it = λ k low. refl;
-      behind_it = λ k high. refl;
-    }
-
-pub spread_more : {before : List ℕ} {from to value : ℕ} {after : List ℕ} → from ≤ to → to < length before
-    → CellsSpread before from to value after
-    → CellsSpread before from (to + 1) value (set after to value)
-spread_more {before} {from} {to} {value} {after} low inside s =
-    record {
-      long = length-set after to value ∙ s.long;
-      there = λ k above below. go k above below (dec_lt k to);
-      before_it = λ k early. get_or-set_other after to k value 0 (λ e. omega arith) ∙ s.before_it k early;
-      behind_it = λ k late. get_or-set_other after to k value 0 (λ e. omega arith) ∙ s.behind_it k (omega arith);
-    }
-  where
-    go : (k : ℕ) → from ≤ k → k < to + 1 → Dec (k < to) → get_or (set after to value) k 0 ≡ value
-    go k above below (yes early) = get_or-set_other after to k value 0 (λ e. omega arith) ∙ s.there k above early
-    go k above below (no last) =
-        let here : k ≡ to = omega arith in
-        rw here (get_or-set_same after to value 0 (omega (arith, s.long)))
 
 pub filled_none : (readers follow sets : List ℕ) (n : ℕ) (machine : List ℕ) → Filled readers follow sets n machine 0 machine
 filled_none readers follow sets n machine =
