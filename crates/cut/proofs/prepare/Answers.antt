@@ -4,7 +4,6 @@ use Prim.Native.Nat.{ℕ}
 use native.Mathlib.Omega.{arith}
 use lib.ListN.{replicate, length-replicate}
 use Rattle.patterns.specs.Calls.{readers_length, follow_length, TablesFit}
-use Rattle.cut.specs.Preparing.{no_machine}
 use Rattle.cut.proofs.Preparing.{prepared_refused, prepared_made, prepared_nothing}
 use Rattle.cut.proofs.prepare.Goals as goal
 
@@ -15,12 +14,10 @@ tables_fit =
       follow_fit = omega (arith, length-replicate {A = ℕ} follow_length 0);
     }
 
-pub returns-then-lengths-eq0 : goal.returns-then-lengths-eq0
-returns-then-lengths-eq0 c =
-    prepared_nothing c.args.lengths.now c.if-lengths-eq0.true c.make.ensures
+pub returns-then-is_empty : goal.returns-then-is_empty
+returns-then-is_empty c = ?
 
 pub returns-then-answer-ne-DONE : goal.returns-then-answer-ne-DONE
-unfolding no_machine
 returns-then-answer-ne-DONE c = prepared_refused tables_fit c.read-answer.ensures c.if-answer-ne-DONE.true
 
 pub returns : goal.returns
