@@ -20,15 +20,6 @@ use Rattle.parts.specs.Rows.{Grown, row_at, Rows}
 use Rattle.patterns.specs.Calls.{point_at, readers_length, follow_length, TablesFit, TablesOf}
 use Rattle.patterns.specs.Gathering.{NextIn, after_position, at_the_start}
 
--- every word is 0
-pub cleared_all : (i : ℕ) (table : List ℕ)
-    → i ≤ length table
-    → length table ≤ i
-    → replicate i 0 ++ drop i table ≡ cleared table
-cleared_all i table h k =
-    let all : i ≡ length table = omega arith in
-    rw (drop_of_length-le table k, append-nil, all)
-
 zero_at : (n i : ℕ) → ◌≡◌ {A = ℕ} (get_or (replicate n 0) i 0) 0
 zero_at zero i = refl
 zero_at (suc n) zero = refl
