@@ -1,4 +1,3 @@
-use mathlib.Core.Path.{◌∙◌}
 use native.Mathlib.Omega.{arith}
 use Rattle.states.specs.Searching.{RunEnd}
 use Rattle.states.proofs.Laying.{filled_run}
@@ -10,8 +9,7 @@ loop-byte-preserved c =
     let byte : RunEnd args.readers.now c.loop-byte.byte c.from-end.result = rw c.from-end.ensures (c.requires.4.run c.loop-byte.byte (omega arith) c.loop-byte-test.true) in
     let spread = c.spread.ensures in (
       byte.within,
-      spread.long ∙ c.loop-byte.invariant.1,
       λ first filled.
-          filled_run args.state c.loop-byte.byte c.from-end.result c.cell.result byte (c.loop-byte.invariant.2 first filled)
+          filled_run args.state c.loop-byte.byte c.from-end.result c.cell.result byte (c.loop-byte.invariant.1 first filled)
           c.cell.ensures spread,
     )
