@@ -57,7 +57,7 @@ fn special(byte: u8) -> bool
     )
 }
 
-// The byte at a place, or the place where the text ends before.
+// The byte at a place, or the place itself where the text has ended.
 fn next_byte(pattern: &[u8], at: usize) -> Result<u8, usize>
     ensures { MatchResult
         result

@@ -26,7 +26,13 @@ fn finish(part: Part, number: usize, follow: &mut [u64])
     let mut end = [0u64; POINT_WORDS];
     put(&mut end, 0, POINT_WORDS, MOST_POSITIONS + number);
     lead(follow, &part.last, &end);
-    unite(follow, MOST_POSITIONS * POINT_WORDS, POINT_WORDS, &part.first, 0);
+    unite(
+        follow,
+        MOST_POSITIONS * POINT_WORDS,
+        POINT_WORDS,
+        &part.first,
+        0,
+    );
 }
 
 // Where the next pattern ends, of which so many bytes are asked.

@@ -27,11 +27,7 @@ pub fn has(sets: &[u64], at: usize, words: usize, place: usize) -> bool
     ensures { Has sets.now at words place result }
 {
     let i = place / WORD_WIDTH;
-    if i < held(sets.len(), at, words) {
-        (word(sets, at, i) >> (place % WORD_WIDTH)) % 2 == 1
-    } else {
-        false
-    }
+    i < held(sets.len(), at, words) && (word(sets, at, i) >> (place % WORD_WIDTH)) % 2 == 1
 }
 
 // A place that the set does not have, or whose word lies past the end, adds nothing.
