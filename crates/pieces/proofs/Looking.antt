@@ -1,12 +1,12 @@
 -- The longest match, byte by byte: what was read so far leads to the row, and the best match so far is its token.
 use mathlib.Core.Path.{◌≡◌, refl, sym, ap, subst, ◌∙◌}
-use mathlib.Core.List.{List, [], ◌∷◌, ◌++◌, append_assoc, append-nil}
+use mathlib.Core.List.{List, [], ◌∷◌, ◌++◌, append_assoc}
 use Rattle.std.specs.Prelude.{Option, Some, None}
 use Prim.Native.Nat.{ℕ, suc, ◌+◌, ◌-◌, ◌≤◌, ◌<◌}
 use native.Mathlib.Numerals.{add-one}
 use native.Mathlib.Nat.{add-zero}
 use native.Mathlib.Omega.{arith}
-use lib.ListN.{length, take, drop, get_or, length-append, drop_of_length-le}
+use lib.ListN.{length, take, drop, get_or, length-append}
 use lib.Seq.{drop-cons, take_all, take-append-add}
 use Rattle.answers.specs.Limits.{most_patterns, byte_values}
 use Rattle.pieces.specs.Cut.{TokenAt}
@@ -135,7 +135,3 @@ module _ {cells line : List ℕ} {from : ℕ} where
         let rest = drop (suc at) line in
         rw (looked.split, drop-cons line at 0 below)
         (matched_kept looked.read (b ∷ rest) looked.found (stuck_beyond b looked.read rest looked.walk outside))
-
-    -- and so it is at the end of the line
-    pub looked_all : length line ≤ at → Matched (Says cells) (drop from line) from best
-    looked_all past = rw (looked.split, drop_of_length-le line past, append-nil) looked.found

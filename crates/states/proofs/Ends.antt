@@ -1,6 +1,6 @@
 -- The lowest end in a set: what it says, and where it is found word by word.
 use mathlib.Core.Path.{◌≡◌, refl, sym, ◌∙◌}
-use mathlib.Core.Bool.{Bool, true, false, cond}
+use mathlib.Core.Bool.{true, false, cond}
 use mathlib.Core.List.{List}
 use Prim.Native.Nat.{ℕ, zero, suc, ◌+◌, ◌-◌, ◌*◌, ◌/◌, ◌%◌, ◌≤◌, ◌<◌}
 use native.Mathlib.Decide.{dec_lt}
@@ -8,6 +8,7 @@ use native.Mathlib.Omega.{arith}
 use lib.Dec.{ltb}
 use lib.ListN.{get_or}
 use borrow.Author.Tests.{lt-ltb, le-ltb}
+use Rattle.std.proofs.lemmas.Bool.{false_from_ne_true}
 use Rattle.sets.specs.Sets.{member}
 use Rattle.sets.specs.Words.{word_width, AreWords}
 use Rattle.answers.specs.Lowest.{LowestAt}
@@ -61,10 +62,6 @@ token_end x j there lower = go (dec_lt j most_patterns)
         rw (le-ltb j most_patterns (omega arith))
         (sym (end_none x 0 most_patterns (λ i above below. lower i (omega arith))))
 
-not_true : (b : Bool) → ¬ (b ≡ true) → b ≡ false
-not_true true none = absurd (none refl)
-not_true false none = refl
-
 -- no end in the words before word i
 abbrev pub NoEnd : List ℕ → ℕ → ℕ → Type 0
 NoEnd sets s i = (k : ℕ) → k < (i - position_words) * word_width → member (most_positions + k) (set_of sets s) ≡ false
@@ -92,7 +89,7 @@ module _ (sets : List ℕ) (s : ℕ) (hs : AreWords sets) where
         go (yes early) = before k early
         go (no late) =
             here i k from inside (omega arith) (omega arith)
-            ∙ not_true (member (k - (i - position_words) * word_width) (get_or sets (s * point_words + i) 0))
+            ∙ false_from_ne_true (member (k - (i - position_words) * word_width) (get_or sets (s * point_words + i) 0))
             (none (k - (i - position_words) * word_width) (omega arith))
 
     pub ends_found : {bit : ℕ} → LowestAt (λ (k : ℕ). member k (get_or sets (s * point_words + i) 0) ≡ true) word_width bit

@@ -1,4 +1,3 @@
-use native.Mathlib.Omega.{arith}
 use Rattle.sets.specs.Words.{AreWords}
 use Rattle.moves.specs.Tables.{set_of}
 use Rattle.moves.proofs.Gathering.{meet, gathered_none, gathered_more, gathered_all}
@@ -9,9 +8,6 @@ pub loop-i-init : goal.loop-i-init
 loop-i-init c =
     let args = c.args in
     gathered_none args.readers.now args.follow.now (set_of args.sets.now args.state) args.byte
-
-pub lead_word-requires : goal.lead_word-requires
-lead_word-requires c = (omega arith, c.loop-i.invariant.five)
 
 -- sets and readers are words
 sets_words : (c : At-loop-i) → AreWords c.args.sets.now

@@ -1,13 +1,8 @@
 use Rattle.sets.specs.Words.{word_width}
 use Rattle.sets.proofs.Promise.{shifted_one}
 use Rattle.points.proofs.Promise.{lowest_none, without, without_keeps, without_falls}
-use Rattle.moves.proofs.Leading.{led_none, led_more, led_all}
+use Rattle.moves.proofs.Leading.{led_more, led_all}
 use Rattle.moves.proofs.lead_word.Goals as goal
-
-pub loop-place-init : goal.loop-place-init
-loop-place-init c =
-    let args = c.args in
-    (λ k m. m, led_none args.base args.word args.follow.now args.next.now c.requires.1)
 
 pub loop-place-smaller : goal.loop-place-smaller
 unfolding without

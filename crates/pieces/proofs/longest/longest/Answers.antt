@@ -6,7 +6,7 @@ use native.Mathlib.Omega.{arith}
 use lib.ListN.{length, take, drop, get_or, length-take, length-drop}
 use Rattle.std.proofs.Common.{get_or-take, get_or-drop}
 use Rattle.pieces.specs.Rows.{cell_at}
-use Rattle.pieces.proofs.Looking.{longer, kept, matched_none, looked_none, looked_more, looked_stuck, looked_all}
+use Rattle.pieces.proofs.Looking.{longer, kept, matched_none, looked_none, looked_more, looked_stuck}
 use Rattle.pieces.proofs.Walks.{walk_end}
 use Rattle.pieces.proofs.longest.longest.Goals as goal
 use Rattle.pieces.proofs.longest.longest.Goals.{After-cell_at-next, then-token-lt-MOST_PATTERNS, else-token-lt-MOST_PATTERNS}
@@ -62,7 +62,3 @@ loop-i-preserved c =
       | then-token-lt-MOST_PATTERNS w ↦ rw w.best-is (looked_more c.loop-i.invariant below byte next (omega arith) c.cell_at-token.ensures (longer w.if-token-lt-MOST_PATTERNS.true))
       | else-token-lt-MOST_PATTERNS w ↦ rw w.best-is (looked_more c.loop-i.invariant below byte next (omega arith) c.cell_at-token.ensures (kept w.if-token-lt-MOST_PATTERNS.false))
     ])
-
-pub returns : goal.returns
-unfolding left
-returns c = looked_all c.loop-i.invariant (omega (arith, simp (length-take, length-drop) at c.loop-i-test.false))
