@@ -30,14 +30,6 @@ module _ {book : List ℕ} {index : Index} where
       → FirstServed book first index
   found_first given found = record { given = given; family = found.found given.grammar (given_lists given) }
 
-  -- is FIRST of the grammar, however the book is known to serve it
-  pub first_given : {first : List ℕ}
-      → FirstServed book first index
-      → (given : Indexes book index)
-      → FirstFamily given.grammar first
-  first_given {first} found given =
-      subst (λ (g : Grammar). FirstFamily g first) (serves_unique found.given.serves given.serves) found.family
-
   module _ {symbols : List ℕ} (given : Indexes book index) where
     stranger_first : {i : ℕ}
         → LowestAt (IsStrange index.outline.tokens index.outline.nonterminals symbols) (length symbols) i

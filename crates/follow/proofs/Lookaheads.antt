@@ -36,11 +36,6 @@ module _ {book places fs ys : List ℕ} where
         beyond = λ p past. rw (get_or-set_other cells n p x 0 (λ same. omega arith)) (filled.beyond p (omega arith));
       }
 
-  pub ahead_empty : (cells : List ℕ) → AheadFilled book places fs ys 0 cells → cells ≡ replicate most_productions 0
-  ahead_empty cells filled =
-      ext_get_or 0 cells (replicate most_productions 0) (filled.sized ∙ sym (length-replicate {A = ℕ} most_productions 0))
-      (λ p h. filled.beyond p (omega arith) ∙ sym (no_member most_productions p))
-
   pub ahead_found : {cells : List ℕ} {count : ℕ} {g : Grammar} → Lists book places count g → FirstFamily g fs → FollowFamily g ys
       → AheadFilled book places fs ys count cells → Lookaheads g cells
   ahead_found index first follow filled =
