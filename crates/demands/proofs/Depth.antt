@@ -1,5 +1,5 @@
 -- How deep a run or an expansion went, from what it answers; and that so many stack cells, and no fewer, are enough for it.
-use Rattle.std.specs.Prelude.{⊤, Result, Ok, Err}
+use Rattle.std.specs.Prelude.{⊤, Result, Err}
 use mathlib.Core.Path.{◌≡◌, refl, sym, ap, ◌∙◌}
 use mathlib.Core.Logic.{◌↔◌, ◌⊎◌, inl, inr, ◌≢◌, ⊎_elim}
 use mathlib.Core.List.{List}

@@ -16,7 +16,7 @@ use Rattle.grammar.specs.declared.Symbol.{Symbol}
 use Rattle.sets.specs.declared.Set.{Set}
 use Rattle.answers.specs.declared.Answer.{Answer}
 use Rattle.answers.specs.Answers.{done, at_depth}
-use Rattle.answers.specs.Buffers.{over, counted, cleared}
+use Rattle.answers.specs.Buffers.{over, counted}
 use Rattle.answers.specs.Limits.{most_cells}
 use Rattle.reader.specs.Book.{byte_of}
 use Rattle.book.specs.Columns.{grammar_in, outlined, production_at}

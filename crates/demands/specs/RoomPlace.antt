@@ -1,6 +1,6 @@
 -- Where a derivation stands when a run or an expansion stops for want of room, and what is left then.
 -- Document 01, "Running and expanding"; demand 3's sentence on room.
-use Rattle.std.specs.Prelude.{◌≡◌, List, ◌∷◌, ◌++◌, ℕ, ◌+◌, ◌≤◌, ◌<◌, length, ⊤, Result, Ok, Err}
+use Rattle.std.specs.Prelude.{◌≡◌, List, ◌∷◌, ◌++◌, ℕ, ◌+◌, ◌≤◌, ◌<◌, length, Err}
 use Rattle.grammar.specs.declared.Symbol.TheVariants.{Token, Nonterminal}
 use Rattle.grammar.specs.Grammar.{Form, Grammar, Complete}
 use Rattle.answers.specs.Answers.{refusal, stop, no_set, at_depth}
