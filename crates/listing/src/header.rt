@@ -2,22 +2,14 @@
 ghost use Rattle.std.specs.Prelude.{◌≡◌};
 ghost use Rattle.listing.specs.Writing.{header_in};
 
+use book::columns::Outline;
 use reader::fields::byte_at;
 
-// T, N, the start symbol and P.
-#[derive(Clone, Copy)]
-pub(crate) struct Header {
-    pub tokens: u8,
-    pub nonterminals: u8,
-    pub start: u8,
-    pub productions: u8,
-}
-
 // They stand behind `GR`; a book that is too short has 0.
-pub(crate) fn header_in(book: &[u8]) -> Header
+pub(crate) fn header_in(book: &[u8]) -> Outline
     ensures { result ≡ header_in book.now }
 {
-    Header {
+    Outline {
         tokens: byte_at(book, 0, 2),
         nonterminals: byte_at(book, 0, 3),
         start: byte_at(book, 0, 4),
