@@ -1,6 +1,6 @@
 -- The first cell that two productions claim: what one production more does to it and to the columns claimed so far, and
 -- the two lowest claimants of a cell that has two.
-use mathlib.Core.Path.{◌≡◌, sym, ap, ◌∙◌, subst}
+use mathlib.Core.Path.{◌≡◌, refl, sym, ap, ◌∙◌, subst}
 use mathlib.Core.Bool.{Bool, true, false, ◌&&◌, false≢true}
 use mathlib.Core.Logic.{◌⊎◌, inl, inr, ◌≢◌}
 use mathlib.Core.List.{List}
@@ -10,85 +10,82 @@ use native.Mathlib.Nat.{div-add-mod', mod-lt}
 use native.Mathlib.Omega.{arith}
 use lib.Arith.{digits_div, digits_mod}
 use lib.ListN.{length}
+use Rattle.std.specs.Option.{option_or}
+use Rattle.std.specs.Prelude.{Option, Some, None, IsSome, unwrap_or}
 use Rattle.sets.specs.Sets.{member, Disjoint, united, column_place}
 use Rattle.sets.specs.Calls.{Decides, set_at, stored}
 use Rattle.sets.proofs.Promise.{decided, member_none, or_left, or_right, or_cases, stored_there, stored_elsewhere}
 use Rattle.answers.specs.declared.Answer.{Answer}
 use Rattle.answers.specs.Answers.{refusal}
 use Rattle.answers.specs.Refusals as refusals
-use Rattle.answers.specs.Lowest.{Lowest}
-use Rattle.answers.proofs.Promise.{lowest_alike}
-use Rattle.table.specs.Claims.{ClaimsAt, Rivals}
+use Rattle.answers.specs.Lowest.{LowestAt, LowestIn}
+use Rattle.table.specs.Claims.{ClaimsAt, claims, Rivals}
 use Rattle.checker.specs.Checking.{Before, Twice, claims_before, Tallied, Both, Shared, From}
 use Rattle.checker.specs.Checking.{row_of, bit_of, ClaimsAdded, Disputed, disputed}
 
--- the lowest of either kind, the one kind sought below the lowest of the other
-lowest_either : {P Q : ℕ → Type 0} {count known r : ℕ}
-    → Lowest P count known
-    → Lowest Q known r
-    → Lowest (λ i. P i ⊎ Q i) count r
-lowest_either {P} {Q} {count} {known} {r} l m =
-    record {
-      within = omega (arith, l.within, m.within);
-      earlier = λ i below. neither i below;
-      found = λ below. found below (dec_lt r known);
-    }
-  where
-    neither : (i : ℕ) → i < r → P i ⊎ Q i → ⊥
-    neither i below (inl p) = l.earlier i (omega (arith, m.within)) p
-    neither i below (inr q) = m.earlier i below q
+neither : {A B : Type 0} → ¬ A → ¬ B → A ⊎ B → ⊥
+neither a b (inl x) = a x
+neither a b (inr y) = b y
 
-    found : r < count → Dec (r < known) → P r ⊎ Q r
-    found below (yes h) = inr (m.found h)
-    found below (no n) =
-        let same : known ≡ r = omega (arith, m.within) in
-        inl (subst P same (l.found (omega arith)))
+-- the lowest of either kind, the one kind sought below the lowest of the other
+lowest_either : (P Q : ℕ → Type 0) (count : ℕ) (known r : Option ℕ)
+    → LowestIn P count known
+    → LowestIn Q (unwrap_or known count) r
+    → LowestIn (λ i. P i ⊎ Q i) count (option_or r known)
+lowest_either P Q count None None l m = λ i below. neither (l i below) (m i below)
+lowest_either P Q count (Some k) None l m =
+    record { inside = l.inside; holds = inl l.holds; earlier = λ i below. neither (l.earlier i below) (m i below) }
+lowest_either P Q count None (Some r) l m =
+    record {
+      inside = m.inside;
+      holds = inr m.holds;
+      earlier = λ i below. neither (l i (omega (arith, m.inside))) (m.earlier i below);
+    }
+lowest_either P Q count (Some k) (Some r) l m =
+    record {
+      inside = omega (arith, l.inside, m.inside);
+      holds = inr m.holds;
+      earlier = λ i below. neither (l.earlier i (omega (arith, m.inside))) (m.earlier i below);
+    }
+
+-- the same number is the lowest of another predicate that says the same below the count
+lowest_same : {P Q : ℕ → Type 0} (count : ℕ) (r : Option ℕ)
+    → ((i : ℕ) → P i → Q i)
+    → ((i : ℕ) → Q i → P i)
+    → LowestIn P count r
+    → LowestIn Q count r
+lowest_same count None there back l = λ i below q. l i below (back i q)
+lowest_same count (Some r) there back l =
+    record { inside = l.inside; holds = there r l.holds; earlier = λ i below q. l.earlier i below (back i q) }
 
 -- the cells of a row, by its columns
-module _ {row x y tokens known : ℕ} where
-  pub none_shared : ((column : ℕ) → column < tokens + 1 → ¬ Both x y (column_place column tokens))
-      → Lowest (Shared row x y tokens) known known
-  none_shared none =
-      record {
-        within = omega arith;
-        earlier = λ i below s. none (i % (tokens + 1)) (mod-lt i {m = tokens + 1} (omega arith)) s.both;
-        found = λ below. absurd (omega arith);
-      }
+module _ {row x y tokens : ℕ} where
+  pub none_shared : (bound : ℕ)
+      → ((column : ℕ) → column < tokens + 1 → ¬ Both x y (column_place column tokens))
+      → LowestIn (Shared row x y tokens) bound None
+  none_shared bound none i below s = none (i % (tokens + 1)) (mod-lt i {m = tokens + 1} (omega arith)) s.both
 
-  pub apart_shared : Disjoint x y → Lowest (Shared row x y tokens) known known
-  apart_shared apart = none_shared (λ column inside b. apart _ b.in_one b.in_other)
+  pub apart_shared : (bound : ℕ) → Disjoint x y → LowestIn (Shared row x y tokens) bound None
+  apart_shared bound apart = none_shared bound (λ column inside b. apart _ b.in_one b.in_other)
 
-  module _ {column : ℕ} (lowest : Lowest (λ c. Both x y (column_place c tokens)) (tokens + 1) column) where
-    pub no_column : tokens + 1 ≤ column → Lowest (Shared row x y tokens) known known
-    no_column past = none_shared (λ c inside. lowest.earlier c (omega arith))
+  module _ {column : ℕ} (lowest : LowestAt (λ c. Both x y (column_place c tokens)) (tokens + 1) column) where
+    -- a cell of the row before that of the first column shared is not shared
+    before_column : (i : ℕ) → i < row * (tokens + 1) + column → ¬ Shared row x y tokens i
+    before_column i below s =
+        let whole : row * (tokens + 1) + i % (tokens + 1) ≡ i = rw (sym s.of_row) (div-add-mod' i (tokens + 1)) in
+        lowest.earlier (i % (tokens + 1)) (omega arith) s.both
 
-    pub first_column : column < tokens + 1
-        → Lowest (Shared row x y tokens) known (min (row * (tokens + 1) + column) known)
-    first_column inside = go (dec_lt (row * (tokens + 1) + column) known)
-      where
-        cell : ℕ
-        cell = row * (tokens + 1) + column
+    pub first_column : (bound : ℕ) → row * (tokens + 1) + column < bound → LowestIn (Shared row x y tokens) bound (Some (row * (tokens + 1) + column))
+    first_column bound below =
+        let inside : column < tokens + 1 = lowest.inside in
+        record {
+          inside = below;
+          holds = record { of_row = digits_div row inside; both = rw (digits_mod row inside) lowest.holds };
+          earlier = before_column;
+        }
 
-        shared : Shared row x y tokens cell
-        shared =
-            record {
-              of_row = digits_div row inside;
-              both = rw (digits_mod row inside) (lowest.found inside);
-            }
-
-        before : (i : ℕ) → i < cell → ¬ Shared row x y tokens i
-        before i below s =
-            let whole : row * (tokens + 1) + i % (tokens + 1) ≡ i = rw (sym s.of_row) (div-add-mod' i (tokens + 1)) in
-            lowest.earlier (i % (tokens + 1)) (omega arith) s.both
-
-        go : Dec (cell < known) → Lowest (Shared row x y tokens) known (min cell known)
-        go (yes h) =
-            let least : min cell known ≡ cell = omega arith in
-            rw least (record { within = omega arith; earlier = before; found = λ below. shared })
-        go (no n) =
-            let least : min cell known ≡ known = omega arith in
-            rw least
-            (record { within = omega arith; earlier = λ i below. before i (omega arith); found = λ below. absurd (omega arith) })
+    pub past_column : (bound : ℕ) → bound ≤ row * (tokens + 1) + column → LowestIn (Shared row x y tokens) bound None
+    past_column bound past i below = before_column i (omega arith)
 
 module _ {left look : ℕ → ℕ} where
   -- before the first production no column is claimed
@@ -143,14 +140,14 @@ module _ {left look : ℕ → ℕ} where
             (tallied.complete A bit q (record { below = omega (arith, b.below); claim = b.claim }))
 
     -- the first contested cell with one production more
-    pub contested_next : {row ahead tokens cells known r : ℕ}
+    pub contested_next : {row ahead : ℕ} (tokens cells : ℕ) (known r : Option ℕ)
         → left p ≡ row
         → look p ≡ ahead
-        → Lowest (λ i. Twice (claims_before left look tokens p i)) cells known
-        → Lowest (Shared row (set_at claimed row) ahead tokens) known r
-        → Lowest (λ i. Twice (claims_before left look tokens (p + 1) i)) cells r
-    contested_next {row} {ahead} {tokens} sided looks lowest shared =
-        lowest_alike (λ i inside. there i) (λ i inside. back i) (lowest_either lowest shared)
+        → LowestIn (λ i. Twice (claims_before left look tokens p i)) cells known
+        → LowestIn (Shared row (set_at claimed row) ahead tokens) (unwrap_or known cells) r
+        → LowestIn (λ i. Twice (claims_before left look tokens (p + 1) i)) cells (option_or r known)
+    contested_next {row} {ahead} tokens cells known r sided looks lowest shared =
+        lowest_same cells (option_or r known) there back (lowest_either _ _ cells known r lowest shared)
       where
         itself : {i : ℕ} → Shared row (set_at claimed row) ahead tokens i → claims_before left look tokens (p + 1) i p
         itself s =
@@ -202,52 +199,46 @@ module _ {left look : ℕ → ℕ} where
                 inl (record { one = t.one; other = t.other; distinct = t.distinct; claims_one = earlier d t.claims_one; claims_other = earlier n t.claims_other })
 
   -- before the first production no cell is claimed twice
-  pub contested_none : (tokens : ℕ) {cells : ℕ} → Lowest (λ i. Twice (claims_before left look tokens 0 i)) cells cells
-  contested_none tokens =
-      record {
-        within = omega arith;
-        earlier = λ i below t. omega (arith, t.claims_one.below);
-        found = λ below. absurd (omega arith);
-      }
+  pub contested_none : (tokens : ℕ) {cells : ℕ} → LowestIn (λ i. Twice (claims_before left look tokens 0 i)) cells None
+  contested_none tokens i below t = omega (arith, t.claims_one.below)
 
 -- where C holds of two numbers below the count, the lowest and the lowest behind it are rivals
-module _ {C : ℕ → Type 0} {count : ℕ} (twice : Twice (Before count C)) {p : ℕ} (lowest : Lowest (From 0 C) count p) where
-  not_before : {q : ℕ} → Before count C q → p ≤ q
-  not_before {q} b = go (dec_lt q p)
-    where
-      go : Dec (q < p) → p ≤ q
-      go (yes h) = absurd (lowest.earlier q h (record { reached = omega arith; claim = b.claim }))
-      go (no n) = omega arith
+module _ {C : ℕ → Type 0} {count : ℕ} (twice : Twice (Before count C)) where
+  pub lowest_there : (r : Option ℕ) → LowestIn (From 0 C) count r → IsSome r
+  lowest_there None none =
+      absurd (none twice.one twice.claims_one.below (record { reached = omega arith; claim = twice.claims_one.claim }))
+  lowest_there (Some p) lowest = refl
 
-  -- one of the two lies behind the lowest
-  behind : (q : ℕ) × (p < q) × Before count C q
-  behind = go (ℕ_discrete twice.one p)
-    where
-      go : Dec (twice.one ≡ p) → (q : ℕ) × (p < q) × Before count C q
-      go (yes e) =
-          let other : twice.other ≢ p = λ f. twice.distinct (e ∙ sym f) in
-          (twice.other, omega (arith, not_before twice.claims_other), twice.claims_other)
-      go (no d) = (twice.one, omega (arith, not_before twice.claims_one), twice.claims_one)
-
-  pub lowest_below : p < count
-  lowest_below = let (q, order, b) = behind in omega (arith, b.below)
-
-  module _ {q : ℕ} (next : Lowest (From (p + 1) C) count q) where
-    pub next_below : q < count
-    next_below = go (dec_lt q count)
+  module _ {p : ℕ} (lowest : LowestAt (From 0 C) count p) where
+    not_before : {q : ℕ} → Before count C q → p ≤ q
+    not_before {q} b = go (dec_lt q p)
       where
-        go : Dec (q < count) → q < count
-        go (yes h) = h
-        go (no n) =
-            let (r, order, b) = behind in
-            absurd (next.earlier r (omega (arith, b.below)) (record { reached = omega arith; claim = b.claim }))
+        go : Dec (q < p) → p ≤ q
+        go (yes h) = absurd (lowest.earlier q h (record { reached = omega arith; claim = b.claim }))
+        go (no n) = omega arith
 
-    pub rivals : Rivals (Before count C) p q
-    rivals =
+    -- one of the two lies behind the lowest
+    behind : (q : ℕ) × (p < q) × Before count C q
+    behind = go (ℕ_discrete twice.one p)
+      where
+        go : Dec (twice.one ≡ p) → (q : ℕ) × (p < q) × Before count C q
+        go (yes e) =
+            let other : twice.other ≢ p = λ f. twice.distinct (e ∙ sym f) in
+            (twice.other, omega (arith, not_before twice.claims_other), twice.claims_other)
+        go (no d) = (twice.one, omega (arith, not_before twice.claims_one), twice.claims_one)
+
+    pub next_there : (r : Option ℕ) → LowestIn (From (p + 1) C) count r → IsSome r
+    next_there None none =
+        let (q, order, b) = behind in
+        absurd (none q b.below (record { reached = omega arith; claim = b.claim }))
+    next_there (Some q) next = refl
+
+    pub rivals : {q : ℕ} → LowestAt (From (p + 1) C) count q → Rivals (Before count C) p q
+    rivals {q} next =
         record {
-          lowest = record { below = lowest_below; claim = (lowest.found lowest_below).claim };
-          next = record { below = next_below; claim = (next.found next_below).claim };
-          order = omega (arith, (next.found next_below).reached);
+          lowest = record { below = lowest.inside; claim = lowest.holds.claim };
+          next = record { below = next.inside; claim = next.holds.claim };
+          order = omega (arith, next.holds.reached);
           others = λ r b. go r b (ℕ_discrete r p) (dec_lt r q);
         }
       where
@@ -281,34 +272,37 @@ claimant_decided left look row bit p {r} sided told =
     decided r (λ h. record { of_row = sided; has_bit = sym told ∙ h }) (λ k. told ∙ k.has_bit)
 
 -- what adding the claims of a production comes to
-pub claims_added : {row ahead tokens known r before union : ℕ} {claimed claimed' : List ℕ}
+pub claims_added : {row ahead tokens bound before union : ℕ} {r : Option ℕ} {claimed claimed' : List ℕ}
     → before ≡ set_at claimed row
     → union ≡ united before ahead
     → claimed' ≡ stored claimed row union
-    → Lowest (Shared row before ahead tokens) known r
-    → ClaimsAdded row ahead tokens claimed known r claimed'
-claims_added {row} {ahead} {tokens} {known} {r} {claimed = claimed} was joined after lowest =
+    → LowestIn (Shared row before ahead tokens) bound r
+    → ClaimsAdded row ahead tokens claimed bound r claimed'
+claims_added {row} {ahead} {tokens} {bound} {r = r} {claimed = claimed} was joined after lowest =
     record {
-      contested = subst (λ (x : ℕ). Lowest (Shared row x ahead tokens) known r) was lowest;
+      contested = subst (λ (x : ℕ). LowestIn (Shared row x ahead tokens) bound r) was lowest;
       united = after ∙ ap (stored claimed row) (joined ∙ ap (λ (x : ℕ). united x ahead) was);
     }
 
 -- the claimants of a contested cell, sought by its row and the bit of its column
 module _ (left look : ℕ → ℕ) (tokens cell : ℕ) {count bit : ℕ}
-    (twice : Twice (claims_before left look tokens count cell)) (column : bit ≡ bit_of tokens cell)
-    {p : ℕ} (lowest : Lowest (From 0 (ClaimsAt left look (row_of tokens cell) bit)) count p) where
-  pub claimant_there : p < count
-  claimant_there =
-      lowest_below twice
-      (subst (λ (b : ℕ). Lowest (From 0 (ClaimsAt left look (row_of tokens cell) b)) count p) column lowest)
+    (twice : Twice (claims_before left look tokens count cell)) (column : bit ≡ bit_of tokens cell) where
+  abbrev Sought : ℕ → Option ℕ → Type 0
+  Sought from = LowestIn (From from (ClaimsAt left look (row_of tokens cell) bit)) count
 
-  pub conflict_told : {q : ℕ} {a : Answer}
-      → Lowest (From (p + 1) (ClaimsAt left look (row_of tokens cell) bit)) count q
-      → a ≡ refusal refusals.conflict cell (p * 256 + q)
-      → Disputed (claims_before left look tokens count cell) cell a
-  conflict_told {q} next told =
-      rw told
-      (disputed
-      (rivals twice
-      (subst (λ (b : ℕ). Lowest (From 0 (ClaimsAt left look (row_of tokens cell) b)) count p) column lowest)
-      (subst (λ (b : ℕ). Lowest (From (p + 1) (ClaimsAt left look (row_of tokens cell) b)) count q) column next)))
+  claimed : (from : ℕ) (r : Option ℕ) → Sought from r → LowestIn (From from (claims left look tokens cell)) count r
+  claimed from r = subst (λ (b : ℕ). LowestIn (From from (ClaimsAt left look (row_of tokens cell) b)) count r) column
+
+  pub claimant_there : (r : Option ℕ) → Sought 0 r → IsSome r
+  claimant_there r lowest = lowest_there twice r (claimed 0 r lowest)
+
+  module _ (p : ℕ) (lowest : Sought 0 (Some p)) where
+    pub next_claimant : (r : Option ℕ) → Sought (p + 1) r → IsSome r
+    next_claimant r next = next_there twice (claimed 0 (Some p) lowest) r (claimed (p + 1) r next)
+
+    pub conflict_told : (q : ℕ) {a : Answer}
+        → Sought (p + 1) (Some q)
+        → a ≡ refusal refusals.conflict cell (p * 256 + q)
+        → Disputed (claims_before left look tokens count cell) cell a
+    conflict_told q next told =
+        rw told (disputed (rivals twice (claimed 0 (Some p) lowest) (claimed (p + 1) (Some q) next)))

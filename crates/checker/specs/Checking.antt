@@ -1,15 +1,15 @@
 -- What checking goes by: the columns that the productions of each row claim, the first cell that two of them claim, its
 -- two lowest claimants, and the first cell that is not the one of its claimant.
 -- Document 02, W8. Only contracts inside the crate cite what stands here.
-use Rattle.std.specs.Prelude.{◌≡◌, true, false, ◌≢◌, List, ℕ, ◌+◌, ◌*◌, ◌/◌, ◌%◌, ◌≤◌, ◌<◌, length, get_or}
+use Rattle.std.specs.Prelude.{◌≡◌, true, false, ◌≢◌, List, ℕ, ◌+◌, ◌*◌, ◌/◌, ◌%◌, ◌≤◌, ◌<◌, length, get_or, Option}
 use Rattle.sets.specs.Sets.{member, united, column_place}
 use Rattle.sets.specs.Calls.{set_at, stored}
 use Rattle.answers.specs.declared.Answer.{Answer}
 use Rattle.answers.specs.Answers.{refusal}
 use Rattle.answers.specs.Refusals as refusals
-use Rattle.answers.specs.Lowest.{Lowest}
-use Rattle.book.specs.declared.Reading.{Reading}
-use Rattle.first.specs.Forms.{Given}
+use Rattle.answers.specs.Lowest.{LowestIn}
+use Rattle.book.specs.declared.Index.{Index}
+use Rattle.book.specs.Judging.{Indexes}
 use Rattle.follow.specs.Families.{Lookaheads}
 use Rattle.table.specs.Fitting.{FitTable}
 use Rattle.table.specs.Claims.{ClaimsAt, claims, Rivals}
@@ -57,9 +57,11 @@ pub record Shared (row x y tokens cell : ℕ) : Type 0 where
   pub of_row : row_of tokens cell ≡ row
   pub both : Both x y (bit_of tokens cell)
 
--- one production more, of this row and with this lookahead: the lowest cell known to be contested, and the row's set
-pub record ClaimsAdded (row ahead tokens : ℕ) (claimed : List ℕ) (known r : ℕ) (claimed' : List ℕ) : Type 0 where
-  pub contested : Lowest (Shared row (set_at claimed row) ahead tokens) known r
+-- one production more, of this row and with this lookahead: the lowest cell before a bound that it contests, and the
+-- row's set
+pub record ClaimsAdded
+    (row ahead tokens : ℕ) (claimed : List ℕ) (bound : ℕ) (r : Option ℕ) (claimed' : List ℕ) : Type 0 where
+  pub contested : LowestIn (Shared row (set_at claimed row) ahead tokens) bound r
   pub united : claimed' ≡ stored claimed row (united (set_at claimed row) ahead)
 
 -- each of so many records has its row among the sets, in which there is no member
@@ -68,8 +70,9 @@ pub record Countable (left : ℕ → ℕ) (count : ℕ) (claimed : List ℕ) : T
   pub blank : (row : ℕ) → set_at claimed row ≡ 0
 
 -- the first of so many cells that two productions claim, and the columns that each row's productions claim
-pub record Contested (left look : ℕ → ℕ) (tokens count cells r : ℕ) (claimed : List ℕ) : Type 0 where
-  pub first : Lowest (λ i. Twice (claims_before left look tokens count i)) cells r
+pub record Contested
+    (left look : ℕ → ℕ) (tokens count cells : ℕ) (r : Option ℕ) (claimed : List ℕ) : Type 0 where
+  pub first : LowestIn (λ i. Twice (claims_before left look tokens count i)) cells r
   pub tallied : Tallied left look count claimed
 
 -- p claims, and is not before a number
@@ -92,8 +95,8 @@ abbrev pub DiffersAt : (claimed ahead : List ℕ) (tokens : ℕ) (table : List �
 DiffersAt claimed ahead tokens table i =
     Differs (set_at claimed (row_of tokens i)) ahead (bit_of tokens i) (get_or table i 255)
 
--- the lookaheads of the grammar that the reading indexes are known, and the table fits it
-pub record Comparable (book : List ℕ) (reading : Reading) (ahead table : List ℕ) : Type 0 where
-  pub given : Given book reading
+-- the lookaheads of the grammar that the book serves are known, and the table fits it
+pub record Comparable (book : List ℕ) (index : Index) (ahead table : List ℕ) : Type 0 where
+  pub given : Indexes book index
   pub looks : Lookaheads given.grammar ahead
   pub fits : FitTable given.grammar table

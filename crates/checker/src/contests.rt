@@ -3,15 +3,16 @@
 ghost use Rattle.std.specs.Prelude.{◌+◌, ◌≤◌, ◌<◌};
 ghost use Rattle.sets.specs.Sets.{column_place};
 ghost use Rattle.sets.specs.Calls.{number, Decides, set_at};
-ghost use Rattle.answers.specs.Lowest.{Lowest};
+ghost use Rattle.answers.specs.Lowest.{LowestIn};
 ghost use Rattle.table.specs.Claims.{ClaimsAt, left_of};
 ghost use Rattle.checker.specs.Checking.{Both, Shared, ClaimsAdded, Countable, Contested, From, Twice, Disputed};
 ghost use Rattle.checker.specs.Checking.{row_of, claims_before};
 
-use answers::buffers::least;
-use answers::refusals::CONFLICT;
+use answers::buffers::cell_or;
+use answers::refusals::Refusal;
 use answers::{Answer, refusal};
-use reader::fields::{left_at, place_at};
+use book::Index;
+use reader::fields::left_at;
 use sets::{Set, apart, column_bit, has, load, store, union};
 
 // Whether both sets have a bit.
@@ -21,125 +22,109 @@ fn both_have(x: Set, y: Set, bit: u8) -> bool
     has(x, bit) & has(y, bit)
 }
 
-// The first column whose bit both sets have, or the number of columns.
-fn first_shared(x: Set, y: Set, tokens: u8) -> usize
-    ensures { Lowest (λ column. Both (number x) (number y) (column_place column tokens)) (tokens + 1) result }
+// The first column whose bit both sets have.
+fn first_shared(x: Set, y: Set, tokens: u8) -> Option<usize>
+    ensures { LowestIn (λ column. Both (number x) (number y) (column_place column tokens)) (tokens + 1) result }
 {
-    let columns = tokens as usize + 1;
-    let mut column: usize = 0;
-    while column < columns {
-        if both_have(x, y, column_bit(column as u8, tokens)) {
-            return column;
+    for column in 0..=tokens {
+        if both_have(x, y, column_bit(column, tokens)) {
+            return Some(column as usize);
         }
-        column += 1;
     }
-    column
+    None
 }
 
-// The first cell of a row whose column both sets have, where it comes before the one that is known.
-fn contest_row(row: u8, claimed: Set, ahead: Set, tokens: u8, known: usize) -> usize
-    ensures { Lowest (Shared row (number claimed) (number ahead) tokens) known result }
+// The first cell of a row whose column both sets have, among the cells before a bound.
+fn contest_row(row: u8, claimed: Set, ahead: Set, tokens: u8, bound: usize) -> Option<usize>
+    ensures { LowestIn (Shared row (number claimed) (number ahead) tokens) bound result }
 {
     if apart(claimed, ahead) {
-        return known;
+        return None;
     }
-    let columns = tokens as usize + 1;
-    let column = first_shared(claimed, ahead, tokens);
-    if column < columns {
-        least(row as usize * columns + column, known)
-    } else {
-        known
-    }
+    let column = first_shared(claimed, ahead, tokens)?;
+    let cell = row as usize * (tokens as usize + 1) + column;
+    if cell < bound { Some(cell) } else { None }
 }
 
-// One production more, of this row and with this lookahead.
-fn add_claims(row: u8, ahead: Set, tokens: u8, claimed: &mut [u64], known: usize) -> usize
-    ensures { ClaimsAdded row (number ahead) tokens claimed.old known result claimed.new }
+// One production more, of this row and with this lookahead; and the first cell before a bound that it contests.
+fn add_claims(
+    row: u8,
+    ahead: Set,
+    tokens: u8,
+    claimed: &mut [u64],
+    bound: usize,
+) -> Option<usize>
+    ensures { ClaimsAdded row (number ahead) tokens claimed.old bound result claimed.new }
 {
     let before = load(claimed, row as usize);
     store(claimed, row as usize, union(before, ahead));
-    contest_row(row, before, ahead, tokens, known)
+    contest_row(row, before, ahead, tokens, bound)
 }
 
-// The first of so many cells that two productions claim, or their number; and the columns that each row's productions
-// claim.
+// The first of so many cells that two productions claim, and the columns that each row's productions claim.
 pub(crate) fn first_contested(
     book: &[u8],
-    places: &[u16],
-    count: usize,
-    tokens: u8,
+    index: &Index,
     ahead: &[u64],
     cells: usize,
     claimed: &mut [u64],
-) -> usize
-    requires { Countable (left_of book.now places.now) count claimed.old }
-    ensures { Contested (left_of book.now places.now) (set_at ahead.now)
-        tokens count cells result claimed.new }
+) -> Option<usize>
+    requires { Countable (left_of book.now index.now.places) index.now.outline.productions claimed.old }
+    ensures { Contested (left_of book.now index.now.places) (set_at ahead.now)
+        index.now.outline.tokens index.now.outline.productions cells result claimed.new }
 {
-    let mut contested = cells;
-    let mut p: usize = 0;
-    while p < count {
-        let row = left_at(book, place_at(places, p) as usize);
-        contested = add_claims(row, load(ahead, p), tokens, claimed, contested);
-        p += 1;
+    let tokens = index.outline.tokens;
+    let mut contested = None;
+    for p in 0..index.outline.productions as usize {
+        let row = left_at(book, cell_or(&index.places, p, 0) as usize);
+        let bound = contested.unwrap_or(cells);
+        contested = add_claims(row, load(ahead, p), tokens, claimed, bound).or(contested);
     }
     contested
 }
 
 // Whether production p is of the row, and its lookahead has the bit.
-fn is_claimant(book: &[u8], places: &[u16], ahead: &[u64], row: u8, bit: u8, p: usize) -> bool
-    ensures { Decides result (ClaimsAt (left_of book.now places.now) (set_at ahead.now)
+fn is_claimant(book: &[u8], index: &Index, ahead: &[u64], row: u8, bit: u8, p: usize) -> bool
+    ensures { Decides result (ClaimsAt (left_of book.now index.now.places) (set_at ahead.now)
         row bit p) }
 {
-    if left_at(book, place_at(places, p) as usize) == row {
-        has(load(ahead, p), bit)
-    } else {
-        false
-    }
+    left_at(book, cell_or(&index.places, p, 0) as usize) == row && has(load(ahead, p), bit)
 }
 
-// The lowest claimant from a number on, or the number of productions.
+// The lowest claimant from a number on.
 fn claimant(
     book: &[u8],
-    places: &[u16],
-    count: usize,
+    index: &Index,
     ahead: &[u64],
     row: u8,
     bit: u8,
     from: usize,
-) -> usize
-    requires { from ≤ count }
-    ensures { Lowest (From from (ClaimsAt (left_of book.now places.now)
-        (set_at ahead.now) row bit)) count result }
+) -> Option<usize>
+    requires { from ≤ index.now.outline.productions }
+    ensures { LowestIn (From from (ClaimsAt (left_of book.now index.now.places)
+        (set_at ahead.now) row bit)) index.now.outline.productions result }
 {
-    let mut p = from;
-    while p < count {
-        if is_claimant(book, places, ahead, row, bit, p) {
-            return p;
+    for p in from..index.outline.productions as usize {
+        if is_claimant(book, index, ahead, row, bit, p) {
+            return Some(p);
         }
-        p += 1;
     }
-    p
+    None
 }
 
 // The refusal of a contested cell: its lowest claimant, and the next from there on.
-pub(crate) fn conflict_at(
-    book: &[u8],
-    places: &[u16],
-    count: usize,
-    tokens: u8,
-    ahead: &[u64],
-    cell: usize,
-) -> Answer
-    requires { (count ≤ 128) × (row_of tokens cell < 256) × Twice (claims_before (left_of book.now places.now)
-        (set_at ahead.now) tokens count cell) }
-    ensures { Disputed (claims_before (left_of book.now places.now)
-        (set_at ahead.now) tokens count cell) cell result }
+pub(crate) fn conflict_at(book: &[u8], index: &Index, ahead: &[u64], cell: usize) -> Answer
+    requires { (index.now.outline.productions ≤ 128) × (row_of index.now.outline.tokens cell < 256)
+        × Twice (claims_before (left_of book.now index.now.places)
+        (set_at ahead.now) index.now.outline.tokens index.now.outline.productions cell) }
+    ensures { Disputed (claims_before (left_of book.now index.now.places)
+        (set_at ahead.now) index.now.outline.tokens index.now.outline.productions cell) cell result }
 {
+    let tokens = index.outline.tokens;
     let columns = tokens as usize + 1;
     let row = (cell / columns) as u8;
     let bit = column_bit((cell % columns) as u8, tokens);
-    let lowest = claimant(book, places, count, ahead, row, bit, 0);
-    let next = claimant(book, places, count, ahead, row, bit, lowest + 1);
-    refusal(CONFLICT, cell as u64, lowest as u64 * 256 + next as u64)
+    let lowest = claimant(book, index, ahead, row, bit, 0).unwrap();
+    let next = claimant(book, index, ahead, row, bit, lowest + 1).unwrap();
+    refusal(Refusal::Conflict, cell as u64, lowest as u64 * 256 + next as u64)
 }

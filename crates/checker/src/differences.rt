@@ -1,7 +1,7 @@
 // The first cell of a table that is not the one of its claimant, where no cell has two.
 ghost use Rattle.std.specs.Prelude.{length};
 ghost use Rattle.sets.specs.Calls.{number, Decides};
-ghost use Rattle.answers.specs.Lowest.{Lowest};
+ghost use Rattle.answers.specs.Lowest.{LowestIn};
 ghost use Rattle.checker.specs.Checking.{Differs, DiffersAt};
 
 use sets::{Set, column_bit, has, load};
@@ -28,17 +28,20 @@ fn cell_differs(claimed: &[u64], ahead: &[u64], tokens: u8, table: &[u8], i: usi
     differs(load(claimed, i / columns), ahead, bit, cell_at(table, i))
 }
 
-// The first cell that differs, or the number of cells.
-pub(crate) fn first_different(claimed: &[u64], ahead: &[u64], tokens: u8, table: &[u8]) -> usize
-    ensures { Lowest (DiffersAt claimed.now ahead.now tokens table.now)
+// The first cell that differs.
+pub(crate) fn first_different(
+    claimed: &[u64],
+    ahead: &[u64],
+    tokens: u8,
+    table: &[u8],
+) -> Option<usize>
+    ensures { LowestIn (DiffersAt claimed.now ahead.now tokens table.now)
         (length table.now) result }
 {
-    let mut i: usize = 0;
-    while i < table.len() {
+    for i in 0..table.len() {
         if cell_differs(claimed, ahead, tokens, table, i) {
-            return i;
+            return Some(i);
         }
-        i += 1;
     }
-    i
+    None
 }

@@ -1,47 +1,47 @@
 // Whether a table is the one that building gives, whoever made it; no table is made for that.
 #![tactic(auto)]
 
+ghost use Rattle.follow.specs.Checks.{answered};
 ghost use Rattle.checker.specs.Calls.{CheckOutcome, CheckedWithFirst};
 ghost use Rattle.checker.specs.Checking.{Comparable};
 
 use crate::contests::{conflict_at, first_contested};
 use crate::differences::first_different;
-use answers::refusals::{DIFFERS, DONE, TABLE};
-use answers::{Answer, done, refusal};
-use book::Reading;
-use book::columns::outline_of;
+use answers::refusals::Refusal;
+use answers::{Answer, refusal};
+use book::Index;
+use follow::checks::answer_of;
 use follow::work_out;
-use table::fitting::{Fitting, check_table};
+use table::fitting::check_table;
 
 mod contests;
 mod differences;
 
-// A table that fits its book, by the lookaheads: the first conflict, else the first cell that differs, else done.
-fn compare(book: &[u8], reading: Reading, ahead: &[u64], table: &[u8]) -> Answer
-    requires { Comparable book.now reading ahead.now table.now }
-    ensures { CheckOutcome book.now table.now result }
+// A table that fits its book, by the lookaheads: the first conflict, else the first cell that differs, else none.
+fn compare(book: &[u8], index: &Index, ahead: &[u64], table: &[u8]) -> Result<(), Answer>
+    requires { Comparable book.now index.now ahead.now table.now }
+    ensures { CheckOutcome book.now table.now (answered result) }
 {
-    let count = reading.productions as usize;
-    let tokens = reading.tokens;
-    let cells = table.len();
     let mut claimed = [0u64; 64];
-    let contested = first_contested(
-        book,
-        &reading.places,
-        count,
-        tokens,
-        ahead,
-        cells,
-        &mut claimed,
-    );
-    if contested < cells {
-        return conflict_at(book, &reading.places, count, tokens, ahead, contested);
+    if let Some(cell) = first_contested(book, index, ahead, table.len(), &mut claimed) {
+        return Err(conflict_at(book, index, ahead, cell));
     }
-    let different = first_different(&claimed, ahead, tokens, table);
-    if different < cells {
-        refusal(DIFFERS, different as u64, 0)
-    } else {
-        done(0)
+    match first_different(&claimed, ahead, index.outline.tokens, table) {
+        Some(cell) => Err(refusal(Refusal::Differs, cell as u64, 0)),
+        None => Ok(()),
+    }
+}
+
+// The refusal of the book, then of a table that does not fit, then what the two are compared for.
+fn check_all(book: &[u8], table: &[u8], first: &mut [u64; 64]) -> Result<(), Answer>
+    ensures { CheckedWithFirst book.now table.now (answered result) first.new }
+{
+    let mut follow = [0u64; 64];
+    let mut ahead = [0u64; 128];
+    let index = work_out(book, first, &mut follow, &mut ahead)?;
+    match check_table(book, &index, table) {
+        Ok(()) => compare(book, &index, &ahead, table),
+        Err(place) => Err(refusal(Refusal::Table, place as u64, 0)),
     }
 }
 
@@ -49,19 +49,7 @@ fn compare(book: &[u8], reading: Reading, ahead: &[u64], table: &[u8]) -> Answer
 pub fn check_with_first(book: &[u8], table: &[u8], first: &mut [u64; 64]) -> Answer
     ensures { CheckedWithFirst book.now table.now result first.new }
 {
-    let mut follow = [0u64; 64];
-    let mut ahead = [0u64; 128];
-    let reading = work_out(book, first, &mut follow, &mut ahead);
-    let judged = reading.answer;
-    if judged.number != DONE {
-        return judged;
-    }
-    let outline = outline_of(reading);
-    let fitting = check_table(book, &reading.places, outline, table);
-    if let Fitting::MisfitAt(place) = fitting {
-        return refusal(TABLE, place as u64, 0);
-    }
-    compare(book, reading, &ahead, table)
+    answer_of(check_all(book, table, first))
 }
 
 // The refusals 1 to 6 of the book, then 9, 8 or 17 of the table; done exactly if the table is built without conflict.

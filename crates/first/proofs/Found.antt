@@ -11,7 +11,7 @@ use Rattle.answers.specs.Limits.{most_nonterminals}
 use Rattle.reader.specs.Fields.{left_at, right_at}
 use Rattle.grammar.proofs.Rules.{below_rule}
 use Rattle.first.specs.Numbers.{FirstFamily}
-use Rattle.first.specs.Forms.{Indexes}
+use Rattle.first.specs.Forms.{Lists}
 use Rattle.first.specs.Trail.{trail, FirstSound, FirstClosed}
 use Rattle.first.specs.Steps.{first_step, passed, first_steps, FirstFound}
 use Rattle.first.proofs.Trail.{every_symbol_fits, trail_fits}
@@ -20,7 +20,7 @@ use Rattle.first.proofs.Closed.{first_words_exact}
 use Rattle.first.proofs.Growth.{Ends, ends_none, ends_stored, Expands, expands_united, united_nothing, passed_keeps, passed_expands}
 use Rattle.first.proofs.Growth.{passed_nothing}
 use Rattle.first.proofs.Rounds.{Fits, fits_none, united_at_fits, Refines, Round}
-use Rattle.first.proofs.Spelled.{indexes_limits, left_is, right_is, rule_at}
+use Rattle.first.proofs.Spelled.{lists_limits, left_is, right_is, rule_at}
 
 pub first_expands : (book places : List ℕ) (p : ℕ) → Expands (first_steps book places p)
 unfolding first_step
@@ -34,7 +34,7 @@ module _ (book places : List ℕ) (count : ℕ) where
 
   pub record FirstSoFar (cells : List ℕ) : Type 0 where
     pub none : count ≡ 0 → cells ≡ replicate most_nonterminals 0
-    pub of : (g : Grammar) → Indexes book places count g → SoundFirst g cells
+    pub of : (g : Grammar) → Lists book places count g → SoundFirst g cells
 
   abbrev pub first_pass : List ℕ → List ℕ
   first_pass = passed (first_steps book places) count
@@ -51,7 +51,7 @@ module _ (book places : List ℕ) (count : ℕ) where
   nothing_passed cells none = rw none
 
   first_step_sound : {g : Grammar}
-      → Indexes book places count g
+      → Lists book places count g
       → (p : ℕ)
       → p < count
       → (cells : List ℕ)
@@ -60,7 +60,7 @@ module _ (book places : List ℕ) (count : ℕ) where
   unfolding first_step
   first_step_sound index p h cells so_far =
       let (A, β, rule) = rule_at index p h in
-      let limits = indexes_limits index in
+      let limits = lists_limits index in
       rw (left_is index rule, right_is index rule)
       (record { sound = first_addition_sound limits so_far.sound rule; ends = ends_stored (limits.well_formed.left_known rule) _ so_far.ends })
 
@@ -89,7 +89,7 @@ module _ (book places : List ℕ) (count : ℕ) where
             };
       }
 
-  first_closed : {g : Grammar} (index : Indexes book places count g) {cells : List ℕ}
+  first_closed : {g : Grammar} (index : Lists book places count g) {cells : List ℕ}
       → length cells ≡ most_nonterminals
       → first_pass cells ≡ cells
       → FirstClosed g cells
@@ -99,15 +99,15 @@ module _ (book places : List ℕ) (count : ℕ) where
       go : (p A : ℕ) (β : Form) → Rule g p A β → Subset (trail cells (only empty_string) β) (get_or cells A 0)
       go p A β rule =
           let unchanged : first_steps book places p cells ≡ cells = passed_nothing (first_expands book places) count cells same p (omega (arith, index.counted, below_rule rule)) in
-          let inside : A < length cells = omega (arith, (indexes_limits index).well_formed.left_known rule, (indexes_limits index).nonterminals_fit) in
+          let inside : A < length cells = omega (arith, (lists_limits index).well_formed.left_known rule, (lists_limits index).nonterminals_fit) in
           united_nothing cells A (trail cells (only empty_string) β) inside (rw (left_is index rule, right_is index rule) at unchanged)
 
   -- where a pass changes nothing, the sets are FIRST
   pub first_found : {cells : List ℕ} → Round FirstSoFar cells → first_pass cells ≡ cells → FirstFound book places count cells
   first_found {cells} round same = record { sized = round.sized; none = round.so_far.none; found = found }
     where
-      found : (g : Grammar) → Indexes book places count g → FirstFamily g cells
+      found : (g : Grammar) → Lists book places count g → FirstFamily g cells
       found g index =
           let so_far = round.so_far.of g index in
-          let exact = first_words_exact (indexes_limits index) (λ A a. round.fits.each A) so_far.sound (first_closed index round.sized same) in
+          let exact = first_words_exact (lists_limits index) (λ A a. round.fits.each A) so_far.sound (first_closed index round.sized same) in
           record { sized = round.sized; each = exact.each; beyond = so_far.ends.beyond }

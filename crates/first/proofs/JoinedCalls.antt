@@ -6,20 +6,20 @@ use mathlib.Core.Option.{Option, some}
 use Prim.Native.Nat.{ℕ, ◌≤◌}
 use native.Mathlib.Omega.{arith}
 use lib.ListN.{length}
+use Rattle.std.specs.Prelude.{Result, Ok, Err, IsOk, IsOkAnd}
 use Rattle.grammar.specs.Grammar.{Form, Grammar, Every, nothing, each, Known, First}
-use Rattle.grammar.specs.Vanishing.{Vanishes}
 use Rattle.sets.specs.Sets.{empty_string, joined}
 use Rattle.sets.specs.Calls.{number}
 use Rattle.sets.proofs.Promise.{exactly_unique}
 use Rattle.answers.specs.declared.Answer.{Answer}
-use Rattle.answers.specs.Answers.{refusal, done}
 use Rattle.answers.specs.Limits.{most_symbols}
 use Rattle.reader.specs.Book.{symbol_of}
 use Rattle.reader.proofs.Promise.{symbol_of_known}
 use Rattle.book.specs.Judging.{Serves}
-use Rattle.book.proofs.Promise.{serves_unique, serves_limits, refuses_not_serves, refuses_number}
-use Rattle.first.specs.declared.SetAnswer.{SetAnswer}
-use Rattle.first.specs.Calls.{SetIs, NoSet, FirstOutcome}
+use Rattle.book.proofs.Promise.{serves_unique, serves_limits, refuses_not_serves}
+use Rattle.first.specs.declared.forms.Trail.{Trail}
+use Rattle.first.specs.Numbers.{IsSet}
+use Rattle.first.specs.Calls.{FirstRefused, FirstTold, FirstOutcome}
 use Rattle.first.specs.Calls as calls
 use Rattle.first.specs.Joined.{FirstJoined}
 use Rattle.first.proofs.SetAnswers.{mapped_at, images_unique}
@@ -38,49 +38,30 @@ spelled_known {g} (b ∷ symbols) (s ∷ α) e =
     let here : symbol_of g.tokens g.nonterminals b ≡ some s = cc in
     each (symbol_of_known b here).1 (spelled_known symbols α (cc))
 
--- the call is done with FIRST of the form that the string spells
-pub record ServedFirst (book symbols : List ℕ) (r : SetAnswer) : Type 0 where
-  pub grammar : Grammar
-  pub form : Form
-  pub serves : Serves book grammar
-  pub spelled : SpellsIn grammar symbols form
-  pub is : SetIs (First grammar form) r
-  pub leading : Vanishes grammar form r.vanishing
-
-no_set_number : {a : Answer} {r : SetAnswer} → NoSet a r → r.answer.number ≡ a.number
-no_set_number h = ap (λ (x : Answer). x.number) h.answer
-
-set_done : {g : Grammar} {α : Form} {r : SetAnswer} → SetIs (First g α) r → r.answer.number ≡ 0
-unfolding done
-set_done h = ap (λ (x : Answer). x.number) h.answer
-
-module _ {book symbols : List ℕ} {r : SetAnswer} where
-  pub served_first : FirstOutcome book symbols r → r.answer.number ≡ 0 → ServedFirst book symbols r
-  unfolding refusal
-  served_first (calls.refused x h) e = absurd (omega (arith, refuses_number x, no_set_number h))
-  served_first (calls.too_long s l h) e = absurd (omega (arith, no_set_number h))
-  served_first (calls.strange s l k h) e = absurd (omega (arith, no_set_number h))
-  served_first (calls.served {g = g} {α = α} s l k h v) e =
-      record { grammar = g; form = α; serves = s; spelled = k; is = h; leading = v }
-
+module _ {book : List ℕ} (symbols : List ℕ) (α : Form) where
   -- a short string that spells a form is served
-  first_served : {g : Grammar} {α : Form}
+  first_served : {g : Grammar}
       → Serves book g
       → length symbols ≤ most_symbols
       → SpellsIn g symbols α
+      → (r : Result Trail Answer)
       → FirstOutcome book symbols r
-      → SetIs (First g α) r
-  first_served s short spelled (calls.refused x h) = absurd (refuses_not_serves x s)
-  first_served s short spelled (calls.too_long s' l h) = absurd (omega arith)
-  first_served {g} {α} s short spelled (calls.strange {g = g'} {i = i} s' l k h) =
-      let there = subst (λ (x : Grammar). SpellsIn x symbols α) (serves_unique s s') spelled in
-      let (x, e) = mapped_at (symbol_of g'.tokens g'.nonterminals) symbols α there i k.inside in
-      absurd (k.stranger x e)
-  first_served {g} {α} s short spelled (calls.served {g = g'} {α = α'} s' l k h v) =
-      let same : g' ≡ g = serves_unique s' s in
-      let there : SpellsIn g symbols α' = subst (λ (x : Grammar). SpellsIn x symbols α') same k in
-      let form : α' ≡ α = images_unique α' α (sym there ∙ spelled) in
-      subst (λ (β : Form). SetIs (First g β) r) form (subst (λ (x : Grammar). SetIs (First x α') r) same h)
+      → IsOkAnd r (λ t. IsSet (number t.set) (First g α))
+  first_served s short spelled (Err a) o = refused o
+    where
+      refused : {b : Answer} → FirstRefused book symbols b → ⊥
+      refused (calls.refused x) = refuses_not_serves x s
+      refused (calls.too_long s' l) = omega arith
+      refused (calls.strange {g = g'} {i = i} s' l k) =
+          let there = subst (λ (x : Grammar). SpellsIn x symbols α) (serves_unique s s') spelled in
+          let (x, e) = mapped_at (symbol_of g'.tokens g'.nonterminals) symbols α there i k.inside in
+          k.stranger x e
+  first_served {g} s short spelled (Ok t) o =
+      let same : o.grammar ≡ g = serves_unique o.serves s in
+      let there : SpellsIn g symbols o.form = subst (λ (x : Grammar). SpellsIn x symbols o.form) same o.spelled in
+      let form : o.form ≡ α = images_unique o.form α (sym there ∙ spelled) in
+      subst (λ (β : Form). IsSet (number t.set) (First g β)) form
+      (subst (λ (x : Grammar). IsSet (number t.set) (First x o.form)) same o.told.holds)
 
 -- a string that spells α before one that spells β spells both
 spells_both : {A : Type 0} (f : ℕ → Option A) (xs ys : List ℕ) (α β : List A)
@@ -115,31 +96,46 @@ length_parts : (xs ys : List ℕ) → (length xs ≤ length (xs ++ ys)) × (leng
 length_parts [] ys = (omega arith, omega arith)
 length_parts (x ∷ xs) ys = let (l, k) = length_parts xs ys in (omega arith, omega arith)
 
-module _ {book xs ys : List ℕ} {r s t : SetAnswer}
-    (o : FirstOutcome book xs r) (p : FirstOutcome book ys s) (q : FirstOutcome book (xs ++ ys) t)
-    (short : length (xs ++ ys) ≤ most_symbols) where
+module _ {book : List ℕ} (xs ys : List ℕ) (short : length (xs ++ ys) ≤ most_symbols) where
   -- where both parts are done, the whole is done with the join of their sets
-  pub first_of_joined : r.answer.number ≡ 0 → s.answer.number ≡ 0 → FirstJoined r s t
-  first_of_joined e d =
-      let a = served_first o e in
-      let b = served_first p d in
+  pub first_of_joined : {r s : Trail}
+      → FirstTold book xs r
+      → FirstTold book ys s
+      → (t : Result Trail Answer)
+      → FirstOutcome book (xs ++ ys) t
+      → FirstJoined r s t
+  first_of_joined {r} {s} a b t q =
       let same : b.grammar ≡ a.grammar = serves_unique b.serves a.serves in
       let there = subst (λ (g : Grammar). SpellsIn g ys b.form) same b.spelled in
-      let right = subst (λ (g : Grammar). SetIs (First g b.form) s) same b.is in
+      let right = subst (λ (g : Grammar). IsSet (number s.set) (First g b.form)) same b.told.holds in
       let meaning = symbol_of a.grammar.tokens a.grammar.nonterminals in
-      let whole = first_served a.serves short (spells_both meaning xs ys a.form b.form a.spelled there) q in
+      let whole = first_served (xs ++ ys) (a.form ++ b.form) a.serves short (spells_both meaning xs ys a.form b.form a.spelled there) t q in
       let known = spelled_known xs a.form a.spelled in
-      let join = first_joined (serves_limits a.serves) a.form b.form known a.is.holds right.holds in
-      let sets = joined empty_string (number r.set) (number s.set) in
-      record { answer = whole.answer; holds = exactly_unique (number t.set) sets whole.holds join }
+      let join = first_joined (serves_limits a.serves) a.form b.form known a.told.holds right in
+      go a.grammar (a.form ++ b.form) t whole join
+    where
+      go : (g : Grammar) (α : Form) (t : Result Trail Answer)
+          → IsOkAnd t (λ u. IsSet (number u.set) (First g α))
+          → IsSet (joined empty_string (number r.set) (number s.set)) (First g α)
+          → FirstJoined r s t
+      go g α (Err b) none join = none
+      go g α (Ok u) holds join = exactly_unique (number u.set) (joined empty_string (number r.set) (number s.set)) holds join
 
   -- where the whole is done, so are both parts
-  pub first_of_split : t.answer.number ≡ 0 → (r.answer.number ≡ 0) × (s.answer.number ≡ 0)
-  first_of_split e =
-      let c = served_first q e in
+  pub first_of_split : {t : Trail}
+      → FirstTold book (xs ++ ys) t
+      → (r s : Result Trail Answer)
+      → FirstOutcome book xs r
+      → FirstOutcome book ys s
+      → IsOk r × IsOk s
+  first_of_split c r s o p =
       let meaning = symbol_of c.grammar.tokens c.grammar.nonterminals in
       let parts = spells_parts meaning xs ys c.form c.spelled in
       let (left_fits, right_fits) = length_parts xs ys in (
-        set_done (first_served {α = parts.left} c.serves (omega arith) parts.spells_left o),
-        set_done (first_served {α = parts.right} c.serves (omega arith) parts.spells_right p),
+        done _ r (first_served xs parts.left c.serves (omega arith) parts.spells_left r o),
+        done _ s (first_served ys parts.right c.serves (omega arith) parts.spells_right s p),
       )
+    where
+      done : (P : Trail → Type 0) (r : Result Trail Answer) → IsOkAnd r P → IsOk r
+      done P (Ok t) holds = refl
+      done P (Err a) none = absurd none

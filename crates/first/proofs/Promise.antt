@@ -5,11 +5,8 @@ pub use Rattle.first.proofs.Closed.{join_proper, known_fits, trail_of_first}
 pub use Rattle.first.proofs.Coming.{Columned, columned, columned_alike, columned_members, columned_united}
 pub use Rattle.first.proofs.Coming.{can_come_is, own_tokens_is, seen_none_is, seen_more_is, next_set_is}
 pub use Rattle.first.proofs.Coming.{stop_set_is}
-pub use Rattle.first.proofs.Judged.{CheckedBook, Ready, checked_ready, given_count, given_indexes, given_limits}
-pub use Rattle.first.proofs.Judged.{given_nonterminals}
-pub use Rattle.first.proofs.Judged.{given_part, given_readable, given_served, judged_checked, judged_given}
-pub use Rattle.first.proofs.Judged.{judged_readable, ready}
-pub use Rattle.first.proofs.Judged.{ready_number, refuses, stopped}
+pub use Rattle.first.proofs.Judged.{given_count, given_limits, given_lists, given_nonterminals}
+pub use Rattle.first.proofs.Judged.{given_part, given_readable, given_served}
 pub use Rattle.first.proofs.Growth.{Ends, Expands, ends_none, ends_stored, expands_then, expands_united}
 pub use Rattle.first.proofs.Growth.{grown_same, made_next}
 pub use Rattle.first.proofs.Growth.{made_then, no_member, passed_expands, passed_fires, passed_keeps}
@@ -24,16 +21,15 @@ pub use Rattle.first.proofs.Known.{Proper, below, the_end_mark, proper_token, fi
 pub use Rattle.first.proofs.Known.{lookahead_proper, claims_row, claims_proper}
 pub use Rattle.first.proofs.OfBook.{OfBook, of_book_unique, of_grammar, of_refusal}
 pub use Rattle.first.proofs.Unique.{family_unique, sets_unique}
-pub use Rattle.first.proofs.Spelled.{indexes_limits, left_is, right_is, rule_at, tail_is, right_part}
+pub use Rattle.first.proofs.Spelled.{lists_limits, left_is, right_is, rule_at, tail_is, right_part}
 pub use Rattle.first.proofs.Worked.{sets_tested}
 unfoldable pub use Rattle.first.proofs.Worked.{places_test, rows_test}
 pub use Rattle.first.proofs.Trail.{every_symbol_fits, join_stops, single_empty, single_token, token_set_lem}
 pub use Rattle.first.proofs.Trail.{trail_fits}
 pub use Rattle.first.proofs.Additions.{sound_none, sound_stored, sound_united}
-pub use Rattle.first.proofs.SetAnswers.{first_outcome_unique, first_worked_out_unique, no_set_unique}
-pub use Rattle.first.proofs.SetAnswers.{SetFor, set_for_unique}
+pub use Rattle.first.proofs.SetAnswers.{first_outcome_unique, first_worked_out_unique, set_for_unique}
 pub use Rattle.first.proofs.Vanishing.{vanishing_is}
-pub use Rattle.first.proofs.Served.{first_given, first_judged, first_none, first_sized}
+pub use Rattle.first.proofs.Served.{first_given}
 pub use Rattle.first.proofs.Examples.{house_first_sets_lem}
 pub use Rattle.first.proofs.Joined.{trail_append, trail_joined, at_empty, first_joined}
 pub use Rattle.first.proofs.JoinedCalls.{first_of_joined, first_of_split}

@@ -1,12 +1,12 @@
 -- Any two outcomes that the promises of FIRST and of FIRST of a symbol string allow of the same inputs are equal.
-use mathlib.Core.Path.{◌≡◌, refl, sym, ◌∙◌, subst}
-use mathlib.Core.Logic.{◌⊎◌, inl, inr}
+use mathlib.Core.Path.{◌≡◌, refl, sym, ap, ◌∙◌, subst}
 use mathlib.Core.List.{List, [], ◌∷◌, map}
 use mathlib.Core.Option.{Option, some}
 use Prim.Native.Nat.{ℕ, zero, suc, ◌≤◌, ◌<◌}
 use native.Mathlib.Decide.{dec_lt}
 use native.Mathlib.Omega.{arith}
-use lib.ListN.{length, get_or, replicate}
+use lib.ListN.{length, get_or}
+use Rattle.std.specs.Prelude.{Result, Ok, Err}
 use Rattle.grammar.specs.Grammar.{Form, Grammar, Member, Every, nothing, each, Known, First}
 use Rattle.grammar.specs.Vanishing.{Vanishes}
 use Rattle.grammar.proofs.Vanishing.{vanishes_unique}
@@ -14,35 +14,25 @@ use Rattle.sets.specs.Calls.{number}
 use Rattle.sets.proofs.Promise.{exactly_unique, number_unique}
 use Rattle.answers.specs.declared.Answer.{Answer}
 use Rattle.answers.specs.Answers.{refusal}
-use Rattle.answers.specs.Refusals.{limit, symbol}
-use Rattle.answers.specs.Limits.{most_nonterminals, most_symbols}
-use Rattle.answers.proofs.Promise.{Unique, either_unique}
-use Rattle.book.specs.declared.Reading.{Reading}
+use Rattle.answers.specs.Refusals.{symbol}
+use Rattle.answers.proofs.Promise.{Unique}
+use Rattle.book.specs.declared.Index.{Index}
 use Rattle.reader.specs.Book.{symbol_of}
-use Rattle.book.specs.Judging.{refusing, index_of}
+use Rattle.book.specs.Judging.{Serves}
+use Rattle.book.proofs.Promise.{refuses_unique, refuses_not_serves, serves_unique, indexes_unique}
 use Rattle.reader.proofs.Promise.{symbol_of_known}
-use Rattle.first.specs.declared.SetAnswer.{SetAnswer}
+use Rattle.first.specs.declared.forms.Trail.{Trail}
 use Rattle.first.specs.Numbers.{FirstFamily}
-use Rattle.first.specs.Calls.{FirstWorkedOut, FirstResult, SetIs, NoSet, FirstStranger, FirstOutcome}
+use Rattle.first.specs.Calls.{FirstServed, FirstWorkedOut, FirstResult, SetFor, FirstStranger, FirstRefused, FirstTold, FirstOutcome}
 use Rattle.first.specs.Calls as calls
 use Rattle.first.proofs.Unique.{family_unique}
-use Rattle.first.proofs.OfBook.{OfBook, of_refusal, of_grammar, of_book_unique}
 
-set_answer_same : (r s : SetAnswer) → r.answer ≡ s.answer → r.set ≡ s.set → r.vanishing ≡ s.vanishing → r ≡ s
-set_answer_same r s p q n = λ i. record { answer = p i; set = q i; vanishing = n i }
-
-pub no_set_unique : (a : Answer) → Unique (NoSet a)
-no_set_unique a r s h k = set_answer_same r s (h.answer ∙ sym k.answer) (h.empty ∙ sym k.empty) (h.none ∙ sym k.none)
-
--- a set that is done, and the number of a form
-pub record SetFor (P : Member → Type 0) (g : Grammar) (α : Form) (r : SetAnswer) : Type 0 where
-  pub is : SetIs P r
-  pub leading : Vanishes g α r.vanishing
+trail_same : (r s : Trail) → r.set ≡ s.set → r.vanishing ≡ s.vanishing → r ≡ s
+trail_same r s q n = λ i. record { set = q i; vanishing = n i }
 
 pub set_for_unique : {P : Member → Type 0} {g : Grammar} {α : Form} → Unique (SetFor P g α)
 set_for_unique {α = α} r s h k =
-    set_answer_same r s (h.is.answer ∙ sym k.is.answer)
-    (number_unique (exactly_unique (number r.set) (number s.set) h.is.holds k.is.holds))
+    trail_same r s (number_unique (exactly_unique (number r.set) (number s.set) h.holds k.holds))
     (vanishes_unique α r.vanishing s.vanishing h.leading k.leading)
 
 pub stranger_unique : {g : Grammar} {symbols : List ℕ} {i j : ℕ}
@@ -85,71 +75,60 @@ spelled_known {g} (b ∷ symbols) (s ∷ α) e =
     each (symbol_of_known b here).1 (spelled_known symbols α (cc))
 
 module _ (book symbols : List ℕ) where
-  record TooLong (r : SetAnswer) : Type 0 where
-    long : most_symbols < length symbols
-    is : NoSet (refusal limit most_symbols 0) r
+  -- a string that spells a form has no stranger
+  stranger_not_told : {g : Grammar} {i : ℕ} {t : Trail} → Serves book g → FirstStranger g symbols i → FirstTold book symbols t → ⊥
+  stranger_not_told {g} s k told =
+      let there = subst (λ (h : Grammar). map (symbol_of h.tokens h.nonterminals) symbols ≡ map some told.form) (serves_unique told.serves s) told.spelled in
+      let (x, e) = mapped_at (symbol_of g.tokens g.nonterminals) symbols told.form there _ k.inside in
+      k.stranger x e
 
-  record Strange (g : Grammar) (r : SetAnswer) : Type 0 where
-    short : length symbols ≤ most_symbols
-    index : ℕ
-    stranger : FirstStranger g symbols index
-    is : NoSet (refusal symbol index 0) r
+  refused_not_told : {a : Answer} {t : Trail} → FirstRefused book symbols a → FirstTold book symbols t → ⊥
+  refused_not_told (calls.refused r) told = refuses_not_serves r told.serves
+  refused_not_told (calls.too_long s l) told = omega (arith, told.short)
+  refused_not_told (calls.strange s l k) told = stranger_not_told s k told
 
-  record Begun (g : Grammar) (r : SetAnswer) : Type 0 where
-    short : length symbols ≤ most_symbols
-    form : Form
-    spelled : map (symbol_of g.tokens g.nonterminals) symbols ≡ map some form
-    is : SetFor (First g form) g form r
+  refused_unique : {a b : Answer} → FirstRefused book symbols a → FirstRefused book symbols b → a ≡ b
+  refused_unique (calls.refused r) (calls.refused q) = refuses_unique r q
+  refused_unique (calls.refused r) (calls.too_long s l) = absurd (refuses_not_serves r s)
+  refused_unique (calls.refused r) (calls.strange s l k) = absurd (refuses_not_serves r s)
+  refused_unique (calls.too_long s l) (calls.refused r) = absurd (refuses_not_serves r s)
+  refused_unique (calls.too_long s l) (calls.too_long t m) = refl
+  refused_unique (calls.too_long s l) (calls.strange t m k) = absurd (omega arith)
+  refused_unique (calls.strange s l k) (calls.refused r) = absurd (refuses_not_serves r s)
+  refused_unique (calls.strange s l k) (calls.too_long t m) = absurd (omega arith)
+  refused_unique (calls.strange s l k) (calls.strange {i = j} t m h) =
+      let there = subst (λ (g : Grammar). FirstStranger g symbols j) (serves_unique t s) h in
+      ap (λ (i : ℕ). refusal symbol i 0) (stranger_unique k there)
 
-  strange_unique : (g : Grammar) → Unique (Strange g)
-  strange_unique g r s a b = no_set_unique (refusal symbol a.index 0) r s a.is (subst (λ (i : ℕ). NoSet (refusal symbol i 0) s) (stranger_unique b.stranger a.stranger) b.is)
+  told_unique : {t u : Trail} → FirstTold book symbols t → FirstTold book symbols u → t ≡ u
+  told_unique {t} {u} x y =
+      let grammars : y.grammar ≡ x.grammar = serves_unique y.serves x.serves in
+      let spelled = subst (λ (g : Grammar). map (symbol_of g.tokens g.nonterminals) symbols ≡ map some y.form) grammars y.spelled in
+      let forms : y.form ≡ x.form = images_unique y.form x.form (sym spelled ∙ x.spelled) in
+      let there = subst (λ (g : Grammar). SetFor (First g y.form) g y.form u) grammars y.told in
+      set_for_unique t u x.told (subst (λ (α : Form). SetFor (First x.grammar α) x.grammar α u) forms there)
 
-  begun_unique : (g : Grammar) → Unique (Begun g)
-  begun_unique g r s a b =
-      let same : b.form ≡ a.form = images_unique b.form a.form (sym b.spelled ∙ a.spelled) in
-      set_for_unique r s a.is (subst (λ (α : Form). SetFor (First g α) g α s) same b.is)
-
-  strange_not_begun : (g : Grammar) (r s : SetAnswer) → Strange g r → Begun g s → ⊥
-  strange_not_begun g r s a b =
-      let (x, e) = mapped_at (symbol_of g.tokens g.nonterminals) symbols b.form b.spelled a.index a.stranger.inside in
-      a.stranger.stranger x e
-
-  short_of : {g : Grammar} {r : SetAnswer} → Strange g r ⊎ Begun g r → length symbols ≤ most_symbols
-  short_of (inl a) = a.short
-  short_of (inr b) = b.short
-
-  first_of_book : {r : SetAnswer} → FirstOutcome book symbols r → OfBook book NoSet (λ g s. TooLong s ⊎ (Strange g s ⊎ Begun g s)) r
-  first_of_book (calls.refused r h) = of_refusal r h
-  first_of_book (calls.too_long s l h) = of_grammar s (inl (record { long = l; is = h }))
-  first_of_book (calls.strange {i = i} s l k h) = of_grammar s (inr (inl (record { short = l; index = i; stranger = k; is = h })))
-  first_of_book (calls.served {α = α} s l k h v) =
-      of_grammar s (inr (inr (record { short = l; form = α; spelled = k; is = record { is = h; leading = v } })))
-
-  pub first_outcome_unique : {r s : SetAnswer} → FirstOutcome book symbols r → FirstOutcome book symbols s → r ≡ s
-  first_outcome_unique {r} {s} o p =
-      of_book_unique no_set_unique
-      (λ g. either_unique (λ x y a b. no_set_unique _ x y a.is b.is) (either_unique (strange_unique g) (begun_unique g) (strange_not_begun g)) (λ x y a b. omega (arith, a.long, short_of b)))
-      r s (first_of_book o) (first_of_book p)
+  pub first_outcome_unique : (r s : Result Trail Answer) → FirstOutcome book symbols r → FirstOutcome book symbols s → r ≡ s
+  first_outcome_unique (Ok t) (Ok u) o p = ap Ok (told_unique o p)
+  first_outcome_unique (Ok t) (Err a) o p = absurd (refused_not_told p o)
+  first_outcome_unique (Err a) (Ok t) o p = absurd (refused_not_told o p)
+  first_outcome_unique (Err a) (Err b) o p = ap Err (refused_unique o p)
 
 -- FIRST of the grammar that a book serves
-record FirstKnown (g : Grammar) (x : FirstResult) : Type 0 where
-  first : List ℕ
-  family : FirstFamily g first
-  is : x ≡ (index_of g, first)
+module _ {book x y : List ℕ} where
+  served_unique : {i j : Index} → FirstServed book x i → FirstServed book y j → (i ≡ j) × (x ≡ y)
+  served_unique a b =
+      let there = subst (λ (g : Grammar). FirstFamily g y) (serves_unique b.given.serves a.given.serves) b.family in
+      (indexes_unique a.given b.given, family_unique x y a.family there)
 
-known_first_unique : (g : Grammar) → Unique (FirstKnown g)
-known_first_unique g x y a b =
-    let same : a.first ≡ b.first = family_unique a.first b.first a.family b.family in
-    a.is ∙ (λ i. (index_of g, same i)) ∙ sym b.is
-
-worked_out_of_book : {book : List ℕ} {r : Reading} {first : List ℕ}
-    → FirstWorkedOut book r first
-    → OfBook book (λ a x. x ≡ (refusing a, replicate most_nonterminals 0)) FirstKnown (r, first)
-worked_out_of_book (calls.refused r) = of_refusal r refl
-worked_out_of_book (calls.served {first = first} s family) = of_grammar s (record { first = first; family = family; is = refl })
-
-pub first_worked_out_unique : {book : List ℕ} {r s : Reading} {x y : List ℕ}
+pub first_worked_out_unique : (book : List ℕ) {x y : List ℕ} (r s : Result Index Answer)
     → FirstWorkedOut book r x
     → FirstWorkedOut book s y
     → ◌≡◌ {A = FirstResult} (r, x) (s, y)
-first_worked_out_unique o p = of_book_unique (λ a x y e f. e ∙ sym f) known_first_unique _ _ (worked_out_of_book o) (worked_out_of_book p)
+first_worked_out_unique book (Ok i) (Ok j) o p = let (indexes, families) = served_unique o p in λ k. (Ok (indexes k), families k)
+first_worked_out_unique book (Ok i) (Err a) o p = absurd (refuses_not_serves p.0 o.given.serves)
+first_worked_out_unique book (Err a) (Ok i) o p = absurd (refuses_not_serves o.0 p.given.serves)
+first_worked_out_unique book (Err a) (Err b) o p =
+    let answers = refuses_unique o.0 p.0 in
+    let families = o.1 ∙ sym p.1 in
+    λ k. (Err (answers k), families k)

@@ -13,7 +13,7 @@ use Rattle.grammar.proofs.Rules.{rule_below}
 use Rattle.reader.proofs.Promise.{form_spelled, form_dropped}
 use Rattle.book.proofs.Promise.{Entry, serves_limits, served}
 use Rattle.first.specs.Trail.{form_of}
-use Rattle.first.specs.Forms.{Legible, Readable, Indexes}
+use Rattle.first.specs.Forms.{Legible, Readable, Lists}
 
 -- the bytes from a place on, as a form
 pub form_part : (book : List ℕ) (from count : ℕ)
@@ -32,14 +32,14 @@ right_part book place legible =
     let same : place + 4 + length_at book place - (place + 4) ≡ length_at book place = omega arith in
     rw same (form_part book (place + 4) (length_at book place) legible.inside)
 
-module _ {book places : List ℕ} {count : ℕ} {g : Grammar} (index : Indexes book places count g) where
-  pub indexes_limits : Limits g
-  indexes_limits = serves_limits index.serves
+module _ {book places : List ℕ} {count : ℕ} {g : Grammar} (index : Lists book places count g) where
+  pub lists_limits : Limits g
+  lists_limits = serves_limits index.serves
 
   module _ {p A : ℕ} {β : Form} (rule : Rule g p A β) where
     entry : Entry book (get_or places p 0) A β
     unfolding index_of
-    entry = rw index.placed ((served index.serves {r = index_of g} refl).entry rule)
+    entry = rw index.placed ((served index.serves {i = index_of g} refl).entry rule)
 
     -- the record of a production spells its two sides
     pub left_is : left_at book (get_or places p 0) ≡ A
@@ -61,11 +61,11 @@ module _ {book places : List ℕ} {count : ℕ} {g : Grammar} (index : Indexes b
 
   cells : length places ≡ 128
   unfolding index_of
-  cells = rw index.placed (served index.serves {r = index_of g} refl).cells
+  cells = rw index.placed (served index.serves {i = index_of g} refl).cells
 
-  pub indexes_readable : Readable book places count
-  indexes_readable =
+  pub lists_readable : Readable book places count
+  lists_readable =
       record {
-        listed = omega (arith, index.counted, cells, indexes_limits.productions_fit);
+        listed = omega (arith, index.counted, cells, lists_limits.productions_fit);
         each = λ p h. let (A, β, rule) = rule_at p h in record_legible rule;
       }

@@ -6,6 +6,7 @@ use mathlib.Core.List.{List, [], ◌∷◌, ◌++◌}
 use mathlib.Core.Option.{Option}
 use Prim.Native.Nat.{ℕ, ◌^◌, ◌≤◌, ◌<◌}
 use lib.ListN.{length, take, get_or}
+use Rattle.std.specs.Prelude.{Result, Ok, IsOk}
 use Rattle.grammar.specs.declared.Symbol.TheVariants.{Nonterminal}
 use Rattle.grammar.specs.Grammar.{Form, Grammar, Column, Member, Every, Known, Rule, First, Useful}
 use Rattle.grammar.specs.Vanishing.{Vanishes}
@@ -13,10 +14,10 @@ use Rattle.grammar.specs.Machine.{Exact, Continues}
 use Rattle.grammar.specs.Next.{ConsumesAll}
 use Rattle.sets.specs.Sets.{width, end_mark, empty_string, only, united, joined, member}
 use Rattle.sets.specs.Calls.{set_at, stored, number}
+use Rattle.answers.specs.declared.Answer.{Answer}
 use Rattle.answers.specs.Limits.{most_symbols}
 use Rattle.reader.specs.Book.{Limits}
-use Rattle.book.specs.declared.Reading.{Reading}
-use Rattle.first.specs.declared.SetAnswer.{SetAnswer}
+use Rattle.book.specs.declared.Index.{Index}
 use Rattle.first.specs.Numbers.{IsSet, Sets, FirstSets, FamilyOf}
 use Rattle.first.specs.declared.forms.Trail.{Trail}
 use Rattle.first.specs.Trail.{trail, vanishing, Trailed, FirstSound, FirstAt, FirstClosed}
@@ -96,31 +97,29 @@ pub trail_joined : (fs : List ℕ) (k : ℕ) (α : Form)
     → trail fs k α ≡ joined empty_string (trail fs (only empty_string) α) k
 trail_joined = joins.trail_joined
 
-module _ {book xs ys : List ℕ} {r s t : SetAnswer} where
+module _ {book : List ℕ} (xs ys : List ℕ) where
   -- of the calls: where both parts are done, the whole is done with the join of their sets
-  pub first_of_joined : FirstOutcome book xs r
-      → FirstOutcome book ys s
+  pub first_of_joined : {r s : Trail} (t : Result Trail Answer)
+      → FirstOutcome book xs (Ok r)
+      → FirstOutcome book ys (Ok s)
       → FirstOutcome book (xs ++ ys) t
       → length (xs ++ ys) ≤ most_symbols
-      → r.answer.number ≡ 0
-      → s.answer.number ≡ 0
       → FirstJoined r s t
-  first_of_joined = calls.first_of_joined
+  first_of_joined t front back whole short = calls.first_of_joined xs ys short front back t whole
 
   -- and where the whole is done, so are both parts
-  pub first_of_split : FirstOutcome book xs r
+  pub first_of_split : (r s : Result Trail Answer) {t : Trail}
+      → FirstOutcome book xs r
       → FirstOutcome book ys s
-      → FirstOutcome book (xs ++ ys) t
+      → FirstOutcome book (xs ++ ys) (Ok t)
       → length (xs ++ ys) ≤ most_symbols
-      → t.answer.number ≡ 0
-      → (r.answer.number ≡ 0) × (s.answer.number ≡ 0)
-  first_of_split = calls.first_of_split
+      → IsOk r × IsOk s
+  first_of_split r s front back whole short = calls.first_of_split xs ys short whole r s front back
 
 -- FIRST of a string that is done has the empty string exactly if the number is that of all its symbols
-pub first_of_whole : {book symbols : List ℕ} {r : SetAnswer}
-    → FirstOutcome book symbols r
-    → r.answer.number ≡ 0
-    → (member empty_string (number r.set) ≡ true) ↔ (r.vanishing ≡ length symbols)
+pub first_of_whole : {book symbols : List ℕ} {t : Trail}
+    → FirstOutcome book symbols (Ok t)
+    → (member empty_string (number t.set) ≡ true) ↔ (t.vanishing ≡ length symbols)
 first_of_whole = whole.first_of_whole
 
 -- the premises above are met: the calls for n2, n3 and n2 n3 of the house book are done, and their sets join
@@ -141,14 +140,14 @@ pub trailed_unique : {fs : List ℕ} {k : ℕ} {α : Form} {r s : Trail} → Tra
 trailed_unique {fs} {k} {α} {r} {s} = trails.trailed_unique fs k α r s
 
 -- of FIRST of a symbol string
-pub first_outcome_unique : {book symbols : List ℕ} {r s : SetAnswer}
+pub first_outcome_unique : (book symbols : List ℕ) (r s : Result Trail Answer)
     → FirstOutcome book symbols r
     → FirstOutcome book symbols s
     → r ≡ s
-first_outcome_unique {book} {symbols} = answers.first_outcome_unique book symbols
+first_outcome_unique = answers.first_outcome_unique
 
 -- and of FIRST of each nonterminal
-pub first_worked_out_unique : {book : List ℕ} {r s : Reading} {x y : List ℕ}
+pub first_worked_out_unique : (book : List ℕ) {x y : List ℕ} (r s : Result Index Answer)
     → FirstWorkedOut book r x
     → FirstWorkedOut book s y
     → ◌≡◌ {A = FirstResult} (r, x) (s, y)

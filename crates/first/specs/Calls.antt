@@ -1,43 +1,38 @@
 -- What working out FIRST and FIRST of a symbol string answer, for every book.
 -- Document 01, "Refusals and their numbers" and "Sets and table"; document 02, W5.
-use Rattle.std.specs.Prelude.{◌≡◌, ◌≢◌, List, map, ℕ, ◌<◌, ◌≤◌, length, get_or, replicate}
+use Rattle.std.specs.Prelude.{◌≡◌, ◌≢◌, List, map, ℕ, ◌<◌, ◌≤◌, length, get_or, replicate, Result, MatchResult}
 use Rattle.std.proofs.Math.Option.{some}
 use Rattle.grammar.specs.declared.Symbol.{Symbol}
 use Rattle.grammar.specs.Grammar.{Form, Grammar, Member, First}
 use Rattle.grammar.specs.Vanishing.{Vanishes}
 use Rattle.sets.specs.Calls.{number}
 use Rattle.answers.specs.declared.Answer.{Answer}
-use Rattle.answers.specs.Answers.{done, refusal, no_set}
+use Rattle.answers.specs.Answers.{refusal}
 use Rattle.answers.specs.Refusals.{limit, symbol}
 use Rattle.answers.specs.Limits.{most_nonterminals, most_symbols}
-use Rattle.book.specs.declared.Reading.{Reading}
+use Rattle.book.specs.declared.Index.{Index}
 use Rattle.reader.specs.Book.{symbol_of}
-use Rattle.book.specs.Judging.{refusing, index_of, Refuses, Serves}
-use Rattle.first.specs.declared.SetAnswer.{SetAnswer}
+use Rattle.book.specs.Judging.{Refuses, Serves, Indexes}
+use Rattle.first.specs.declared.forms.Trail.{Trail}
 use Rattle.first.specs.Numbers.{IsSet, FirstFamily}
 
--- the index of a book and FIRST of each nonterminal; with a refusal no member anywhere
-pub data FirstWorkedOut (book : List ℕ) : Reading → List ℕ → Type 0 where
-  refused : {a : Answer}
-      → Refuses book a
-      → FirstWorkedOut book (refusing a) (replicate most_nonterminals 0)
-  served : {g : Grammar} {first : List ℕ}
-      → Serves book g
-      → FirstFamily g first
-      → FirstWorkedOut book (index_of g) first
+-- the index of the grammar that the book serves, and FIRST of each of its nonterminals
+pub record FirstServed (book first : List ℕ) (index : Index) : Type 0 where
+  pub given : Indexes book index
+  pub family : FirstFamily given.grammar first
+
+-- an index and FIRST of each nonterminal; with a refusal no member anywhere
+abbrev pub FirstWorkedOut : List ℕ → Result Index Answer → List ℕ → Type 0
+FirstWorkedOut book r first =
+    MatchResult r (FirstServed book first) (λ a. Refuses book a × (first ≡ replicate most_nonterminals 0))
 
 abbrev pub FirstResult : Type 0
-FirstResult = Reading × List ℕ
+FirstResult = Result Index Answer × List ℕ
 
--- the set of an answer that is done; set and number are 0 with a refusal
-pub record SetIs (P : Member → Type 0) (r : SetAnswer) : Type 0 where
-  pub answer : r.answer ≡ done 0
-  pub holds : IsSet (number r.set) P
-
-pub record NoSet (a : Answer) (r : SetAnswer) : Type 0 where
-  pub answer : r.answer ≡ a
-  pub empty : r.set ≡ no_set
-  pub none : r.vanishing ≡ 0
+-- a set, and how many leading symbols of a form can vanish
+pub record SetFor (P : Member → Type 0) (g : Grammar) (α : Form) (t : Trail) : Type 0 where
+  pub holds : IsSet (number t.set) P
+  pub leading : Vanishes g α t.vanishing
 
 -- the bytes before index i are symbols of the grammar, that at i is not
 pub record FirstStranger (g : Grammar) (symbols : List ℕ) (i : ℕ) : Type 0 where
@@ -47,27 +42,30 @@ pub record FirstStranger (g : Grammar) (symbols : List ℕ) (i : ℕ) : Type 0 w
       → j < i
       → (s : Symbol) × (symbol_of g.tokens g.nonterminals (get_or symbols j 0) ≡ some s)
 
--- FIRST of a symbol string, and how many of its leading symbols can vanish
-pub data FirstOutcome (book symbols : List ℕ) (r : SetAnswer) : Type 0 where
+-- the refusal of the book, or of a symbol string
+pub data FirstRefused (book symbols : List ℕ) : Answer → Type 0 where
   refused : {a : Answer}
       → Refuses book a
-      → NoSet a r
-      → FirstOutcome book symbols r
+      → FirstRefused book symbols a
   too_long : {g : Grammar}
       → Serves book g
       → most_symbols < length symbols
-      → NoSet (refusal limit most_symbols 0) r
-      → FirstOutcome book symbols r
+      → FirstRefused book symbols (refusal limit most_symbols 0)
   strange : {g : Grammar} {i : ℕ}
       → Serves book g
       → length symbols ≤ most_symbols
       → FirstStranger g symbols i
-      → NoSet (refusal symbol i 0) r
-      → FirstOutcome book symbols r
-  served : {g : Grammar} {α : Form}
-      → Serves book g
-      → length symbols ≤ most_symbols
-      → map (symbol_of g.tokens g.nonterminals) symbols ≡ map some α
-      → SetIs (First g α) r
-      → Vanishes g α r.vanishing
-      → FirstOutcome book symbols r
+      → FirstRefused book symbols (refusal symbol i 0)
+
+-- FIRST of the form that a symbol string spells, and how many of its leading symbols can vanish
+pub record FirstTold (book symbols : List ℕ) (t : Trail) : Type 0 where
+  pub grammar : Grammar
+  pub form : Form
+  pub serves : Serves book grammar
+  pub short : length symbols ≤ most_symbols
+  pub spelled : map (symbol_of grammar.tokens grammar.nonterminals) symbols ≡ map some form
+  pub told : SetFor (First grammar form) grammar form t
+
+-- one of them
+abbrev pub FirstOutcome : (book symbols : List ℕ) → Result Trail Answer → Type 0
+FirstOutcome book symbols r = MatchResult r (FirstTold book symbols) (FirstRefused book symbols)

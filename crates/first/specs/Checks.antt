@@ -1,17 +1,21 @@
 -- The check of a symbol string, with the refusal that it gives. Document 01, "Refusals and their numbers": 4 and 5.
 -- Only contracts inside the crate cite what stands here.
-use Rattle.std.specs.Prelude.{List, ℕ, ◌≤◌, ◌<◌, length, get_or}
+use Rattle.std.specs.Prelude.{List, ℕ, ◌≤◌, ◌<◌, length, get_or, Option, Result, ⊤}
 use Rattle.answers.specs.declared.Answer.{Answer}
 use Rattle.answers.specs.Answers.{refusal}
 use Rattle.answers.specs.Refusals as refusals
 use Rattle.answers.specs.Limits.{most_symbols}
-use Rattle.answers.specs.Lowest.{Lowest}
-use Rattle.answers.specs.Checks.{Checked}
+use Rattle.answers.specs.Lowest.{LowestAt, LowestIn}
+use Rattle.answers.specs.Checks.{Tested}
 use Rattle.reader.specs.Book.{IsSymbol}
 
--- the first byte that is no symbol, or the length
-abbrev pub Stranger : (T N : ℕ) → List ℕ → ℕ → Type 0
-Stranger T N symbols = Lowest (λ i. ¬ IsSymbol T N (get_or symbols i 0)) (length symbols)
+-- byte i is no symbol
+abbrev pub IsStrange : (T N : ℕ) → List ℕ → ℕ → Type 0
+IsStrange T N symbols i = ¬ IsSymbol T N (get_or symbols i 0)
+
+-- the first byte that is no symbol
+abbrev pub Stranger : (T N : ℕ) → List ℕ → Option ℕ → Type 0
+Stranger T N symbols = LowestIn (IsStrange T N symbols) (length symbols)
 
 -- the refusal of a symbol string
 pub data Unspelled (T N : ℕ) (symbols : List ℕ) : Answer → Type 0 where
@@ -19,8 +23,7 @@ pub data Unspelled (T N : ℕ) (symbols : List ℕ) : Answer → Type 0 where
       → Unspelled T N symbols (refusal refusals.limit most_symbols 0)
   strange : {i : ℕ}
       → length symbols ≤ most_symbols
-      → i < length symbols
-      → Stranger T N symbols i
+      → LowestAt (IsStrange T N symbols) (length symbols) i
       → Unspelled T N symbols (refusal refusals.symbol i 0)
 
 -- a symbol string of at most 16 symbols of the grammar
@@ -28,5 +31,5 @@ pub record SymbolString (T N : ℕ) (symbols : List ℕ) : Type 0 where
   pub short : length symbols ≤ most_symbols
   pub symbol : (i : ℕ) → i < length symbols → IsSymbol T N (get_or symbols i 0)
 
-abbrev pub Spelled : Answer → (T N : ℕ) → List ℕ → Answer → Type 0
-Spelled before T N symbols = Checked before (Unspelled T N symbols) (SymbolString T N symbols)
+abbrev pub Spelled : (T N : ℕ) → List ℕ → Result ⊤ Answer → Type 0
+Spelled T N symbols = Tested (Unspelled T N symbols) (SymbolString T N symbols)

@@ -2,9 +2,8 @@
 -- Document 01, "The book": a record is its mark, left side, length, symbols.
 use Rattle.std.specs.Prelude.{◌≡◌, List, ℕ, ◌+◌, ◌≤◌, ◌<◌, length, get_or}
 use Rattle.grammar.specs.Grammar.{Grammar}
-use Rattle.book.specs.declared.Reading.{Reading}
 use Rattle.reader.specs.Fields.{length_at}
-use Rattle.book.specs.Judging.{places_in, index_of, Serves}
+use Rattle.book.specs.Judging.{places_in, Serves}
 
 -- the record at a place lies within the book
 pub record Legible (book : List ℕ) (place : ℕ) : Type 0 where
@@ -16,13 +15,7 @@ pub record Readable (book places : List ℕ) (count : ℕ) : Type 0 where
   pub each : (p : ℕ) → p < count → Legible book (get_or places p 0)
 
 -- the book serves the grammar, and these are the places of its records and their number
-pub record Indexes (book places : List ℕ) (count : ℕ) (g : Grammar) : Type 0 where
+pub record Lists (book places : List ℕ) (count : ℕ) (g : Grammar) : Type 0 where
   pub serves : Serves book g
   pub placed : places ≡ places_in g.productions
   pub counted : count ≡ length g.productions
-
--- the reading is the index of the grammar that the book serves
-pub record Given (book : List ℕ) (reading : Reading) : Type 0 where
-  pub grammar : Grammar
-  pub serves : Serves book grammar
-  pub index : reading ≡ index_of grammar

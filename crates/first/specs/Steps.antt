@@ -8,7 +8,7 @@ use Rattle.answers.specs.Limits.{most_nonterminals}
 use Rattle.reader.specs.Fields.{left_at, right_at}
 use Rattle.first.specs.Numbers.{FirstFamily}
 use Rattle.first.specs.Trail.{trail}
-use Rattle.first.specs.Forms.{Indexes}
+use Rattle.first.specs.Forms.{Lists}
 
 -- a step is made on a family of sets, and settled says whether it changed nothing
 pub record Made (step : List ℕ → List ℕ) (before after : List ℕ) (settled : Bool) : Type 0 where
@@ -36,4 +36,4 @@ module _ (book places : List ℕ) where
   pub record FirstFound (count : ℕ) (cells : List ℕ) : Type 0 where
     pub sized : length cells ≡ most_nonterminals
     pub none : count ≡ 0 → cells ≡ replicate most_nonterminals 0
-    pub found : (g : Grammar) → Indexes book places count g → FirstFamily g cells
+    pub found : (g : Grammar) → Lists book places count g → FirstFamily g cells

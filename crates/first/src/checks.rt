@@ -2,38 +2,31 @@
 ghost use Rattle.first.specs.Checks.{Stranger, Spelled};
 
 use answers::limits::MOST_SYMBOLS;
-use answers::refusals::{DONE, LIMIT, SYMBOL};
+use answers::refusals::Refusal;
 use answers::{Answer, refusal};
 use reader::fields::is_symbol;
 
-// The first byte that is no symbol of the grammar, or the length.
-fn stranger(symbols: &[u8], t: u8, n: u8) -> usize
+// The first byte that is no symbol of the grammar.
+fn stranger(symbols: &[u8], t: u8, n: u8) -> Option<usize>
     ensures { Stranger t n symbols.now result }
 {
-    let mut i: usize = 0;
-    while i < symbols.len() {
-        if !is_symbol(symbols[i], t, n) {
-            return i;
+    for (i, byte) in symbols.iter().enumerate() {
+        if !is_symbol(*byte, t, n) {
+            return Some(i);
         }
-        i += 1;
     }
-    i
+    None
 }
 
 // A symbol string is short enough, and each byte is a symbol of the grammar.
-pub(crate) fn spelled(before: Answer, symbols: &[u8], t: u8, n: u8) -> Answer
-    ensures { Spelled before t n symbols.now result }
+pub(crate) fn spelled(symbols: &[u8], t: u8, n: u8) -> Result<(), Answer>
+    ensures { Spelled t n symbols.now result }
 {
-    if before.number != DONE {
-        return before;
-    }
     if (MOST_SYMBOLS as usize) < symbols.len() {
-        return refusal(LIMIT, MOST_SYMBOLS as u64, 0);
+        return Err(refusal(Refusal::Limit, MOST_SYMBOLS as u64, 0));
     }
-    let i = stranger(symbols, t, n);
-    if i < symbols.len() {
-        refusal(SYMBOL, i as u64, 0)
-    } else {
-        before
+    match stranger(symbols, t, n) {
+        Some(i) => Err(refusal(Refusal::Symbol, i as u64, 0)),
+        None => Ok(()),
     }
 }

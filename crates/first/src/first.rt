@@ -6,6 +6,7 @@ ghost use Rattle.first.specs.Steps.{Made, first_step, first_steps, passed, First
 
 use crate::families::unite;
 use crate::forms::trail_of;
+use book::Index;
 use reader::fields::{LEFT, LENGTH, SYMBOLS};
 use sets::{EMPTY_STRING, single};
 
@@ -22,24 +23,24 @@ fn first_step(book: &[u8], place: u16, first: &mut [u64]) -> bool
 }
 
 // Each record once, in order, and whether that changed nothing.
-fn first_pass(book: &[u8], places: &[u16], count: usize, first: &mut [u64]) -> bool
-    requires { Readable book.now places.now count }
-    ensures { Made (passed (first_steps book.now places.now) count)
+fn first_pass(book: &[u8], index: &Index, first: &mut [u64]) -> bool
+    requires { Readable book.now index.now.places index.now.outline.productions }
+    ensures { Made (passed (first_steps book.now index.now.places) index.now.outline.productions)
         first.old first.new result }
 {
+    let count = index.outline.productions as usize;
     let mut settled = true;
-    let mut p: usize = 0;
-    while p < count {
-        settled = settled & first_step(book, places[p], first);
-        p += 1;
+    for place in &index.places[..count] {
+        settled &= first_step(book, *place, first);
     }
     settled
 }
 
 // FIRST of each nonterminal, from sets without members: passes until one changes nothing.
-pub(crate) fn firsts(book: &[u8], places: &[u16], count: usize, first: &mut [u64; 64])
-    requires { Readable book.now places.now count × (first.old ≡ replicate most_nonterminals 0) }
-    ensures { FirstFound book.now places.now count first.new }
+pub(crate) fn firsts(book: &[u8], index: &Index, first: &mut [u64; 64])
+    requires { Readable book.now index.now.places index.now.outline.productions
+        × (first.old ≡ replicate most_nonterminals 0) }
+    ensures { FirstFound book.now index.now.places index.now.outline.productions first.new }
 {
-    while !first_pass(book, places, count, first) {}
+    while !first_pass(book, index, first) {}
 }

@@ -30,20 +30,17 @@ pub fn trail_of(form: &[u8], first: &[u64], behind: Set) -> Trail
     ensures { Trailed first.now (number behind) (form_of form.now) result }
 {
     let mut begun = single(EMPTY_STRING);
-    let mut j: usize = 0;
-    while j < form.len() {
-        begun = join(begun, symbol_set(form[j], first));
+    for (j, byte) in form.iter().enumerate() {
+        begun = join(begun, symbol_set(*byte, first));
         if !has(begun, EMPTY_STRING) {
             return Trail {
                 set: begun,
                 vanishing: j,
             };
         }
-        j += 1;
     }
-    let set = join(begun, behind);
     Trail {
-        set,
+        set: join(begun, behind),
         vanishing: form.len(),
     }
 }

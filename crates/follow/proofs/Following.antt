@@ -25,13 +25,13 @@ use Rattle.book.specs.Judging.{AllUseful}
 use Rattle.reader.specs.Fields.{left_at, tail_at, symbol_of_byte, length_at}
 use Rattle.grammar.proofs.Rules.{below_rule}
 use Rattle.reader.proofs.Promise.{form_none, form_turn}
-use Rattle.first.specs.Forms.{Indexes}
+use Rattle.first.specs.Forms.{Lists}
 use Rattle.first.specs.Trail.{trail, Inside, FirstSound, FirstAt, Grown}
 use Rattle.first.specs.Steps.{Made, passed}
 use Rattle.first.proofs.Promise.{only_there, sets_sound, no_member, Ends, ends_none, ends_stored, grown_same, Expands, expands_united}
 use Rattle.first.proofs.Promise.{expands_then, united_there, made_then, passed_keeps, passed_expands, passed_fires, passed_nothing}
 use Rattle.first.proofs.Promise.{every_symbol_fits, trail_fits, Fits, fits_none, stored_fits, united_at_fits, Refines, Round, round_next, round_last}
-use Rattle.first.proofs.Promise.{indexes_limits, left_is, tail_is, rule_at}
+use Rattle.first.proofs.Promise.{lists_limits, left_is, tail_is, rule_at}
 use Rattle.follow.specs.Families.{FollowFamily}
 use Rattle.follow.specs.Walks.{Halts, FollowSound, FollowClosed, spread, walked, follow_step, follow_steps, Walkable, WalkableFrom}
 use Rattle.follow.specs.Walks.{TailAt, Tails, FollowFound, PassedOver}
@@ -203,7 +203,7 @@ module _ (book places : List ℕ) (count start : ℕ) (fs : List ℕ) where
     pub seeds : (p : ℕ) → p < count → Seeds g fs p cells
 
   abbrev pub FollowSoFar : List ℕ → Type 0
-  FollowSoFar cells = (g : Grammar) → Indexes book places count g → start ≡ g.start → FirstAt g fs → SoFar g cells
+  FollowSoFar cells = (g : Grammar) → Lists book places count g → start ≡ g.start → FirstAt g fs → SoFar g cells
 
   module _ (from : List ℕ) where
     abbrev pub follow_pass : List ℕ → List ℕ
@@ -216,7 +216,7 @@ module _ (book places : List ℕ) (count start : ℕ) (fs : List ℕ) where
         walked_fits fs (set_at cells left) firsts (fits.each left) (tail_at book (get_or places p 0) (get_or from p 0)) cells fits
 
     follow_step_sound : {g : Grammar}
-        → Indexes book places count g
+        → Lists book places count g
         → FirstAt g fs
         → (p : ℕ)
         → p < count
@@ -226,12 +226,12 @@ module _ (book places : List ℕ) (count start : ℕ) (fs : List ℕ) where
     unfolding follow_step
     follow_step_sound index exact p h cells sound =
         let (B, β, rule) = rule_at index p h in
-        let limits = indexes_limits index in
+        let limits = lists_limits index in
         rw (left_is index rule, tail_is index rule (get_or from p 0))
         (walked_sound limits index.serves.useful (sets_sound exact) rule (sound.each B (limits.well_formed.left_known rule)) (drop (get_or from p 0) β) (λ A v b. behind_dropped (get_or from p 0) β b) sound)
 
     follow_step_ends : {g : Grammar}
-        → Indexes book places count g
+        → Lists book places count g
         → (p : ℕ)
         → p < count
         → (cells : List ℕ)
@@ -241,7 +241,7 @@ module _ (book places : List ℕ) (count start : ℕ) (fs : List ℕ) where
     follow_step_ends index p h cells ends =
         let (B, β, rule) = rule_at index p h in
         rw (left_is index rule, tail_is index rule (get_or from p 0))
-        (walked_ends fs (set_at cells B) (drop (get_or from p 0) β) (λ A v b. behind_below (behind_dropped (get_or from p 0) β b) ((indexes_limits index).well_formed.right_known rule)) ends)
+        (walked_ends fs (set_at cells B) (drop (get_or from p 0) β) (λ A v b. behind_below (behind_dropped (get_or from p 0) β b) ((lists_limits index).well_formed.right_known rule)) ends)
 
     pub follow_refines : Fits fs → Refines FollowSoFar follow_pass
     follow_refines firsts =
@@ -259,9 +259,9 @@ module _ (book places : List ℕ) (count start : ℕ) (fs : List ℕ) where
               };
         }
 
-    module _ {g : Grammar} (index : Indexes book places count g) where
+    module _ {g : Grammar} (index : Lists book places count g) where
       limits : Limits g
-      limits = indexes_limits index
+      limits = lists_limits index
 
       occurs_inside : {p B : ℕ} {β : Form}
           → Rule g p B β
@@ -337,15 +337,15 @@ module _ (book places : List ℕ) (count start : ℕ) (fs : List ℕ) where
         fits : Fits cells
         fits = rw begun (stored_fits (replicate most_nonterminals 0) start (only end_mark) (fits_none most_nonterminals) (only_fits width end_mark (omega arith)))
 
-        ended : {g : Grammar} → Indexes book places count g → start ≡ g.start → member end_mark (get_or cells start 0) ≡ true
+        ended : {g : Grammar} → Lists book places count g → start ≡ g.start → member end_mark (get_or cells start 0) ≡ true
         ended index started =
-            let inside : start < most_nonterminals = omega (arith, started, (indexes_limits index).well_formed.start_known, (indexes_limits index).nonterminals_fit) in
+            let inside : start < most_nonterminals = omega (arith, started, (lists_limits index).well_formed.start_known, (lists_limits index).nonterminals_fit) in
             let there : get_or cells start 0 ≡ only end_mark = rw begun (get_or-set_same (replicate most_nonterminals 0) start (only end_mark) 0 inside) in
             rw there (only_there end_mark)
 
-        begun_ends : {g : Grammar} → Indexes book places count g → start ≡ g.start → Ends g.nonterminals cells
+        begun_ends : {g : Grammar} → Lists book places count g → start ≡ g.start → Ends g.nonterminals cells
         begun_ends {g} index started =
-            rw (begun, started) (ends_stored (indexes_limits index).well_formed.start_known (only end_mark) (ends_none g.nonterminals most_nonterminals))
+            rw (begun, started) (ends_stored (lists_limits index).well_formed.start_known (only end_mark) (ends_none g.nonterminals most_nonterminals))
 
         so_far : FollowSoFar (follow_pass none cells)
         so_far g index started exact =
@@ -364,10 +364,10 @@ module _ (book places : List ℕ) (count start : ℕ) (fs : List ℕ) where
       → FollowFound book places count start fs cells
   follow_found {from} {cells} tails round same = record { sized = round.sized; found = found }
     where
-      found : (g : Grammar) → Indexes book places count g → start ≡ g.start → FirstAt g fs → FollowFamily g cells
+      found : (g : Grammar) → Lists book places count g → start ≡ g.start → FirstAt g fs → FollowFamily g cells
       found g index started exact_first =
           let s = round.so_far g index started exact_first in
-          let exact = follow_words_exact (indexes_limits index) exact_first (λ A a. round.fits.each A) s.sound (follow_closed from index started tails round.sized s same) in
+          let exact = follow_words_exact (lists_limits index) exact_first (λ A a. round.fits.each A) s.sound (follow_closed from index started tails round.sized s same) in
           record { sized = round.sized; each = exact.each; beyond = s.ends.beyond }
 
   -- so they are after a pass that changed nothing

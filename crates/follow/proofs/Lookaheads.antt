@@ -10,8 +10,8 @@ use Rattle.grammar.specs.Grammar.{Grammar}
 use Rattle.answers.specs.Limits.{most_productions}
 use Rattle.grammar.proofs.Rules.{below_rule}
 use Rattle.first.specs.Numbers.{FirstFamily}
-use Rattle.first.specs.Forms.{Indexes}
-use Rattle.first.proofs.Promise.{no_member, family_at, indexes_limits, left_is, right_is}
+use Rattle.first.specs.Forms.{Lists}
+use Rattle.first.proofs.Promise.{no_member, family_at, lists_limits, left_is, right_is}
 use Rattle.follow.specs.Families.{FollowFamily, Lookaheads}
 use Rattle.follow.specs.Walks.{lookahead_of, AheadFilled}
 use Rattle.follow.proofs.Closed.{lookahead_is}
@@ -41,12 +41,12 @@ module _ {book places fs ys : List ℕ} where
       ext_get_or 0 cells (replicate most_productions 0) (filled.sized ∙ sym (length-replicate {A = ℕ} most_productions 0))
       (λ p h. filled.beyond p (omega arith) ∙ sym (no_member most_productions p))
 
-  pub ahead_found : {cells : List ℕ} {count : ℕ} {g : Grammar} → Indexes book places count g → FirstFamily g fs → FollowFamily g ys
+  pub ahead_found : {cells : List ℕ} {count : ℕ} {g : Grammar} → Lists book places count g → FirstFamily g fs → FollowFamily g ys
       → AheadFilled book places fs ys count cells → Lookaheads g cells
   ahead_found index first follow filled =
       record {
         sized = filled.sized;
         each = λ {p} rule. rw (filled.each p (omega (arith, index.counted, below_rule rule)), left_is index rule, right_is index rule)
-            (lookahead_is (indexes_limits index) (family_at first) (family_at follow) rule);
+            (lookahead_is (lists_limits index) (family_at first) (family_at follow) rule);
         beyond = λ p past. filled.beyond p (omega (arith, index.counted));
       }

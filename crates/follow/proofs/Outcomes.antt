@@ -1,30 +1,30 @@
 -- Any two outcomes that the promises of sets, a lookahead and working out allow of the same inputs are equal, the answer and every buffer.
-use mathlib.Core.Path.{◌≡◌, refl, sym, ap, ◌∙◌, subst₂}
+use mathlib.Core.Path.{◌≡◌, refl, sym, ap, ◌∙◌, subst, subst₂}
 use mathlib.Core.Logic.{◌⊎◌, inl, inr}
 use mathlib.Core.List.{List}
 use Prim.Native.Nat.{ℕ, ◌≤◌}
 use native.Mathlib.Omega.{arith}
-use lib.ListN.{length, replicate}
+use lib.ListN.{length}
+use Rattle.std.specs.Prelude.{Result, Ok, Err}
 use Rattle.grammar.specs.Grammar.{Grammar, Form, Rule, Lookahead}
 use Rattle.grammar.proofs.Leftmost.{rule_same}
 use Rattle.answers.specs.declared.Answer.{Answer}
 use Rattle.answers.specs.Answers.{done, refusal}
-use Rattle.answers.specs.Limits.{most_nonterminals, most_productions}
 use Rattle.answers.specs.Buffers.{over}
-use Rattle.answers.specs.Refusals as refusals
 use Rattle.answers.proofs.Promise.{Unique, either_unique}
-use Rattle.book.specs.declared.Reading.{Reading}
-use Rattle.book.specs.Judging.{refusing, index_of}
+use Rattle.book.specs.declared.Index.{Index}
+use Rattle.book.proofs.Promise.{refuses_unique, refuses_not_serves, serves_unique, indexes_unique}
 use Rattle.grammar.proofs.Rules.{below_rule}
 use Rattle.first.specs.Numbers.{FirstSets, FirstFamily}
-use Rattle.first.specs.declared.SetAnswer.{SetAnswer}
-use Rattle.first.specs.Calls.{NoSet}
-use Rattle.first.proofs.Promise.{sets_unique, family_unique, OfBook, of_refusal, of_grammar, of_book_unique, no_set_unique}
-use Rattle.first.proofs.Promise.{SetFor, set_for_unique}
+use Rattle.first.specs.declared.forms.Trail.{Trail}
+use Rattle.first.specs.Calls.{SetFor}
+use Rattle.first.proofs.Promise.{sets_unique, family_unique, OfBook, of_refusal, of_grammar, of_book_unique}
+use Rattle.first.proofs.Promise.{set_for_unique}
 use Rattle.follow.specs.Families.{FollowSets, FollowFamily, Lookaheads}
-use Rattle.follow.specs.Calls.{SetsRoom, no_first, no_follow, SetsFit, SetsOutcome, SetsResult, LookaheadOutcome}
+use Rattle.follow.specs.Calls.{SetsRoom, no_first, no_follow, SetsFit, SetsOutcome, SetsResult}
+use Rattle.follow.specs.Calls.{LookaheadRefused, LookaheadTold, LookaheadOutcome}
 use Rattle.follow.specs.Calls as calls
-use Rattle.follow.specs.WorkedOut.{WorkedOut, refused, served, WorkedOutResult}
+use Rattle.follow.specs.WorkedOut.{AllServed, WorkedOut, WorkedOutResult}
 use Rattle.follow.proofs.Unique.{lookaheads_unique}
 
 module _ {g : Grammar} {first follow : List ℕ} where
@@ -84,62 +84,54 @@ module _ (book first follow : List ℕ) where
       (λ g. either_unique (no_room_unique first follow sets_kept g) (sets_served_unique g) (λ x y r s. room_not_fit r.room s.fit))
       _ _ (sets_of_book o) (sets_of_book p)
 
--- what is worked out of a book that serves a grammar
-record Known (g : Grammar) (x : WorkedOutResult) : Type 0 where
-  first : List ℕ
-  follow : List ℕ
-  ahead : List ℕ
-  firsts : FirstFamily g first
-  follows : FollowFamily g follow
-  looks : Lookaheads g ahead
-  is : x ≡ (index_of g, first, follow, ahead)
+-- what is worked out of a book
+module _ {book f w a x y z : List ℕ} where
+  served_unique : {i j : Index} → AllServed book f w a i → AllServed book x y z j → ◌≡◌ {A = WorkedOutResult} (Ok i, f, w, a) (Ok j, x, y, z)
+  served_unique o p =
+      let same = serves_unique p.given.serves o.given.serves in
+      let indexes = indexes_unique o.given p.given in
+      let firsts = family_unique f x o.firsts (subst (λ (g : Grammar). FirstFamily g x) same p.firsts) in
+      let follows = family_unique w y o.follows (subst (λ (g : Grammar). FollowFamily g y) same p.follows) in
+      let looks = lookaheads_unique a z o.looks (subst (λ (g : Grammar). Lookaheads g z) same p.looks) in
+      λ k. (Ok (indexes k), firsts k, follows k, looks k)
 
-known_unique : (g : Grammar) → Unique (Known g)
-known_unique g x y a b =
-    let firsts : a.first ≡ b.first = family_unique a.first b.first a.firsts b.firsts in
-    let follows : a.follow ≡ b.follow = family_unique a.follow b.follow a.follows b.follows in
-    let looks : a.ahead ≡ b.ahead = lookaheads_unique a.ahead b.ahead a.looks b.looks in
-    a.is ∙ (λ i. (index_of g, firsts i, follows i, looks i)) ∙ sym b.is
-
-abbrev nothing_worked_out : Answer → WorkedOutResult
-nothing_worked_out a = (refusing a, replicate most_nonterminals 0, replicate most_nonterminals 0, replicate most_productions 0)
-
-worked_out_of_book : {book : List ℕ} {r : Reading} {first follow ahead : List ℕ} → WorkedOut book r first follow ahead
-    → OfBook book (λ a x. x ≡ nothing_worked_out a) Known (r, first, follow, ahead)
-worked_out_of_book (refused r) = of_refusal r refl
-worked_out_of_book (served {first = f} {follow = w} {ahead = a} s h k l) =
-    of_grammar s (record { first = f; follow = w; ahead = a; firsts = h; follows = k; looks = l; is = refl })
-
-pub worked_out_unique : {book : List ℕ} {r s : Reading} {f w a x y z : List ℕ}
+pub worked_out_unique : (book : List ℕ) {f w a x y z : List ℕ} (r s : Result Index Answer)
     → WorkedOut book r f w a
     → WorkedOut book s x y z
     → ◌≡◌ {A = WorkedOutResult} (r, f, w, a) (s, x, y, z)
-worked_out_unique o p = of_book_unique (kept_unique nothing_worked_out) known_unique _ _ (worked_out_of_book o) (worked_out_of_book p)
+worked_out_unique book (Ok i) (Ok j) o p = served_unique o p
+worked_out_unique book (Ok i) (Err b) o p = absurd (refuses_not_serves p.0 o.given.serves)
+worked_out_unique book (Err b) (Ok i) o p = absurd (refuses_not_serves o.0 p.given.serves)
+worked_out_unique book (Err b) (Err c) o p =
+    let answers = refuses_unique o.0 p.0 in
+    let firsts = o.1 ∙ sym p.1 in
+    let follows = o.2 ∙ sym p.2 in
+    let looks = o.3 ∙ sym p.3 in
+    λ k. (Err (answers k), firsts k, follows k, looks k)
 
 module _ (book : List ℕ) (production : ℕ) where
-  record NoProduction (g : Grammar) (r : SetAnswer) : Type 0 where
-    past : length g.productions ≤ production
-    is : NoSet (refusal refusals.production production 0) r
+  refused_not_told : {a : Answer} {t : Trail} → LookaheadRefused book production a → LookaheadTold book production t → ⊥
+  refused_not_told (calls.refused r) told = refuses_not_serves r told.serves
+  refused_not_told (calls.no_production s l) told =
+      let rule = subst (λ (g : Grammar). Rule g production told.left told.right) (serves_unique told.serves s) told.rule in
+      omega (arith, below_rule rule)
 
-  record Looked (g : Grammar) (r : SetAnswer) : Type 0 where
-    left : ℕ
-    right : Form
-    rule : Rule g production left right
-    is : SetFor (Lookahead g left right) g right r
+  refused_unique : {a b : Answer} → LookaheadRefused book production a → LookaheadRefused book production b → a ≡ b
+  refused_unique (calls.refused r) (calls.refused q) = refuses_unique r q
+  refused_unique (calls.refused r) (calls.no_production s l) = absurd (refuses_not_serves r s)
+  refused_unique (calls.no_production s l) (calls.refused r) = absurd (refuses_not_serves r s)
+  refused_unique (calls.no_production s l) (calls.no_production t m) = refl
 
-  looked_unique : (g : Grammar) → Unique (Looked g)
-  looked_unique g r s a b =
-      let (left, right) = rule_same b.rule a.rule in
-      set_for_unique r s a.is (subst₂ (λ (A : ℕ) (α : Form). SetFor (Lookahead g A α) g α s) left right b.is)
+  told_unique : {t u : Trail} → LookaheadTold book production t → LookaheadTold book production u → t ≡ u
+  told_unique {t} {u} x y =
+      let same = serves_unique y.serves x.serves in
+      let rule = subst (λ (g : Grammar). Rule g production y.left y.right) same y.rule in
+      let there = subst (λ (g : Grammar). SetFor (Lookahead g y.left y.right) g y.right u) same y.told in
+      let (left, right) = rule_same rule x.rule in
+      set_for_unique t u x.told (subst₂ (λ (A : ℕ) (α : Form). SetFor (Lookahead x.grammar A α) x.grammar α u) left right there)
 
-  lookahead_of_book : {r : SetAnswer} → LookaheadOutcome book production r → OfBook book NoSet (λ g s. NoProduction g s ⊎ Looked g s) r
-  lookahead_of_book (calls.refused r h) = of_refusal r h
-  lookahead_of_book (calls.no_production s l h) = of_grammar s (inl (record { past = l; is = h }))
-  lookahead_of_book (calls.served {A = A} {α = α} s rule h v) =
-      of_grammar s (inr (record { left = A; right = α; rule = rule; is = record { is = h; leading = v } }))
-
-  pub lookahead_outcome_unique : {r s : SetAnswer} → LookaheadOutcome book production r → LookaheadOutcome book production s → r ≡ s
-  lookahead_outcome_unique {r} {s} o p =
-      of_book_unique no_set_unique
-      (λ g. either_unique (λ x y a b. no_set_unique _ x y a.is b.is) (looked_unique g) (λ x y n l. omega (arith, n.past, below_rule l.rule)))
-      r s (lookahead_of_book o) (lookahead_of_book p)
+  pub lookahead_outcome_unique : (r s : Result Trail Answer) → LookaheadOutcome book production r → LookaheadOutcome book production s → r ≡ s
+  lookahead_outcome_unique (Ok t) (Ok u) o p = ap Ok (told_unique o p)
+  lookahead_outcome_unique (Ok t) (Err a) o p = absurd (refused_not_told p o)
+  lookahead_outcome_unique (Err a) (Ok t) o p = absurd (refused_not_told o p)
+  lookahead_outcome_unique (Err a) (Err b) o p = ap Err (refused_unique o p)

@@ -3,15 +3,16 @@ use mathlib.Core.Path.{◌≡◌}
 use mathlib.Core.List.{List}
 use Prim.Native.Nat.{ℕ, ◌^◌, ◌≤◌, ◌<◌}
 use lib.ListN.{length, take, get_or}
+use Rattle.std.specs.Prelude.{Result}
 use Rattle.grammar.specs.Grammar.{Form, Grammar, Rule, First, Follow, Lookahead}
 use Rattle.grammar.specs.Occurrence.{Behind}
 use Rattle.sets.specs.Sets.{width, empty_string, united, joined}
 use Rattle.sets.specs.Calls.{set_at, stored}
 use Rattle.answers.specs.declared.Answer.{Answer}
 use Rattle.reader.specs.Book.{Limits}
-use Rattle.book.specs.declared.Reading.{Reading}
+use Rattle.book.specs.declared.Index.{Index}
 use Rattle.book.specs.Judging.{AllUseful}
-use Rattle.first.specs.declared.SetAnswer.{SetAnswer}
+use Rattle.first.specs.declared.forms.Trail.{Trail}
 use Rattle.first.specs.Numbers.{IsSet, FirstSets}
 use Rattle.first.specs.Trail.{trail, Inside, FirstSound, FirstAt}
 use Rattle.first.proofs.Promise.{sets_at, at_taken}
@@ -72,14 +73,14 @@ pub sets_outcome_unique : {book first follow : List ℕ} {a b : Answer} {f w x y
 sets_outcome_unique {book} {first} {follow} = outcomes.sets_outcome_unique book first follow
 
 -- of a lookahead
-pub lookahead_outcome_unique : {book : List ℕ} {production : ℕ} {r s : SetAnswer}
+pub lookahead_outcome_unique : (book : List ℕ) (production : ℕ) (r s : Result Trail Answer)
     → LookaheadOutcome book production r
     → LookaheadOutcome book production s
     → r ≡ s
-lookahead_outcome_unique {book} {production} = outcomes.lookahead_outcome_unique book production
+lookahead_outcome_unique = outcomes.lookahead_outcome_unique
 
 -- and of all that is worked out of a book
-pub worked_out_unique : {book : List ℕ} {r s : Reading} {f w a x y z : List ℕ}
+pub worked_out_unique : (book : List ℕ) {f w a x y z : List ℕ} (r s : Result Index Answer)
     → WorkedOut book r f w a
     → WorkedOut book s x y z
     → ◌≡◌ {A = WorkedOutResult} (r, f, w, a) (s, x, y, z)

@@ -1,16 +1,15 @@
 -- What sets and a lookahead answer and leave in the lent buffers, for every book and buffer.
 -- Document 01, "Refusals and their numbers" and "Sets and table"; document 02, W5.
-use Rattle.std.specs.Prelude.{List, ℕ, ◌<◌, ◌≤◌, length}
+use Rattle.std.specs.Prelude.{List, ℕ, ◌<◌, ◌≤◌, length, Result, MatchResult}
 use Rattle.grammar.specs.Grammar.{Form, Grammar, Rule, Lookahead}
-use Rattle.grammar.specs.Vanishing.{Vanishes}
 use Rattle.answers.specs.declared.Answer.{Answer}
 use Rattle.answers.specs.Answers.{done, refusal}
 use Rattle.answers.specs.Refusals.{room, first_room, follow_room, production}
 use Rattle.answers.specs.Buffers.{over}
 use Rattle.book.specs.Judging.{Refuses, Serves}
-use Rattle.first.specs.declared.SetAnswer.{SetAnswer}
+use Rattle.first.specs.declared.forms.Trail.{Trail}
 use Rattle.first.specs.Numbers.{FirstSets}
-use Rattle.first.specs.Calls.{SetIs, NoSet}
+use Rattle.first.specs.Calls.{SetFor}
 use Rattle.follow.specs.Families.{FollowSets}
 
 -- both set buffers have room for N sets, or the first that has not is named
@@ -45,20 +44,25 @@ pub data SetsOutcome (book first follow : List ℕ) : Answer → List ℕ → Li
 abbrev pub SetsResult : Type 0
 SetsResult = Answer × List ℕ × List ℕ
 
--- the lookahead of a production, and how many leading symbols of its right side can vanish
-pub data LookaheadOutcome (book : List ℕ) (number : ℕ) (r : SetAnswer) : Type 0 where
+-- the refusal of the book, or of a number that is no production's
+pub data LookaheadRefused (book : List ℕ) (number : ℕ) : Answer → Type 0 where
   refused : {a : Answer}
       → Refuses book a
-      → NoSet a r
-      → LookaheadOutcome book number r
+      → LookaheadRefused book number a
   no_production : {g : Grammar}
       → Serves book g
       → length g.productions ≤ number
-      → NoSet (refusal production number 0) r
-      → LookaheadOutcome book number r
-  served : {g : Grammar} {A : ℕ} {α : Form}
-      → Serves book g
-      → Rule g number A α
-      → SetIs (Lookahead g A α) r
-      → Vanishes g α r.vanishing
-      → LookaheadOutcome book number r
+      → LookaheadRefused book number (refusal production number 0)
+
+-- the lookahead of a production, and how many leading symbols of its right side can vanish
+pub record LookaheadTold (book : List ℕ) (number : ℕ) (t : Trail) : Type 0 where
+  pub grammar : Grammar
+  pub left : ℕ
+  pub right : Form
+  pub serves : Serves book grammar
+  pub rule : Rule grammar number left right
+  pub told : SetFor (Lookahead grammar left right) grammar right t
+
+-- one of them
+abbrev pub LookaheadOutcome : (book : List ℕ) (number : ℕ) → Result Trail Answer → Type 0
+LookaheadOutcome book number r = MatchResult r (LookaheadTold book number) (LookaheadRefused book number)

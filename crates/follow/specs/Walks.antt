@@ -1,20 +1,20 @@
 -- What working out FOLLOW does to a family of sets: each right side is walked from the right, with one trailer; and
 -- what it comes to. Document 01, "Sets and table". Only contracts inside the crate cite what stands here.
-use Rattle.std.specs.Prelude.{◌≡◌, Bool, true, false, ◌&&◌, ◌≢◌, List, [], ◌∷◌, ℕ, ◌≤◌, ◌<◌, length, get_or, replicate}
+use Rattle.std.specs.Prelude.{◌≡◌, Bool, true, false, ◌&&◌, List, [], ◌∷◌, ℕ, ◌≤◌, ◌<◌, length, get_or, replicate, Result, MatchResult}
 use Rattle.grammar.specs.declared.Symbol.{Symbol}
 use Rattle.grammar.specs.declared.Symbol.TheVariants.{Token, Nonterminal}
 use Rattle.grammar.specs.Grammar.{Form, Grammar, Every, Rule, Follow}
 use Rattle.grammar.specs.Occurrence.{Behind}
 use Rattle.sets.specs.Sets.{end_mark, empty_string, member, Subset, joined}
 use Rattle.sets.specs.Calls.{number, set_at}
-use Rattle.answers.specs.Refusals.{served}
+use Rattle.answers.specs.declared.Answer.{Answer}
 use Rattle.answers.specs.Limits.{most_nonterminals, most_productions}
-use Rattle.book.specs.declared.Reading.{Reading}
-use Rattle.book.specs.Judging.{Judged}
+use Rattle.book.specs.declared.Index.{Index}
+use Rattle.book.specs.Judging.{Refuses, Indexes}
 use Rattle.reader.specs.Fields.{left_at, length_at, right_at, tail_at}
 use Rattle.first.specs.Numbers.{FirstFamily}
 use Rattle.first.specs.Trail.{symbol_set, trail, Sound, SetsAt, FirstAt}
-use Rattle.first.specs.Forms.{Readable, Indexes, Given}
+use Rattle.first.specs.Forms.{Readable, Lists}
 use Rattle.first.specs.Steps.{Made, united_at}
 use Rattle.follow.specs.declared.follow.Passed.{Passed}
 use Rattle.follow.specs.Families.{FollowFamily}
@@ -95,7 +95,7 @@ module _ (book places : List ℕ) where
   pub record FollowFound (count start : ℕ) (fs cells : List ℕ) : Type 0 where
     pub sized : length cells ≡ most_nonterminals
     pub found : (g : Grammar)
-        → Indexes book places count g
+        → Lists book places count g
         → start ≡ g.start
         → FirstAt g fs
         → FollowFamily g cells
@@ -110,11 +110,14 @@ module _ (book places : List ℕ) where
     pub each : (p : ℕ) → p < count → get_or cells p 0 ≡ lookahead_of fs ys p
     pub beyond : (p : ℕ) → count ≤ p → get_or cells p 0 ≡ 0
 
+-- the index of the grammar that the book serves, and both families
+pub record SetsServed (book fs ys : List ℕ) (index : Index) : Type 0 where
+  pub given : Indexes book index
+  pub first : FirstFamily given.grammar fs
+  pub follow : FollowFamily given.grammar ys
+
 -- both families of a book that is not refused; with a refusal no member anywhere
-pub record SetsFound (book : List ℕ) (reading : Reading) (fs ys : List ℕ) : Type 0 where
-  pub judged : Judged book reading
-  pub first_sized : length fs ≡ most_nonterminals
-  pub follow_sized : length ys ≡ most_nonterminals
-  pub no_sets : reading.answer.number ≢ served
-      → (fs ≡ replicate most_nonterminals 0) × (ys ≡ replicate most_nonterminals 0)
-  pub found : (given : Given book reading) → FirstFamily given.grammar fs × FollowFamily given.grammar ys
+abbrev pub SetsFound : List ℕ → Result Index Answer → (fs ys : List ℕ) → Type 0
+SetsFound book r fs ys =
+    MatchResult r (SetsServed book fs ys)
+    (λ a. Refuses book a × (fs ≡ replicate most_nonterminals 0) × (ys ≡ replicate most_nonterminals 0))

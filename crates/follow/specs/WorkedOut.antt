@@ -1,27 +1,31 @@
 -- All that a table is built from: the index of a book, the sets of each nonterminal, the lookahead of each production.
 -- Document 01, "Sets and table".
-use Rattle.std.specs.Prelude.{List, ℕ, replicate}
-use Rattle.grammar.specs.Grammar.{Grammar}
+use Rattle.std.specs.Prelude.{◌≡◌, List, ℕ, replicate, Result, MatchResult}
 use Rattle.answers.specs.declared.Answer.{Answer}
 use Rattle.answers.specs.Limits.{most_nonterminals, most_productions}
-use Rattle.book.specs.declared.Reading.{Reading}
-use Rattle.book.specs.Judging.{refusing, index_of, Refuses, Serves}
+use Rattle.book.specs.declared.Index.{Index}
+use Rattle.book.specs.Judging.{Refuses, Indexes}
 use Rattle.first.specs.Numbers.{FirstFamily}
 use Rattle.follow.specs.Families.{FollowFamily, Lookaheads}
 
--- FIRST and FOLLOW of each nonterminal and the lookahead of each production; with a refusal no member anywhere
-pub data WorkedOut (book : List ℕ) : Reading → (first follow ahead : List ℕ) → Type 0 where
-  refused : {a : Answer}
-      → Refuses book a
-      → WorkedOut book (refusing a)
-      (replicate most_nonterminals 0) (replicate most_nonterminals 0) (replicate most_productions 0)
-  served : {g : Grammar} {first follow ahead : List ℕ}
-      → Serves book g
-      → FirstFamily g first
-      → FollowFamily g follow
-      → Lookaheads g ahead
-      → WorkedOut book (index_of g) first follow ahead
+-- the index of the grammar that the book serves, FIRST and FOLLOW of each nonterminal, and the lookahead of each
+-- production
+pub record AllServed (book first follow ahead : List ℕ) (index : Index) : Type 0 where
+  pub given : Indexes book index
+  pub firsts : FirstFamily given.grammar first
+  pub follows : FollowFamily given.grammar follow
+  pub looks : Lookaheads given.grammar ahead
 
--- what working out leaves: the reading and the three families
+-- all of them; with a refusal no member anywhere
+abbrev pub WorkedOut : List ℕ → Result Index Answer → (first follow ahead : List ℕ) → Type 0
+WorkedOut book r first follow ahead =
+    MatchResult r (AllServed book first follow ahead)
+    (λ a.
+        Refuses book a
+        × (first ≡ replicate most_nonterminals 0)
+        × (follow ≡ replicate most_nonterminals 0)
+        × (ahead ≡ replicate most_productions 0))
+
+-- what working out leaves: an index or a refusal, and the three families
 abbrev pub WorkedOutResult : Type 0
-WorkedOutResult = Reading × List ℕ × List ℕ × List ℕ
+WorkedOutResult = Result Index Answer × List ℕ × List ℕ × List ℕ

@@ -7,6 +7,7 @@ ghost use Rattle.first.specs.Trail.{Trailed};
 ghost use Rattle.first.specs.Forms.{Legible, Readable};
 ghost use Rattle.follow.specs.Walks.{AheadFilled};
 
+use book::Index;
 use first::forms::{Trail, trail_of};
 use reader::fields::{LEFT, LENGTH, SYMBOLS};
 use sets::{load, word};
@@ -28,21 +29,19 @@ pub(crate) fn lookahead_at(book: &[u8], place: u16, first: &[u64], follow: &[u64
 // The lookahead of each record, in order; of the numbers none is passed on.
 pub(crate) fn fill_ahead(
     book: &[u8],
-    places: &[u16],
-    count: usize,
+    index: &Index,
     first: &[u64],
     follow: &[u64],
     ahead: &mut [u64; 128],
 )
-    requires { Readable book.now places.now count × (count ≤ most_productions)
+    requires { Readable book.now index.now.places index.now.outline.productions × (index.now.outline.productions ≤ most_productions)
         × (ahead.old ≡ replicate most_productions 0) }
-    ensures { AheadFilled book.now places.now first.now follow.now
-        count ahead.new }
+    ensures { AheadFilled book.now index.now.places first.now follow.now
+        index.now.outline.productions ahead.new }
 {
-    let mut p: usize = 0;
-    while p < count {
-        let looked = lookahead_at(book, places[p], first, follow);
+    let count = index.outline.productions as usize;
+    for (p, place) in index.places[..count].iter().enumerate() {
+        let looked = lookahead_at(book, *place, first, follow);
         ahead[p] = word(looked.set);
-        p += 1;
     }
 }

@@ -1,28 +1,36 @@
-// The checks of the calls: room for the sets, and a production's number.
-ghost use Rattle.follow.specs.Checks.{SetsRoomed, Numbered};
+// The checks of the calls: room for the sets, and a production's number; and what a call answers after its checks.
+ghost use Rattle.std.specs.Prelude.{◌≡◌};
+ghost use Rattle.follow.specs.Checks.{SetsRoomed, Numbered, answered};
 
 use answers::buffers::check_room;
-use answers::refusals::{DONE, FIRST_ROOM, FOLLOW_ROOM, PRODUCTION};
-use answers::{Answer, refusal};
+use answers::refusals::{Lent, Refusal};
+use answers::{Answer, done, refusal};
 
 // Both set buffers have room for N sets.
-pub fn sets_room(before: Answer, first: usize, follow: usize, n: usize) -> Answer
-    ensures { SetsRoomed before first follow n result }
+pub fn sets_room(first: usize, follow: usize, n: usize) -> Result<(), Answer>
+    ensures { SetsRoomed first follow n result }
 {
-    let middle = check_room(before, first, n, FIRST_ROOM);
-    check_room(middle, follow, n, FOLLOW_ROOM)
+    check_room(first, n, Lent::First)?;
+    check_room(follow, n, Lent::Follow)
 }
 
 // A production's number is below P.
-pub(crate) fn numbered(before: Answer, production: u64, productions: u8) -> Answer
-    ensures { Numbered before production productions result }
+pub(crate) fn numbered(production: u64, productions: u8) -> Result<(), Answer>
+    ensures { Numbered production productions result }
 {
-    if before.number != DONE {
-        return before;
-    }
     if production < productions as u64 {
-        before
+        Ok(())
     } else {
-        refusal(PRODUCTION, production, 0)
+        Err(refusal(Refusal::Production, production, 0))
+    }
+}
+
+// The refusal that stopped a call, or done.
+pub fn answer_of(outcome: Result<(), Answer>) -> Answer
+    ensures { result ≡ answered outcome }
+{
+    match outcome {
+        Ok(()) => done(0),
+        Err(answer) => answer,
     }
 }

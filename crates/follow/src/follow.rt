@@ -10,6 +10,7 @@ ghost use Rattle.follow.specs.Walks.{Narrow, PassedOver, follow_step, follow_ste
 ghost use Rattle.follow.specs.Walks.{FollowFound};
 
 use crate::tails::find_tails;
+use book::Index;
 use first::families::unite;
 use reader::fields::{LEFT, LENGTH, SYMBOLS};
 use sets::{END_MARK, Set, join, load, single, store};
@@ -28,19 +29,16 @@ fn pass_over(byte: u8, first: &[u64], behind: Passed, follow: &mut [u64]) -> Pas
     ensures { PassedOver first.now (symbol_of_byte byte) behind
         follow.old result follow.new }
 {
-    let trailer = behind.ahead;
     if byte < 128 {
-        let ahead = single(byte);
         return Passed {
-            ahead,
+            ahead: single(byte),
             settled: behind.settled,
         };
     }
     let n = (byte - 128) as usize;
-    let same = unite(follow, n, trailer);
-    let ahead = join(load(first, n), trailer);
+    let same = unite(follow, n, behind.ahead);
     Passed {
-        ahead,
+        ahead: join(load(first, n), behind.ahead),
         settled: behind.settled & same,
     }
 }
@@ -54,14 +52,11 @@ fn follow_step(book: &[u8], place: u16, from: u8, first: &[u64], follow: &mut [u
         follow.old follow.new result }
 {
     let at = place as usize;
-    let ahead = load(follow, book[at + LEFT] as usize);
     let mut passed = Passed {
-        ahead,
+        ahead: load(follow, book[at + LEFT] as usize),
         settled: true,
     };
-    let mut j = book[at + LENGTH];
-    while from < j {
-        j -= 1;
+    for j in (from..book[at + LENGTH]).rev() {
         passed = pass_over(book[at + SYMBOLS + j as usize], first, passed, follow);
     }
     passed.settled
@@ -70,21 +65,19 @@ fn follow_step(book: &[u8], place: u16, from: u8, first: &[u64], follow: &mut [u
 // Each record once, in order, from its position on, and whether that changed nothing.
 fn follow_pass(
     book: &[u8],
-    places: &[u16],
-    count: usize,
+    index: &Index,
     first: &[u64],
     from: &[u8],
     follow: &mut [u64],
 ) -> bool
-    requires { WalkableFrom book.now places.now count from.now }
-    ensures { Made (passed (follow_steps book.now places.now first.now
-        from.now) count) follow.old follow.new result }
+    requires { WalkableFrom book.now index.now.places index.now.outline.productions from.now }
+    ensures { Made (passed (follow_steps book.now index.now.places first.now
+        from.now) index.now.outline.productions) follow.old follow.new result }
 {
+    let count = index.outline.productions as usize;
     let mut settled = true;
-    let mut p: usize = 0;
-    while p < count {
-        settled = settled & follow_step(book, places[p], from[p], first, follow);
-        p += 1;
+    for (p, place) in index.places[..count].iter().enumerate() {
+        settled &= follow_step(book, *place, from[p], first, follow);
     }
     settled
 }
@@ -93,20 +86,18 @@ fn follow_pass(
 // then their tails in passes until one changes nothing.
 pub(crate) fn follows(
     book: &[u8],
-    places: &[u16],
-    count: usize,
-    start: u8,
+    index: &Index,
     first: &[u64],
     follow: &mut [u64; 64],
 )
-    requires { Walkable book.now places.now count × (count ≤ most_productions)
+    requires { Walkable book.now index.now.places index.now.outline.productions × (index.now.outline.productions ≤ most_productions)
         × (follow.old ≡ replicate most_nonterminals 0) }
-    ensures { FollowFound book.now places.now count start
+    ensures { FollowFound book.now index.now.places index.now.outline.productions index.now.outline.start
         first.now follow.new }
 {
     let mut from = [0u8; 128];
-    store(follow, start as usize, single(END_MARK));
-    follow_pass(book, places, count, first, &from, follow);
-    find_tails(book, places, count, first, &mut from);
-    while !follow_pass(book, places, count, first, &from, follow) {}
+    store(follow, index.outline.start as usize, single(END_MARK));
+    follow_pass(book, index, first, &from, follow);
+    find_tails(book, index, first, &mut from);
+    while !follow_pass(book, index, first, &from, follow) {}
 }

@@ -4,18 +4,18 @@
 ghost use Rattle.std.specs.Prelude.{◌≡◌, replicate};
 ghost use Rattle.answers.specs.Limits.{most_nonterminals};
 ghost use Rattle.follow.specs.Calls.{SetsOutcome, LookaheadOutcome};
+ghost use Rattle.follow.specs.Checks.{answered};
 ghost use Rattle.follow.specs.WorkedOut.{WorkedOut};
 ghost use Rattle.follow.specs.Walks.{SetsFound};
 
 use crate::ahead::{fill_ahead, lookahead_at};
-use crate::checks::{numbered, sets_room};
+use crate::checks::{answer_of, numbered, sets_room};
 use crate::follow::follows;
 use answers::Answer;
-use answers::buffers::write_words;
-use answers::refusals::DONE;
-use book::Reading;
-use first::{SetAnswer, find_first, no_set};
-use reader::fields::place_at;
+use answers::buffers::write_front;
+use book::Index;
+use first::find_first;
+use first::forms::Trail;
 
 mod ahead;
 pub mod checks;
@@ -23,18 +23,32 @@ mod follow;
 mod tails;
 
 // FIRST and FOLLOW of each nonterminal; with a refusal neither family has a member.
-fn find_sets(book: &[u8], first: &mut [u64; 64], follow: &mut [u64; 64]) -> Reading
+fn find_sets(
+    book: &[u8],
+    first: &mut [u64; 64],
+    follow: &mut [u64; 64],
+) -> Result<Index, Answer>
     requires { follow.old ≡ replicate most_nonterminals 0 }
     ensures { SetsFound book.now result first.new follow.new }
 {
-    let reading = find_first(book, first);
-    let judged = reading.answer;
-    if judged.number == DONE {
-        let count = reading.productions as usize;
-        let start = reading.start;
-        follows(book, &reading.places, count, start, first, follow);
-    }
-    reading
+    let index = find_first(book, first)?;
+    follows(book, &index, first, follow);
+    Ok(index)
+}
+
+// The sets of a book with room for them, or the refusal.
+fn write_sets(book: &[u8], first: &mut [u64], follow: &mut [u64]) -> Result<(), Answer>
+    ensures { SetsOutcome book.now first.old follow.old (answered result)
+        first.new follow.new }
+{
+    let mut begins = [0u64; 64];
+    let mut ends = [0u64; 64];
+    let index = find_sets(book, &mut begins, &mut ends)?;
+    let n = index.outline.nonterminals as usize;
+    sets_room(first.len(), follow.len(), n)?;
+    write_front(&begins[..n], first);
+    write_front(&ends[..n], follow);
+    Ok(())
 }
 
 // FIRST and FOLLOW of each nonterminal into the lent buffers; how many symbols can vanish is worked out on the way and
@@ -43,17 +57,7 @@ pub fn sets(book: &[u8], first: &mut [u64], follow: &mut [u64]) -> Answer
     ensures { SetsOutcome book.now first.old follow.old result
         first.new follow.new }
 {
-    let mut begins = [0u64; 64];
-    let mut ends = [0u64; 64];
-    let reading = find_sets(book, &mut begins, &mut ends);
-    let judged = reading.answer;
-    let n = reading.nonterminals as usize;
-    let answer = sets_room(judged, first.len(), follow.len(), n);
-    if answer.number == DONE {
-        write_words(&begins[..n], first);
-        write_words(&ends[..n], follow);
-    }
-    answer
+    answer_of(write_sets(book, first, follow))
 }
 
 // The sets of each nonterminal and the lookahead of each production, all that a table is built from; how many symbols
@@ -63,39 +67,26 @@ pub fn work_out(
     first: &mut [u64; 64],
     follow: &mut [u64; 64],
     ahead: &mut [u64; 128],
-) -> Reading
+) -> Result<Index, Answer>
     ensures { WorkedOut book.now result
         first.new follow.new ahead.new }
 {
-    let no_sets = [0u64; 64];
-    *follow = no_sets;
-    let no_ahead = [0u64; 128];
-    *ahead = no_ahead;
-    let reading = find_sets(book, first, follow);
-    let count = reading.productions as usize;
-    fill_ahead(book, &reading.places, count, first, follow, ahead);
-    reading
+    *follow = [0u64; 64];
+    *ahead = [0u64; 128];
+    let index = find_sets(book, first, follow)?;
+    fill_ahead(book, &index, first, follow, ahead);
+    Ok(index)
 }
 
 // The lookahead of a production, and how many leading symbols of its right side can vanish: all of them exactly where
 // FOLLOW of the left side is added.
-pub fn lookahead(book: &[u8], production: u64) -> SetAnswer
+pub fn lookahead(book: &[u8], production: u64) -> Result<Trail, Answer>
     ensures { LookaheadOutcome book.now production result }
 {
     let mut begins = [0u64; 64];
     let mut ends = [0u64; 64];
-    let reading = find_sets(book, &mut begins, &mut ends);
-    let judged = reading.answer;
-    let answer = numbered(judged, production, reading.productions);
-    if answer.number != DONE {
-        return no_set(answer);
-    }
-    let place = place_at(&reading.places, production as usize);
-    let looked = lookahead_at(book, place, &begins, &ends);
-    let set = looked.set;
-    SetAnswer {
-        answer,
-        set,
-        vanishing: looked.vanishing as u64,
-    }
+    let index = find_sets(book, &mut begins, &mut ends)?;
+    numbered(production, index.outline.productions)?;
+    let place = index.places[production as usize];
+    Ok(lookahead_at(book, place, &begins, &ends))
 }

@@ -3,6 +3,7 @@ ghost use Rattle.std.specs.Prelude.{◌≤◌, length};
 ghost use Rattle.first.specs.Forms.{Legible, Readable};
 ghost use Rattle.follow.specs.Walks.{TailAt, Tails};
 
+use book::Index;
 use first::forms::symbol_set;
 use reader::fields::{LENGTH, SYMBOLS};
 use sets::{EMPTY_STRING, has};
@@ -14,9 +15,7 @@ fn tail_at(book: &[u8], place: u16, first: &[u64]) -> u8
     ensures { TailAt book.now first.now place result }
 {
     let at = place as usize;
-    let mut j = book[at + LENGTH];
-    while 0 < j {
-        j -= 1;
+    for j in (0..book[at + LENGTH]).rev() {
         let set = symbol_set(book[at + SYMBOLS + j as usize], first);
         if !has(set, EMPTY_STRING) {
             return j;
@@ -26,14 +25,13 @@ fn tail_at(book: &[u8], place: u16, first: &[u64]) -> u8
 }
 
 // That position of each record.
-pub(crate) fn find_tails(book: &[u8], places: &[u16], count: usize, first: &[u64], tails: &mut [u8])
-    requires { Readable book.now places.now count × (count ≤ length tails.old) }
-    ensures { Tails book.now places.now count
+pub(crate) fn find_tails(book: &[u8], index: &Index, first: &[u64], tails: &mut [u8])
+    requires { Readable book.now index.now.places index.now.outline.productions × (index.now.outline.productions ≤ length tails.old) }
+    ensures { Tails book.now index.now.places index.now.outline.productions
         first.now tails.new }
 {
-    let mut p: usize = 0;
-    while p < count {
-        tails[p] = tail_at(book, places[p], first);
-        p += 1;
+    let count = index.outline.productions as usize;
+    for (p, place) in index.places[..count].iter().enumerate() {
+        tails[p] = tail_at(book, *place, first);
     }
 }

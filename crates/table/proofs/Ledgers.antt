@@ -9,14 +9,9 @@ use native.Mathlib.Decide.{ℕ_discrete}
 use native.Mathlib.Omega.{arith}
 use lib.ListN.{length, get_or, set, length-set}
 use lib.Seq.{get_or-set_same, get_or-set_other}
-use Rattle.answers.specs.declared.Answer.{Answer}
-use Rattle.answers.specs.Answers.{done, refusal}
-use Rattle.answers.specs.Buffers.{over}
-use Rattle.answers.specs.Buffers as buffers
-use Rattle.answers.proofs.Promise.{written_all}
+use Rattle.std.specs.Prelude.{Option, Some, None, IfSome, IsSomeAnd}
 use Rattle.table.specs.declared.claims.Contest.{Contest}
-use Rattle.table.specs.Claims.{Rivals, AtMostOne, Holds, lowest, vacant, Ledger, Claimed, enters, contests, follows}
-use Rattle.table.specs.Claims.{Settled, contested, uncontested, Tabulated, disputed, written}
+use Rattle.table.specs.Claims.{Rivals, AtMostOne, Holds, lowest, vacant, KnownContest, Ledger, Claimed, enters, contests, follows}
 
 -- the claims D are the claims C, and that of p on a cell
 pub record Adds (C D : ℕ → ℕ → Type 0) (cell p : ℕ) : Type 0 where
@@ -25,35 +20,34 @@ pub record Adds (C D : ℕ → ℕ → Type 0) (cell p : ℕ) : Type 0 where
   pub only : (i q : ℕ) → D i q → C i q ⊎ ((i ≡ cell) × (q ≡ p))
 
 -- the same claims, with every cell vacant, or told in another way
-module _ {C D : ℕ → ℕ → Type 0} {table : List ℕ} {known : Contest} where
-  pub ledger_same : ((i q : ℕ) → C i q → D i q)
+module _ {C D : ℕ → ℕ → Type 0} {table : List ℕ} where
+  pub ledger_same : {known : Option Contest}
+      → ((i q : ℕ) → C i q → D i q)
       → ((i q : ℕ) → i < length table → D i q → C i q)
       → Ledger C table known
       → Ledger D table known
-  ledger_same there back l =
-      record {
-        held = λ i h. holds i h (l.held i h);
-        inside = l.inside;
-        rivals = λ h. let k = l.rivals h in record { lowest = there _ _ k.lowest; next = there _ _ k.next; order = k.order; others = λ r d. k.others r (back _ r h d) };
-        earlier = λ j h r s dr ds. l.earlier j h r s (back j r (omega (arith, l.inside)) dr) (back j s (omega (arith, l.inside)) ds);
-      }
+  ledger_same {known} there back l = record { held = λ i h. holds i h (l.held i h); contest = contest known l.contest }
     where
+      contest : (known : Option Contest) → KnownContest C (length table) known → KnownContest D (length table) known
+      contest None one = λ j h r s dr ds. one j h r s (back j r h dr) (back j s h ds)
+      contest (Some first) k =
+          let rivals = k.rivals in
+          record {
+            inside = k.inside;
+            rivals = record { lowest = there _ _ rivals.lowest; next = there _ _ rivals.next; order = rivals.order; others = λ r d. rivals.others r (back _ r k.inside d) };
+            earlier = λ j h r s dr ds. k.earlier j h r s (back j r (omega (arith, k.inside)) dr) (back j s (omega (arith, k.inside)) ds);
+          }
+
       holds : (i : ℕ) → i < length table → {byte : ℕ} → Holds (C i) byte → Holds (D i) byte
       holds i h (lowest {p = p} c none) = lowest (there i p c) (λ q b d. none q b (back i q h d))
       holds i h (vacant none) = vacant (λ q d. none q (back i q h d))
 
-pub ledger_none : {C : ℕ → ℕ → Type 0} {table : List ℕ} {known : Contest}
+pub ledger_none : {C : ℕ → ℕ → Type 0} {table : List ℕ}
     → ((i q : ℕ) → ¬ C i q)
     → ((i : ℕ) → i < length table → get_or table i 0 ≡ 255)
-    → known.cell ≡ length table
-    → Ledger C table known
-ledger_none none blank e =
-    record {
-      held = λ i h. rw (blank i h) (vacant (none i));
-      inside = omega arith;
-      rivals = λ h. absurd (omega arith);
-      earlier = λ j h r s c d. absurd (none j r c);
-    }
+    → Ledger C table None
+ledger_none none blank =
+    record { held = λ i h. rw (blank i h) (vacant (none i)); contest = λ j h r s c d. absurd (none j r c) }
 
 module _ {C D : ℕ → ℕ → Type 0} {cell p : ℕ} (adds : Adds C D cell p) (later : (q : ℕ) → C cell q → q < p) where
   -- on every other cell nothing is new
@@ -95,7 +89,7 @@ module _ {C D : ℕ → ℕ → Type 0} {cell p : ℕ} (adds : Adds C D cell p) 
       go r (inl c) = k.others r c
       go r (inr e) = let next : C cell n = rw e.0 at k.next in inr (omega (arith, later n next, e.1))
 
-  module _ {table : List ℕ} {known : Contest} (l : Ledger C table known) (inside : cell < length table) (small : p < 255) where
+  module _ {table : List ℕ} {known : Option Contest} (l : Ledger C table known) (inside : cell < length table) (small : p < 255) where
     unclaimed : {byte : ℕ} → byte ≡ 255 → Holds (C cell) byte → (q : ℕ) → ¬ C cell q
     unclaimed e (lowest {p = m} c none) q k = omega (arith, later m c)
     unclaimed e (vacant none) q k = none q k
@@ -117,69 +111,59 @@ module _ {C D : ℕ → ℕ → Type 0} {cell p : ℕ} (adds : Adds C D cell p) 
       held_entered i h (no d) = rw (get_or-set_other table cell i p 0 d) (holds_elsewhere d (l.held i h))
       held_entered i h (yes e) = rw (e, get_or-set_same table cell p 0 inside) (lowest adds.new (λ q b k. omega (arith, alone k)))
 
-      earlier_entered : (j : ℕ) → j < known.cell → Dec (j ≡ cell) → AtMostOne (D j)
-      earlier_entered j h (no d) = one_elsewhere d (l.earlier j h)
-      earlier_entered j h (yes e) = rw e (λ r s k m. alone k ∙ sym (alone m))
+      one_entered : (j : ℕ) → AtMostOne (C j) → Dec (j ≡ cell) → AtMostOne (D j)
+      one_entered j one (no d) = one_elsewhere d one
+      one_entered j one (yes e) = rw e (λ r s k m. alone k ∙ sym (alone m))
+
+      contest_entered : (n : ℕ) (known : Option Contest) → KnownContest C n known → KnownContest D n known
+      contest_entered n None one = λ j h. one_entered j (one j h) (ℕ_discrete j cell)
+      contest_entered n (Some first) k =
+          record { inside = k.inside; rivals = rivals_later k.rivals; earlier = λ j h. one_entered j (k.earlier j h) (ℕ_discrete j cell) }
 
     -- a cell that is held keeps its claimant
     held_kept : get_or table cell 0 ≢ 255 → (i : ℕ) → i < length table → Dec (i ≡ cell) → Holds (D i) (get_or table i 0)
     held_kept d i h (no other) = holds_elsewhere other (l.held i h)
     held_kept d i h (yes e) = rw e (holds_later d (l.held cell inside))
 
-    rivals_found : get_or table cell 0 ≢ 255 → cell < known.cell → Rivals (D cell) (get_or table cell 0) p
-    rivals_found d h = record { lowest = adds.keeps cell _ holder; next = adds.new; order = later _ holder; others = λ r k. go r (here k) }
+    -- no cell up to this one has rivals, where the first that is known lies behind it
+    one_before : (known : Option Contest) → KnownContest C (length table) known → IfSome known (λ first. cell < first.cell) → (j : ℕ) → j ≤ cell → AtMostOne (C j)
+    one_before None one h j b = one j (omega arith)
+    one_before (Some first) k h j b = k.earlier j (omega arith)
+
+    rivals_found : get_or table cell 0 ≢ 255 → AtMostOne (C cell) → Rivals (D cell) (get_or table cell 0) p
+    rivals_found d one = record { lowest = adds.keeps cell _ holder; next = adds.new; order = later _ holder; others = λ r k. go r (here k) }
       where
         holder : C cell (get_or table cell 0)
         holder = claimant d (l.held cell inside)
 
         go : (r : ℕ) → C cell r ⊎ (r ≡ p) → (r ≡ get_or table cell 0) ⊎ (p ≤ r)
-        go r (inl c) = inl (l.earlier cell h r _ c holder)
+        go r (inl c) = inl (one r _ c holder)
         go r (inr e) = inr (omega arith)
 
+    contest_followed : (known : Option Contest) → KnownContest C (length table) known → IsSomeAnd known (λ first. first.cell ≤ cell) → KnownContest D (length table) known
+    contest_followed None one h = absurd h
+    contest_followed (Some first) k h =
+        record { inside = k.inside; rivals = rivals_later k.rivals; earlier = λ j b. one_elsewhere (λ e. omega arith) (k.earlier j b) }
+
     -- the ledger with one claim more
-    pub ledger_claim : {known' : Contest} {table' : List ℕ} → Claimed table cell p known true known' table' → Ledger D table' known'
+    pub ledger_claim : {known' : Option Contest} {table' : List ℕ} → Claimed table cell p known true known' table' → Ledger D table' known'
     ledger_claim (enters e) =
         let none : (q : ℕ) → ¬ C cell q = unclaimed e (l.held cell inside) in
         let sized : length (set table cell p) ≡ length table = length-set table cell p in
         record {
           held = λ i h. held_entered none i (omega (arith, h)) (ℕ_discrete i cell);
-          inside = omega (arith, l.inside);
-          rivals = λ h. rivals_later (l.rivals (omega (arith, h)));
-          earlier = λ j h. earlier_entered none j h (ℕ_discrete j cell);
+          contest = contest_entered none _ known (rw (← sized) at l.contest);
         }
     ledger_claim (contests d h) =
         record {
           held = λ i b. held_kept d i b (ℕ_discrete i cell);
-          inside = omega arith;
-          rivals = λ b. rivals_found d h;
-          earlier = λ j b. one_elsewhere (λ e. omega arith) (l.earlier j (omega arith));
+          contest =
+              let one = one_before known l.contest h in
+              record {
+                inside = inside;
+                rivals = rivals_found d (one cell (omega arith));
+                earlier = λ j b. one_elsewhere (λ e. omega arith) (one j (omega arith));
+              };
         }
     ledger_claim (follows d h) =
-        record {
-          held = λ i b. held_kept d i b (ℕ_discrete i cell);
-          inside = l.inside;
-          rivals = λ b. rivals_later (l.rivals b);
-          earlier = λ j b. one_elsewhere (λ e. omega arith) (l.earlier j b);
-        }
-
--- a settled contest over all cells, and what is written
-module _ {C : ℕ → ℕ → Type 0} {n : ℕ} {cells table : List ℕ} {contest : Contest} {a : Answer} (sized : length cells ≡ n) (l : Ledger C cells contest) (settled : Settled contest (length cells) a) where
-  pub tabulated_refused : a.number ≢ 0 → Tabulated C n table a table
-  unfolding done
-  tabulated_refused d = go settled d
-    where
-      go : {b : Answer} → Settled contest (length cells) b → b.number ≢ 0 → Tabulated C n table b table
-      go (contested h) d = disputed sized l (omega arith)
-      go (uncontested h) d = absurd (d refl)
-
-  pub tabulated_written : {table' : List ℕ}
-      → a.number ≡ 0
-      → n ≤ length table
-      → table' ≡ buffers.written cells table
-      → Tabulated C n table a table'
-  unfolding refusal
-  tabulated_written e room after = rw (after, written_all cells table (omega (arith, sized))) (go settled e)
-    where
-      go : {b : Answer} → Settled contest (length cells) b → b.number ≡ 0 → Tabulated C n table b (over cells table)
-      go (contested h) e = absurd (omega arith)
-      go (uncontested h) e = written sized l (omega arith)
+        record { held = λ i b. held_kept d i b (ℕ_discrete i cell); contest = contest_followed known l.contest h }

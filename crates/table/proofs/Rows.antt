@@ -9,6 +9,7 @@ use native.Mathlib.Nat.{div-add-mod', mod-lt}
 use native.Mathlib.Omega.{arith}
 use lib.Arith.{digits_div, digits_mod}
 use lib.ListN.{length, get_or}
+use Rattle.std.specs.Prelude.{Option, None}
 use Rattle.sets.specs.Sets.{member, column_place}
 use Rattle.table.specs.declared.claims.Contest.{Contest}
 use Rattle.table.specs.Claims.{claims, Laid, Ledger, Claimed, passes, RowClaimed}
@@ -37,7 +38,7 @@ module _ {C : ℕ → ℕ → Type 0} {p : ℕ} where
           at_last (yes same) = inr (same, e.0)
           at_last (no other) = inl (record { claim = k; turn = inr (e.0, omega (arith, e.1)) })
 
-  module _ {table : List ℕ} {known : Contest} where
+  module _ {table : List ℕ} {known : Option Contest} where
     -- cells that p does not claim are passed by
     pub laid_skip : {f f' : ℕ}
         → f ≤ f'
@@ -72,11 +73,10 @@ module _ {C : ℕ → ℕ → Type 0} {p : ℕ} where
         back i q h (inr e) (no n) = absurd (omega (arith, e.1))
 
   -- before the first production nothing is claimed
-  pub laid_none : {table : List ℕ} {known : Contest}
+  pub laid_none : {table : List ℕ}
       → p ≡ 0
       → ((i : ℕ) → i < length table → get_or table i 0 ≡ 255)
-      → known.cell ≡ length table
-      → Ledger (Laid C p 0) table known
+      → Ledger (Laid C p 0) table None
   laid_none first = ledger_none (λ i q l. go i q l.turn)
     where
       go : (i q : ℕ) → (q < p) ⊎ ((q ≡ p) × (i < 0)) → ⊥
@@ -84,7 +84,7 @@ module _ {C : ℕ → ℕ → Type 0} {p : ℕ} where
       go i q (inr e) = omega (arith, e.1)
 
 -- the claims of a production of this row and with this lookahead are laid on its first columns
-pub record RowSoFar (row ahead tokens p : ℕ) (table : List ℕ) (known : Contest) (column : ℕ) (table' : List ℕ) (known' : Contest) : Type 0 where
+pub record RowSoFar (row ahead tokens p : ℕ) (table : List ℕ) (known : Option Contest) (column : ℕ) (table' : List ℕ) (known' : Option Contest) : Type 0 where
   pub laid : (left look : ℕ → ℕ) → left p ≡ row → look p ≡ ahead
       → Ledger (Laid (claims left look tokens) p 0) table known
       → Ledger (Laid (claims left look tokens) p (row * (tokens + 1) + column)) table' known'
@@ -104,11 +104,11 @@ module _ (tokens : ℕ) {row ahead p : ℕ} (left look : ℕ → ℕ) (sided : l
     column_claimed : claims left look tokens (row * (tokens + 1) + column) p → member (column_place column tokens) ahead ≡ true
     column_claimed k = rw looks at (rw (digits_div row inside, digits_mod row inside) at k).has_bit
 
-module _ {row ahead tokens p : ℕ} {table : List ℕ} {known : Contest} where
+module _ {row ahead tokens p : ℕ} {table : List ℕ} {known : Option Contest} where
   pub row_begun : RowSoFar row ahead tokens p table known 0 table known
   row_begun = record { laid = λ left look sided looks. laid_skip (omega arith) (λ i from before k. omega (arith, (claims_inside tokens left look sided looks k).0)) }
 
-  module _ {column : ℕ} {table' : List ℕ} {known' : Contest} (so_far : RowSoFar row ahead tokens p table known column table' known') where
+  module _ {column : ℕ} {table' : List ℕ} {known' : Option Contest} (so_far : RowSoFar row ahead tokens p table known column table' known') where
     row_skip : column < tokens + 1
         → member (column_place column tokens) ahead ≡ false
         → RowSoFar row ahead tokens p table known (column + 1) table' known'
@@ -129,7 +129,7 @@ module _ {row ahead tokens p : ℕ} {table : List ℕ} {known : Contest} where
     pub row_next : column < tokens + 1
         → row * (tokens + 1) + column < length table'
         → p < 255
-        → {b : Bool} {table'' : List ℕ} {known'' : Contest}
+        → {b : Bool} {table'' : List ℕ} {known'' : Option Contest}
         → Claimed table' (row * (tokens + 1) + column) p known' b known'' table''
         → member (column_place column tokens) ahead ≡ b
         → RowSoFar row ahead tokens p table known (column + 1) table'' known''

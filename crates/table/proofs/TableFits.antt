@@ -9,18 +9,17 @@ use native.Mathlib.Nat.{mul-le-mul, div-lt_iff_lt-mul}
 use native.Mathlib.Omega.{arith}
 use borrow.Author.Tests.{ne_eqb}
 use lib.ListN.{length, get_or}
+use Rattle.std.specs.Prelude.{⊤, Result, Ok, Err}
 use Rattle.grammar.specs.Grammar.{Grammar, Rule, Cell}
 use Rattle.sets.specs.Calls.{Decides}
 use Rattle.sets.proofs.Promise.{value_unique}
-use Rattle.answers.specs.Lowest.{FirstFailing}
+use Rattle.answers.specs.Lowest.{FirstFailing, FailingAt}
 use Rattle.answers.proofs.Promise.{first_failing_unique}
 use Rattle.book.specs.declared.columns.Outline.{Outline}
-use Rattle.book.specs.Columns.{outlined, Outlines, Lefts, IsOf}
+use Rattle.reader.specs.Fields.{left_at}
+use Rattle.book.specs.Columns.{outlined, Outlines, Gathered, IsOf}
 use Rattle.book.proofs.Promise.{is_of_rule, rule_is_of}
-use Rattle.table.specs.declared.fitting.Fitting.{Fitting}
-use Rattle.table.specs.declared.fitting.Fitting.TheVariants.{Fit, MisfitAt}
-use Rattle.table.specs.Fitting.{Fits, vacant, filled, FitTable, Misfit, length_given, cell, TableFitting, fit, misfit, CellFits}
-use Rattle.table.specs.Fitting.{FirstMisfit}
+use Rattle.table.specs.Fitting.{Fits, vacant, filled, FitTable, Misfit, length_given, cell, TableFitting, CellFits}
 use Rattle.table.specs.Table.{size, row_at, column_at, held, TableOf}
 
 pub held_vacant : {p : ℕ} {q : Option ℕ} → held p ≡ q → p ≡ 255 → q ≡ none
@@ -54,7 +53,7 @@ module _ {lefts : List ℕ} {o : Outline} (table : List ℕ) (i : ℕ) {p : ℕ}
       → CellFits lefts o table i r
   unfolding outlined
   filled_fits {r} n answer =
-      record { decides = λ book places col. decides_too r answer (fits book places col) (back book places col) }
+      record { decides = λ book places column. decides_too r answer (fits book places column) (back book places column) }
     where
       row : ℕ
       row = i / (o.tokens + 1)
@@ -63,13 +62,13 @@ module _ {lefts : List ℕ} {o : Outline} (table : List ℕ) (i : ℕ) {p : ℕ}
       holds = held_filled (ap held there) n
 
       fits : (book places : List ℕ)
-          → Lefts book places o lefts
+          → Gathered (left_at book) places o.productions lefts
           → IsOf lefts o row p
           → Fits (outlined book places o) table i
       fits book places column h = let (β, rule) = is_of_rule book places o column h in filled holds rule
 
       back : (book places : List ℕ)
-          → Lefts book places o lefts
+          → Gathered (left_at book) places o.productions lefts
           → Fits (outlined book places o) table i
           → IsOf lefts o row p
       back book places column (vacant f) =
@@ -86,15 +85,15 @@ module _ {o : Outline} {g : Grammar} (outlines : Outlines o g)
   size_is = counts ∙ rw (outlines.tokens, outlines.nonterminals)
 
   module _ {table : List ℕ} where
-    pub misfit_length : length table ≢ n → TableFitting g table (MisfitAt (length table))
-    misfit_length other = misfit (length_given (λ e. other (e ∙ sym size_is)))
+    pub misfit_length : length table ≢ n → Misfit g table (length table)
+    misfit_length other = length_given (λ e. other (e ∙ sym size_is))
 
-    module _ (same : length table ≡ n) {i : ℕ} (first : FirstMisfit g table i) where
-      pub misfit_cell : i < length table → TableFitting g table (MisfitAt i)
-      misfit_cell h = misfit (cell {i = i} (same ∙ size_is) (omega (arith, size_is)) (first.fails h) first.earlier)
+    module _ (same : length table ≡ n) where
+      pub misfit_cell : {i : ℕ} → FailingAt (Fits g table) (length table) i → Misfit g table i
+      misfit_cell {i} first = cell {i = i} (same ∙ size_is) (omega (arith, first.inside, size_is)) first.fails first.earlier
 
-      pub fit_whole : length table ≤ i → TableFitting g table Fit
-      fit_whole h = fit (record { sized = same ∙ size_is; cells = λ j k. first.earlier j (omega (arith, size_is)) })
+      pub fit_whole : ((i : ℕ) → i < length table → Fits g table i) → FitTable g table
+      fit_whole fits = record { sized = same ∙ size_is; cells = λ i h. fits i (omega (arith, size_is)) }
 
 -- a table of the grammar passes refusal 9
 pub table_fits : {g : Grammar} {table : List ℕ} → TableOf g table → FitTable g table
@@ -124,12 +123,15 @@ module _ {g : Grammar} {table : List ℕ} where
   misfit_unique (cell e h m before) (length_given n) = absurd (n e)
   misfit_unique (cell e h m before) (cell f l n earlier) = first_failing_unique (first_fails h m before) (first_fails l n earlier)
 
-  -- a check of the table allows one answer
-  pub fitting_unique : {a b : Fitting} → TableFitting g table a → TableFitting g table b → a ≡ b
-  fitting_unique (fit f) (fit h) = refl
-  fitting_unique (fit f) (misfit m) = absurd (misfit_not_fit m f)
-  fitting_unique (misfit m) (fit f) = absurd (misfit_not_fit m f)
-  fitting_unique (misfit m) (misfit n) = ap MisfitAt (misfit_unique m n)
+-- a check of the table allows one answer
+pub fitting_unique : (g : Grammar) (table : List ℕ) (a b : Result ⊤ ℕ)
+    → TableFitting g table a
+    → TableFitting g table b
+    → a ≡ b
+fitting_unique g table (Ok _) (Ok _) f h = refl
+fitting_unique g table (Ok _) (Err k) f m = absurd (misfit_not_fit m f)
+fitting_unique g table (Err k) (Ok _) m f = absurd (misfit_not_fit m f)
+fitting_unique g table (Err k) (Err j) m n = ap Err (misfit_unique m n)
 
 pub cell_at_unique : (table : List ℕ) (i : ℕ) {r r' : ℕ} → r ≡ get_or table i 255 → r' ≡ get_or table i 255 → r ≡ r'
 cell_at_unique table i = value_unique

@@ -2,11 +2,11 @@
 -- claims laid so far: the lowest claimant of each cell, and the first cell with two.
 -- Document 01, "Sets and table" and refusal 8.
 -- Only contracts inside the crate, and those inside `checker`, cite what stands here.
-use Rattle.std.specs.Prelude.{◌≡◌, Bool, true, false, ◌⊎◌, ◌≢◌, List, ℕ, ◌+◌, ◌*◌, ◌/◌, ◌%◌, ◌≤◌, ◌<◌, length, get_or, set}
+use Rattle.std.specs.Prelude.{◌≡◌, Bool, true, false, ◌⊎◌, ◌≢◌, List, ℕ, ◌+◌, ◌*◌, ◌/◌, ◌%◌, ◌≤◌, ◌<◌, length, get_or, set, Option, Some, None, MatchOption, IfSome, IsSomeAnd, ⊤, Result, Ok, Err}
 use Rattle.sets.specs.Sets.{member, column_place}
 use Rattle.sets.specs.Calls.{set_at}
 use Rattle.answers.specs.declared.Answer.{Answer}
-use Rattle.answers.specs.Answers.{done, refusal}
+use Rattle.answers.specs.Answers.{refusal}
 use Rattle.answers.specs.Refusals as refusals
 use Rattle.answers.specs.Buffers.{over}
 use Rattle.reader.specs.Fields.{left_at}
@@ -50,54 +50,65 @@ pub data Holds (C : ℕ → Type 0) : ℕ → Type 0 where
   lowest : {p : ℕ} → C p → ((q : ℕ) → q < p → ¬ C q) → Holds C p
   vacant : ((p : ℕ) → ¬ C p) → Holds C 255
 
--- each cell holds its lowest claimant, and the contest is the first cell with rivals
-pub record Ledger (C : ℕ → ℕ → Type 0) (table : List ℕ) (known : Contest) : Type 0 where
+-- the contest is of the first of so many cells that has rivals, and of these
+pub record FirstContest (C : ℕ → ℕ → Type 0) (n : ℕ) (contest : Contest) : Type 0 where
+  pub inside : contest.cell < n
+  pub rivals : Rivals (C contest.cell) contest.lowest contest.next
+  pub earlier : (j : ℕ) → j < contest.cell → AtMostOne (C j)
+
+-- the first contest is known; where none is, no cell has rivals
+abbrev pub KnownContest : (C : ℕ → ℕ → Type 0) (n : ℕ) → Option Contest → Type 0
+KnownContest C n known = MatchOption known ((j : ℕ) → j < n → AtMostOne (C j)) (FirstContest C n)
+
+-- each cell holds its lowest claimant, and the first contest is known
+pub record Ledger (C : ℕ → ℕ → Type 0) (table : List ℕ) (known : Option Contest) : Type 0 where
   pub held : (i : ℕ) → i < length table → Holds (C i) (get_or table i 0)
-  pub inside : known.cell ≤ length table
-  pub rivals : known.cell < length table → Rivals (C known.cell) known.lowest known.next
-  pub earlier : (j : ℕ) → j < known.cell → AtMostOne (C j)
+  pub contest : KnownContest C (length table) known
 
 -- p claims a cell or not: a vacant one is entered, and one that is held is contested, which counts if no cell up to it
 -- is known to be
-pub data Claimed (table : List ℕ) (cell p : ℕ) (known : Contest) : Bool → Contest → List ℕ → Type 0 where
+pub data Claimed (table : List ℕ) (cell p : ℕ) (known : Option Contest) : Bool → Option Contest → List ℕ → Type 0 where
   passes : Claimed table cell p known false known table
   enters : get_or table cell 0 ≡ 255 → Claimed table cell p known true known (set table cell p)
   contests : get_or table cell 0 ≢ 255
-      → cell < known.cell
-      → Claimed table cell p known true (record { cell = cell; lowest = get_or table cell 0; next = p }) table
-  follows : get_or table cell 0 ≢ 255 → known.cell ≤ cell → Claimed table cell p known true known table
+      → IfSome known (λ first. cell < first.cell)
+      → Claimed table cell p known true (Some (record { cell = cell; lowest = get_or table cell 0; next = p })) table
+  follows : get_or table cell 0 ≢ 255
+      → IsSomeAnd known (λ first. first.cell ≤ cell)
+      → Claimed table cell p known true known table
 
 -- whatever else is claimed, the claims of a production of this row and with this lookahead are laid
 pub record RowClaimed
-    (row ahead tokens p : ℕ) (table : List ℕ) (known : Contest) (table' : List ℕ) (known' : Contest) : Type 0 where
+    (row ahead tokens p : ℕ) (table : List ℕ) (known : Option Contest) (table' : List ℕ) (known' : Option Contest)
+    : Type 0 where
   pub laid : (left look : ℕ → ℕ)
       → left p ≡ row
       → look p ≡ ahead
       → Ledger (Laid (claims left look tokens) p 0) table known
       → Ledger (Laid (claims left look tokens) (p + 1) 0) table' known'
 
--- each of so many records has its row in the table, and every cell is vacant
-pub record Claimable (book places : List ℕ) (count tokens : ℕ) (table : List ℕ) : Type 0 where
+-- each of so many records has its row among so many cells
+pub record Rowed (book places : List ℕ) (count tokens n : ℕ) : Type 0 where
   pub numbered : count ≤ 128
-  pub rows : (p : ℕ) → p < count → (left_of book places p + 1) * (tokens + 1) ≤ length table
+  pub rows : (p : ℕ) → p < count → (left_of book places p + 1) * (tokens + 1) ≤ n
+
+-- and every cell is vacant
+pub record Claimable (book places : List ℕ) (count tokens : ℕ) (table : List ℕ) : Type 0 where
+  pub rowed : Rowed book places count tokens (length table)
   pub blank : (i : ℕ) → i < length table → get_or table i 0 ≡ 255
 
--- the answer to a contest, which is past the last cell where there is none
-pub data Settled (contest : Contest) (cells : ℕ) : Answer → Type 0 where
-  contested : contest.cell < cells
-      → Settled contest cells (refusal refusals.conflict contest.cell (contest.lowest * 256 + contest.next))
-  uncontested : cells ≤ contest.cell → Settled contest cells (done 0)
+-- the answer to a contest
+abbrev pub conflict_of : Contest → Answer
+conflict_of contest = refusal refusals.conflict contest.cell (contest.lowest * 256 + contest.next)
 
 -- every claim C is laid on so many cells: the first that is contested is refused and the table kept, or they are
 -- written
-pub data Tabulated (C : ℕ → ℕ → Type 0) (n : ℕ) (table : List ℕ) : Answer → List ℕ → Type 0 where
+pub data Tabulated (C : ℕ → ℕ → Type 0) (n : ℕ) (table : List ℕ) : Result ⊤ Answer → List ℕ → Type 0 where
   disputed : {cells : List ℕ} {contest : Contest}
       → length cells ≡ n
-      → Ledger C cells contest
-      → contest.cell < n
-      → Tabulated C n table (refusal refusals.conflict contest.cell (contest.lowest * 256 + contest.next)) table
-  written : {cells : List ℕ} {contest : Contest}
+      → Ledger C cells (Some contest)
+      → Tabulated C n table (Err (conflict_of contest)) table
+  written : {cells : List ℕ}
       → length cells ≡ n
-      → Ledger C cells contest
-      → n ≤ contest.cell
-      → Tabulated C n table (done 0) (over cells table)
+      → Ledger C cells None
+      → Tabulated C n table (Ok tt) (over cells table)

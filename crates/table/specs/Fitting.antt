@@ -1,14 +1,13 @@
 -- A table that fits a grammar, whoever made it, and the place of refusal 9 of one that does not.
 -- Document 01, "Refusals and their numbers".
-use Rattle.std.specs.Prelude.{◌≡◌, ◌≢◌, Bool, List, ℕ, ◌<◌, length, get_or}
+use Rattle.std.specs.Prelude.{◌≡◌, ◌≢◌, Bool, List, ℕ, ◌<◌, length, get_or, Option, ⊤, Result, MatchResult}
 use Rattle.std.proofs.Math.Option.{some, none}
 use Rattle.grammar.specs.Grammar.{Form, Grammar, Rule}
 use Rattle.sets.specs.Calls.{Decides}
-use Rattle.answers.specs.Lowest.{FirstFailing}
+use Rattle.answers.specs.Lowest.{FailingIn}
+use Rattle.reader.specs.Fields.{left_at}
 use Rattle.book.specs.declared.columns.Outline.{Outline}
-use Rattle.book.specs.Columns.{outlined, Lefts}
-use Rattle.table.specs.declared.fitting.Fitting.{Fitting}
-use Rattle.table.specs.declared.fitting.Fitting.TheVariants.{Fit, MisfitAt}
+use Rattle.book.specs.Columns.{outlined, Gathered}
 use Rattle.table.specs.Table.{size, row_at, held}
 
 -- a cell is 255 or a production of its row
@@ -32,14 +31,15 @@ pub data Misfit (g : Grammar) (table : List ℕ) : ℕ → Type 0 where
       → Misfit g table i
 
 -- what a check of the table answers
-pub data TableFitting (g : Grammar) (table : List ℕ) : Fitting → Type 0 where
-  fit : FitTable g table → TableFitting g table Fit
-  misfit : {k : ℕ} → Misfit g table k → TableFitting g table (MisfitAt k)
+abbrev pub TableFitting : Grammar → (table : List ℕ) → Result ⊤ ℕ → Type 0
+TableFitting g table r = MatchResult r (λ _. FitTable g table) (Misfit g table)
 
 -- inside the crate: the answer for one cell, by the column of left sides of any book
 pub record CellFits (lefts : List ℕ) (o : Outline) (table : List ℕ) (i : ℕ) (r : Bool) : Type 0 where
-  pub decides : (book places : List ℕ) → Lefts book places o lefts → Decides r (Fits (outlined book places o) table i)
+  pub decides : (book places : List ℕ)
+      → Gathered (left_at book) places o.productions lefts
+      → Decides r (Fits (outlined book places o) table i)
 
--- and the first cell that does not fit, or the length
-abbrev pub FirstMisfit : Grammar → (table : List ℕ) → ℕ → Type 0
-FirstMisfit g table = FirstFailing (Fits g table) (length table)
+-- and the first cell that does not fit
+abbrev pub FirstMisfit : Grammar → (table : List ℕ) → Option ℕ → Type 0
+FirstMisfit g table = FailingIn (Fits g table) (length table)

@@ -1,34 +1,40 @@
 // The claims of the productions on the cells, laid one after the other: the table, or the first conflict.
-ghost use Rattle.std.specs.Prelude.{◌+◌, ◌*◌, ◌≤◌, ◌<◌, length};
+ghost use Rattle.std.specs.Prelude.{◌≡◌, ◌+◌, ◌*◌, ◌≤◌, ◌<◌, length};
 ghost use Rattle.grammar.specs.Grammar.{Grammar};
 ghost use Rattle.sets.specs.Sets.{member};
 ghost use Rattle.sets.specs.Calls.{number};
 ghost use Rattle.book.specs.Judging.{Serves};
 ghost use Rattle.table.specs.Claims.{book_claims, Laid, Ledger, Claimed, RowClaimed};
-ghost use Rattle.table.specs.Claims.{Claimable, Settled, Tabulated};
+ghost use Rattle.table.specs.Claims.{Claimable, Rowed, conflict_of, Tabulated};
 ghost use Rattle.table.specs.Filling.{Enterable, Entered};
 
 use crate::VACANT;
-use crate::vacancy::{FEW, vacant_few, vacant_most};
-use answers::buffers::write_bytes;
-use answers::refusals::{CONFLICT, DONE};
-use answers::{Answer, done, refusal};
-use book::Reading;
-use reader::fields::{left_at, place_at};
+use crate::vacancy::{FEW, MOST, vacant};
+use answers::buffers::{cell_or, write_front};
+use answers::refusals::Refusal;
+use answers::{Answer, refusal};
+use book::Index;
+use reader::fields::left_at;
 use sets::{END_MARK, Set, has, load};
 
-// The first cell known to have two claimants, in cell order, and its two lowest; past the last cell where none is
-// known.
+// A cell that has two claimants, and its two lowest.
 #[derive(Clone, Copy)]
 pub(crate) struct Contest {
     pub(crate) cell: usize,
-    pub(crate) lowest: u32,
-    pub(crate) next: u32,
+    pub(crate) lowest: u8,
+    pub(crate) next: u8,
 }
 
 // Production p claims a cell if its lookahead has the bit of the cell's column: a vacant cell it gets, and one that is
-// held is contested.
-fn claim(ahead: Set, bit: u8, cell: usize, p: u8, table: &mut [u8], known: Contest) -> Contest
+// held is contested; the first contest known is kept.
+fn claim(
+    ahead: Set,
+    bit: u8,
+    cell: usize,
+    p: u8,
+    table: &mut [u8],
+    known: Option<Contest>,
+) -> Option<Contest>
     requires { cell < length table.old }
     ensures { Claimed table.old cell p known (member bit (number ahead)) result table.new }
 {
@@ -40,129 +46,110 @@ fn claim(ahead: Set, bit: u8, cell: usize, p: u8, table: &mut [u8], known: Conte
         table[cell] = p;
         return known;
     }
-    if cell < known.cell {
-        let lowest = holder as u32;
-        let next = p as u32;
-        Contest { cell, lowest, next }
-    } else {
-        known
+    match known {
+        Some(first) if first.cell <= cell => known,
+        _ => Some(Contest {
+            cell,
+            lowest: holder,
+            next: p,
+        }),
     }
 }
 
 // Production p claims the cells of its row: a column for each token, and then the end mark's.
-fn claim_row(row: u8, ahead: Set, tokens: u8, p: u8, table: &mut [u8], known: Contest) -> Contest
+fn claim_row(
+    row: u8,
+    ahead: Set,
+    tokens: u8,
+    p: u8,
+    table: &mut [u8],
+    known: Option<Contest>,
+) -> Option<Contest>
     requires { ((row + 1) * (tokens + 1) ≤ length table.old) × (p < 255) }
     ensures { RowClaimed row (number ahead) tokens p table.old known table.new result }
 {
     let from = row as usize * (tokens as usize + 1);
     let mut contest = known;
-    let mut column: u8 = 0;
-    while column < tokens {
+    for column in 0..tokens {
         contest = claim(ahead, column, from + column as usize, p, table, contest);
-        column += 1;
     }
     claim(ahead, END_MARK, from + tokens as usize, p, table, contest)
 }
 
-// The claims of every production, in order, on a table whose cells are all vacant.
-fn claim_all(
-    book: &[u8],
-    places: &[u16],
-    count: usize,
-    tokens: u8,
-    ahead: &[u64],
-    table: &mut [u8],
-) -> Contest
-    requires { Claimable book.now places.now count tokens table.old }
+// The claims of every production, in order, on a table whose cells are all vacant; and the first contest.
+fn claim_all(book: &[u8], index: &Index, ahead: &[u64], table: &mut [u8]) -> Option<Contest>
+    requires { Claimable book.now index.now.places index.now.outline.productions
+        index.now.outline.tokens table.old }
     ensures { Ledger
-        (Laid (book_claims book.now places.now ahead.now tokens) count 0)
+        (Laid (book_claims book.now index.now.places ahead.now index.now.outline.tokens)
+            index.now.outline.productions 0)
         table.new result }
 {
-    let mut contest = Contest {
-        cell: table.len(),
-        lowest: 0,
-        next: 0,
-    };
-    let mut p: usize = 0;
-    while p < count {
-        let row = left_at(book, place_at(places, p) as usize);
-        contest = claim_row(row, load(ahead, p), tokens, p as u8, table, contest);
-        p += 1;
+    let tokens = index.outline.tokens;
+    let mut contest = None;
+    for p in 0..index.outline.productions {
+        let place = cell_or(&index.places, p as usize, 0);
+        let row = left_at(book, place as usize);
+        contest = claim_row(row, load(ahead, p as usize), tokens, p, table, contest);
     }
     contest
 }
 
-// A contested cell is refused.
-fn settle(contest: Contest, cells: usize) -> Answer
-    ensures { Settled contest cells result }
+// The refusal of a contested cell.
+fn refused(contest: Contest) -> Answer
+    ensures { result ≡ conflict_of contest }
 {
-    if contest.cell < cells {
-        refusal(
-            CONFLICT,
-            contest.cell as u64,
-            contest.lowest as u64 * 256 + contest.next as u64,
-        )
-    } else {
-        done(0)
-    }
+    refusal(
+        Refusal::Conflict,
+        contest.cell as u64,
+        contest.lowest as u64 * 256 + contest.next as u64,
+    )
 }
 
-// Every claim is laid on vacant cells, which are written if none is contested.
-fn tabulate(
+// Every claim is laid on vacant cells, enough for the table and at most N, which are written if none is contested.
+fn tabulate<const N: usize>(
     book: &[u8],
-    places: &[u16],
-    count: usize,
-    tokens: u8,
+    index: &Index,
     ahead: &[u64],
-    cells: &mut [u8],
+    cells: usize,
     table: &mut [u8],
-) -> Answer
-    requires { Claimable book.now places.now count tokens cells.old
-        × (length cells.old ≤ length table.old) }
+) -> Result<(), Answer>
+    requires room { (cells ≤ N) × (N ≤ 4032) × (cells ≤ length table.old) }
+    requires rows { Rowed book.now index.now.places index.now.outline.productions
+        index.now.outline.tokens cells }
     ensures { Tabulated
-        (Laid (book_claims book.now places.now ahead.now tokens) count 0)
-        (length cells.old) table.old result table.new }
+        (Laid (book_claims book.now index.now.places ahead.now index.now.outline.tokens)
+            index.now.outline.productions 0)
+        cells table.old result table.new }
 {
-    let contest = claim_all(book, places, count, tokens, ahead, cells);
-    let answer = settle(contest, cells.len());
-    if answer.number == DONE {
-        write_bytes(cells, table);
+    let mut claimed = vacant::<N>();
+    let claimed = &mut claimed[..cells];
+    match claim_all(book, index, ahead, claimed) {
+        Some(contest) => Err(refused(contest)),
+        None => {
+            write_front(claimed, table);
+            Ok(())
+        }
     }
-    answer
 }
 
 // The table of a book whose lookaheads are known, unless two productions claim one cell: that is known before anything
 // is written.
-pub(crate) fn enter(book: &[u8], reading: Reading, ahead: &[u64], table: &mut [u8]) -> Answer
-    requires { Enterable book.now reading ahead.now table.old }
+pub(crate) fn enter(
+    book: &[u8],
+    index: &Index,
+    ahead: &[u64],
+    table: &mut [u8],
+) -> Result<(), Answer>
+    requires { Enterable book.now index.now ahead.now table.old }
     ensures { (g : Grammar)
         → Serves book.now g
         → Entered g table.old result table.new }
 {
-    let count = reading.productions as usize;
-    let tokens = reading.tokens;
-    let cells = reading.nonterminals as usize * (tokens as usize + 1);
+    let cells = index.outline.nonterminals as usize * (index.outline.tokens as usize + 1);
     if cells <= FEW {
-        let mut claimed = vacant_few();
-        tabulate(
-            book,
-            &reading.places,
-            count,
-            tokens,
-            ahead,
-            &mut claimed[..cells],
-            table,
-        )
+        tabulate::<FEW>(book, index, ahead, cells, table)
     } else {
-        let mut claimed = vacant_most();
-        tabulate(
-            book,
-            &reading.places,
-            count,
-            tokens,
-            ahead,
-            &mut claimed[..cells],
-            table,
-        )
+        tabulate::<MOST>(book, index, ahead, cells, table)
     }
 }

@@ -1,23 +1,18 @@
 // Whether a table fits a book's grammar, whoever made the table: refusal 9.
 ghost use Rattle.std.specs.Prelude.{◌≡◌, ◌+◌, ◌*◌, ◌<◌, length, get_or};
-ghost use Rattle.book.specs.Columns.{outlined};
+ghost use Rattle.book.specs.Columns.{grammar_in};
 ghost use Rattle.table.specs.Fitting.{CellFits, FirstMisfit, TableFitting};
 
 use crate::VACANT;
+use answers::buffers::cell_or;
+use book::Index;
 use book::columns::{Outline, gather_lefts, is_of};
-
-// A table that fits, or the place of refusal 9: the length given, or the first cell that does not fit.
-#[derive(Clone, Copy)]
-pub enum Fitting {
-    Fit,
-    MisfitAt(usize),
-}
 
 // Cell i of a table; past its end no production.
 pub fn cell_at(table: &[u8], i: usize) -> u8
     ensures { result ≡ get_or table.now i 255 }
 {
-    if i < table.len() { table[i] } else { VACANT }
+    cell_or(table, i, VACANT)
 }
 
 // How many cells a table of the grammar has.
@@ -40,36 +35,30 @@ fn cell_fits(lefts: &[u8], outline: Outline, table: &[u8], i: usize) -> bool
     is_of(lefts, outline, row as u8, p)
 }
 
-// The first cell that does not fit, or the length.
-fn first_misfit(book: &[u8], places: &[u16], outline: Outline, table: &[u8]) -> usize
-    requires { length table.now ≡ outline.nonterminals * (outline.tokens + 1) }
-    ensures { FirstMisfit (outlined book.now places.now outline) table.now result }
+// The first cell that does not fit.
+fn first_misfit(book: &[u8], index: &Index, table: &[u8]) -> Option<usize>
+    requires { length table.now ≡ index.now.outline.nonterminals * (index.now.outline.tokens + 1) }
+    ensures { FirstMisfit (grammar_in book.now index.now) table.now result }
 {
-    let lefts = gather_lefts(book, places, outline);
-    let mut i: usize = 0;
-    while i < table.len() {
-        if !cell_fits(&lefts, outline, table, i) {
-            return i;
+    let lefts = gather_lefts(book, index);
+    for i in 0..table.len() {
+        if !cell_fits(&lefts, index.outline, table, i) {
+            return Some(i);
         }
-        i += 1;
     }
-    i
+    None
 }
 
-// Whether a table fits the grammar that a reading tells of, for every book, reading and table.
-pub fn check_table(book: &[u8], places: &[u16], outline: Outline, table: &[u8]) -> Fitting
-    ensures { TableFitting
-        (outlined book.now places.now outline)
-        table.now
-        result }
+// Whether a table fits the grammar that an index tells of, for every book, index and table; if not, the place of
+// refusal 9: the length given, or the first cell that does not fit.
+pub fn check_table(book: &[u8], index: &Index, table: &[u8]) -> Result<(), usize>
+    ensures { TableFitting (grammar_in book.now index.now) table.now result }
 {
-    if table.len() != table_size(outline) {
-        return Fitting::MisfitAt(table.len());
+    if table.len() != table_size(index.outline) {
+        return Err(table.len());
     }
-    let misfit = first_misfit(book, places, outline, table);
-    if misfit < table.len() {
-        Fitting::MisfitAt(misfit)
-    } else {
-        Fitting::Fit
+    match first_misfit(book, index, table) {
+        Some(i) => Err(i),
+        None => Ok(()),
     }
 }

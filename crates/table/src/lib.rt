@@ -1,15 +1,14 @@
 // The LL(1) table of a book: its cells, its first conflict, and building it.
 #![tactic(auto)]
 
+ghost use Rattle.follow.specs.Checks.{answered};
 ghost use Rattle.table.specs.Calls.{BuildOutcome};
-ghost use Rattle.table.specs.Filling.{Fillable};
 
 use crate::claims::enter;
 use answers::Answer;
-use answers::buffers::{check_room, write_words};
-use answers::refusals::{DONE, TABLE_ROOM};
-use book::Reading;
-use follow::checks::sets_room;
+use answers::buffers::{check_room, write_front};
+use answers::refusals::Lent;
+use follow::checks::{answer_of, sets_room};
 use follow::work_out;
 
 mod claims;
@@ -20,28 +19,27 @@ pub mod vacancy;
 pub const VACANT: u8 = 255;
 
 // The sets and the table of a book with room for them; where two productions claim one cell, nothing is written.
-fn fill(
+fn write_all(
     book: &[u8],
-    reading: Reading,
-    begins: &[u64],
-    ends: &[u64],
-    ahead: &[u64],
     first: &mut [u64],
     follow: &mut [u64],
     table: &mut [u8],
-) -> Answer
-    requires { Fillable book.now reading begins.now ends.now ahead.now
-        first.old follow.old table.old }
-    ensures { BuildOutcome book.now first.old follow.old table.old result
+) -> Result<(), Answer>
+    ensures { BuildOutcome book.now first.old follow.old table.old (answered result)
         first.new follow.new table.new }
 {
-    let n = reading.nonterminals as usize;
-    let entered = enter(book, reading, ahead, table);
-    if entered.number == DONE {
-        write_words(&begins[..n], first);
-        write_words(&ends[..n], follow);
-    }
-    entered
+    let mut begins = [0u64; 64];
+    let mut ends = [0u64; 64];
+    let mut ahead = [0u64; 128];
+    let index = work_out(book, &mut begins, &mut ends, &mut ahead)?;
+    let n = index.outline.nonterminals as usize;
+    let cells = n * (index.outline.tokens as usize + 1);
+    sets_room(first.len(), follow.len(), n)?;
+    check_room(table.len(), cells, Lent::Table)?;
+    enter(book, &index, &ahead, table)?;
+    write_front(&begins[..n], first);
+    write_front(&ends[..n], follow);
+    Ok(())
 }
 
 // The sets and the table into the lent buffers; how many symbols can vanish is worked out on the way and not passed on.
@@ -49,18 +47,5 @@ pub fn build(book: &[u8], first: &mut [u64], follow: &mut [u64], table: &mut [u8
     ensures { BuildOutcome book.now first.old follow.old table.old result
         first.new follow.new table.new }
 {
-    let mut begins = [0u64; 64];
-    let mut ends = [0u64; 64];
-    let mut ahead = [0u64; 128];
-    let reading = work_out(book, &mut begins, &mut ends, &mut ahead);
-    let judged = reading.answer;
-    let n = reading.nonterminals as usize;
-    let cells = n * (reading.tokens as usize + 1);
-    let roomy = sets_room(judged, first.len(), follow.len(), n);
-    let answer = check_room(roomy, table.len(), cells, TABLE_ROOM);
-    if answer.number == DONE {
-        fill(book, reading, &begins, &ends, &ahead, first, follow, table)
-    } else {
-        answer
-    }
+    answer_of(write_all(book, first, follow, table))
 }

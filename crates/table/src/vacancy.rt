@@ -9,16 +9,9 @@ pub const FEW: usize = 512;
 // The cells of the largest table, 64 rows of 63 columns.
 pub const MOST: usize = 4032;
 
-// Cells for a small table, all of them vacant.
-pub fn vacant_few() -> [u8; FEW]
-    ensures { Vacancy 512 result }
+// So many cells, all of them vacant.
+pub fn vacant<const N: usize>() -> [u8; N]
+    ensures { Vacancy N result }
 {
-    [VACANT; FEW]
-}
-
-// Cells for the largest table, all of them vacant.
-pub fn vacant_most() -> [u8; MOST]
-    ensures { Vacancy 4032 result }
-{
-    [VACANT; MOST]
+    [VACANT; N]
 }

@@ -1,7 +1,7 @@
 use native.Mathlib.Omega.{arith}
 use borrow.Author.Rules.{rules}
 use Rattle.sets.proofs.Promise.{decides_true, decides_false}
-use Rattle.answers.proofs.Promise.{search_next, search_found, search_over}
+use Rattle.answers.proofs.Promise.{search_next, search_some, search_none}
 use Rattle.checker.proofs.contests.claimant.Goals as goal
 
 pub loop-p-init : goal.loop-p-init
@@ -10,7 +10,7 @@ loop-p-init c =
 
 pub returns-then-is_claimant : goal.returns-then-is_claimant
 returns-then-is_claimant c =
-    search_found c.loop-p.invariant.1
+    search_some c.loop-p.invariant.1 c.loop-p-test.true
     (record { reached = c.loop-p.invariant.0; claim = decides_true _ c.is_claimant.result c.is_claimant.ensures c.if-is_claimant.true })
 
 pub loop-p-preserved : goal.loop-p-preserved
@@ -21,4 +21,4 @@ loop-p-preserved c = (
 )
 
 pub returns : goal.returns
-returns c = search_over c.loop-p.invariant.1 c.loop-p-test.false
+returns c = search_none c.loop-p.invariant.1 c.loop-p-test.false

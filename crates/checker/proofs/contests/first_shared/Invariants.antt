@@ -1,5 +1,5 @@
 -- The invariant: no column passed has its bit in both sets.
-use Prim.Native.Nat.{◌+◌, ◌-◌}
+use Prim.Native.Nat.{◌+◌}
 use Rattle.sets.specs.Sets.{column_place}
 use Rattle.sets.specs.Calls.{number}
 use Rattle.answers.proofs.Promise.{Searched}
@@ -9,6 +9,3 @@ use Rattle.checker.proofs.contests.first_shared.Given as goal
 abbrev pub invariant-loop-column : goal.invariant-loop-column
 invariant-loop-column l =
     Searched (λ c. Both (number l.x) (number l.y) (column_place c l.tokens)) (l.tokens + 1) l.column
-
-abbrev pub decreases-loop-column : goal.decreases-loop-column
-decreases-loop-column l = l.columns - l.column

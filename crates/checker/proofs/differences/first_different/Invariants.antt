@@ -1,5 +1,4 @@
 -- The invariant: no cell passed differs.
-use Prim.Native.Nat.{◌-◌}
 use lib.ListN.{length}
 use Rattle.answers.proofs.Promise.{Searched}
 use Rattle.checker.specs.Checking.{DiffersAt}
@@ -7,6 +6,3 @@ use Rattle.checker.proofs.differences.first_different.Given as goal
 
 abbrev pub invariant-loop-i : goal.invariant-loop-i
 invariant-loop-i l = Searched (DiffersAt l.claimed l.ahead l.tokens l.table) (length l.table) l.i
-
-abbrev pub decreases-loop-i : goal.decreases-loop-i
-decreases-loop-i l = length l.table - l.i

@@ -8,7 +8,7 @@ use Rattle.first.proofs.Found.{FirstSoFar}
 use Rattle.first.proofs.first.firsts.Given as goal
 
 abbrev pub invariant-loop : goal.invariant-loop
-invariant-loop l = Round (FirstSoFar l.book l.places l.count) l.first
+invariant-loop l = Round (FirstSoFar l.book l.index.places l.index.outline.productions) l.first
 
 abbrev pub decreases-loop : goal.decreases-loop
 decreases-loop l = most_nonterminals * 2 ^ width - total l.first

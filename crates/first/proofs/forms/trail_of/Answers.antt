@@ -1,4 +1,5 @@
 use mathlib.Core.Path.{refl, sym, ap, ◌∙◌}
+use native.Mathlib.Omega.{arith}
 use Rattle.sets.specs.Sets.{empty_string, member, joined}
 use Rattle.sets.specs.Calls.{number}
 use Rattle.sets.proofs.Promise.{join_is}
@@ -11,16 +12,14 @@ loop-j-init c = rw (single_empty c.single-begun.ensures) begun_none
 pub returns-then-not-has : goal.returns-then-not-has
 returns-then-not-has c =
     let loop = c.loop-j in
-    let loop-test = c.loop-j-test in
     let is = join_is c.join-begun.ensures ∙ ap (joined empty_string (number loop.begun)) c.symbol_set.ensures in
-    begun_stops loop.invariant loop-test.true (ap (member empty_string) (sym is) ∙ sym c.has.ensures ∙ c.if-not-has.true) is refl
+    begun_stops loop.invariant (omega arith) (ap (member empty_string) (sym is) ∙ sym c.has.ensures ∙ c.if-not-has.true) is refl
 
 pub loop-j-preserved : goal.loop-j-preserved
 loop-j-preserved c =
     let loop = c.loop-j in
-    let loop-test = c.loop-j-test in
     let is = join_is c.join-begun.ensures ∙ ap (joined empty_string (number loop.begun)) c.symbol_set.ensures in
-    rw is (begun_next loop.invariant loop-test.true (ap (member empty_string) (sym is) ∙ sym c.has.ensures ∙ c.if-not-has.false))
+    rw is (begun_next loop.invariant (omega arith) (ap (member empty_string) (sym is) ∙ sym c.has.ensures ∙ c.if-not-has.false))
 
 pub returns : goal.returns
-returns c = begun_over c.loop-j.invariant c.loop-j-test.false (join_is c.join-set.ensures) refl
+returns c = begun_over c.loop-j.invariant (omega arith) (join_is c.join.ensures) refl

@@ -1,6 +1,5 @@
 -- The invariant: the records gone through, and whether they changed nothing.
 use mathlib.Core.Path.{◌≡◌}
-use Prim.Native.Nat.{◌-◌, ◌≤◌}
 use lib.ListN.{length}
 use Rattle.first.specs.Steps.{Made, passed}
 use Rattle.follow.specs.Walks.{follow_steps}
@@ -8,7 +7,4 @@ use Rattle.follow.proofs.follow.follow_pass.Given as goal
 
 abbrev pub invariant-loop-p : goal.invariant-loop-p
 invariant-loop-p l =
-    (l.p ≤ l.count) × (length l.follow ≡ length l.initial.follow) × Made (passed (follow_steps l.book l.places l.first l.from) l.p) l.initial.follow l.follow l.settled
-
-abbrev pub decreases-loop-p : goal.decreases-loop-p
-decreases-loop-p l = l.count - l.p
+    (length l.follow ≡ length l.initial.follow) × Made (passed (follow_steps l.book l.index.places l.first l.from) l.p) l.initial.follow l.follow l.settled

@@ -18,11 +18,11 @@ pub loop-j-init : goal.loop-j-init
 loop-j-init c = walking_begun refl c.requires.2
 
 pub bounds-book-at-in-loop-j : goal.bounds-book-at-in-loop-j
-bounds-book-at-in-loop-j c = omega (arith, c.requires.0.inside, c.loop-j.invariant.within)
+bounds-book-at-in-loop-j c = omega (arith, c.requires.0.inside)
 
 pub pass_over-passed-requires : goal.pass_over-passed-requires
 pass_over-passed-requires c =
-    every_in _ _ _ c.requires.1 _ (omega (arith, c.loop-j.invariant.within, c.loop-j-test.true))
+    every_in _ _ _ c.requires.1 _ (omega (arith, c.loop-j.auto.j, c.loop-j-test.true))
 
 pub loop-j-preserved : goal.loop-j-preserved
 loop-j-preserved c =
@@ -33,4 +33,4 @@ shape_of-follow c = c.loop-j.invariant.sized
 
 pub returns : goal.returns
 returns c =
-    walking_over c.loop-j.invariant c.loop-j-test.false c.load-ahead.ensures.loaded
+    walking_over c.loop-j.invariant c.loop-j-test.false c.load.ensures.loaded

@@ -7,7 +7,7 @@ use Rattle.follow.proofs.Following.{FollowSoFar}
 use Rattle.follow.proofs.follow.follows.Given as goal
 
 abbrev pub invariant-loop-from : goal.invariant-loop-from
-invariant-loop-from l = Round (FollowSoFar l.book l.places l.count l.start l.first) l.follow
+invariant-loop-from l = Round (FollowSoFar l.book l.index.places l.index.outline.productions l.index.outline.start l.first) l.follow
 
 abbrev pub decreases-loop-from : goal.decreases-loop-from
 decreases-loop-from l = most_nonterminals * 2 ^ width - total l.follow

@@ -20,7 +20,7 @@ returns-then-byte-lt128 c =
       same = true;
       added = record { made = refl; same = refl };
       settled = sym (and-true _);
-      ahead = single_token c.single-ahead.ensures ∙ sym (join_token narrow _);
+      ahead = single_token c.single.ensures ∙ sym (join_token narrow _);
     })
 
 pub returns : goal.returns
@@ -31,5 +31,5 @@ returns c =
       same = c.unite-same.result;
       added = c.unite-same.ensures;
       settled = refl;
-      ahead = rw (← c.load.ensures.loaded) (join_is c.join-ahead.ensures);
+      ahead = rw (← c.load.ensures.loaded) (join_is c.join.ensures);
     })

@@ -6,10 +6,8 @@ use Rattle.table.proofs.fitting.check_table.Goals as goal
 pub returns-then-table-table_size : goal.returns-then-table-table_size
 returns-then-table-table_size c = misfit_length (outlined_sized _ _ _) c.table_size.ensures c.if-table-table_size.true
 
-pub returns-then-misfit-table : goal.returns-then-misfit-table
-returns-then-misfit-table c =
-    misfit_cell (outlined_sized _ _ _) c.table_size.ensures c.if-table-table_size.false c.first_misfit-misfit.ensures c.if-misfit-table.true
+pub returns-in-Some : goal.returns-in-Some
+returns-in-Some c = misfit_cell (outlined_sized _ _ _) c.table_size.ensures c.if-table-table_size.false c.in-Some.ensures
 
-pub returns-else-misfit-table : goal.returns-else-misfit-table
-returns-else-misfit-table c =
-    fit_whole (outlined_sized _ _ _) c.table_size.ensures c.if-table-table_size.false c.first_misfit-misfit.ensures c.if-misfit-table.false
+pub returns-in-None : goal.returns-in-None
+returns-in-None c = fit_whole (outlined_sized _ _ _) c.table_size.ensures c.if-table-table_size.false c.in-None.ensures

@@ -1,6 +1,6 @@
 -- The array is one byte, repeated.
 use Rattle.table.proofs.Vacant.{all_vacant}
-use Rattle.table.proofs.vacancy.vacant_few.Goals as goal
+use Rattle.table.proofs.vacancy.vacant.Goals as goal
 
 pub returns : goal.returns
-returns c = all_vacant 512
+returns g c = all_vacant _
