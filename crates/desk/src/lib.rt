@@ -8,7 +8,7 @@ ghost use Rattle.desk.specs.Desk.{PatternsCall, CutCall, CutWithCall, CheckCall,
 ghost use Rattle.desk.specs.Plain.{PlainCall, PlainRunCall};
 
 use crate::words::{ANSWER_SIZE, write_answer};
-use answers::refusals::ROOM;
+use answers::refusals::Refusal;
 use book::judging::judge;
 use expand::expand;
 use pieces::cutting::cut_with;
@@ -41,7 +41,7 @@ pub extern "C" fn desk_run(
         answer.new }
 {
     if answer.len() < ANSWER_SIZE {
-        return ROOM;
+        return Refusal::Room;
     }
     let ran = run(book, table, tokens, stack, list);
     write_answer(answer, ran);
@@ -69,7 +69,7 @@ pub extern "C" fn desk_expand(
         answer.new }
 {
     if answer.len() < ANSWER_SIZE {
-        return ROOM;
+        return Refusal::Room;
     }
     let expanded = expand(book, list, stack, tokens);
     write_answer(answer, expanded);
@@ -82,7 +82,7 @@ pub extern "C" fn desk_judge(book: &[u8], answer: &mut [u8]) -> u32
     ensures { JudgeCall book.now answer.old result answer.new }
 {
     if answer.len() < ANSWER_SIZE {
-        return ROOM;
+        return Refusal::Room;
     }
     let reading = judge(book);
     let judged = reading.answer;
@@ -96,7 +96,7 @@ pub extern "C" fn desk_check_table(book: &[u8], table: &[u8], answer: &mut [u8])
     ensures { CheckCall book.now table.now answer.old result answer.new }
 {
     if answer.len() < ANSWER_SIZE {
-        return ROOM;
+        return Refusal::Room;
     }
     let checked = checker::check(book, table);
     write_answer(answer, checked);
@@ -109,7 +109,7 @@ pub extern "C" fn desk_plain(book: &[u8], answer: &mut [u8]) -> u32
     ensures { PlainCall book.now answer.old result answer.new }
 {
     if answer.len() < ANSWER_SIZE {
-        return ROOM;
+        return Refusal::Room;
     }
     let tested = profile::plain::plain(book);
     write_answer(answer, tested);
@@ -137,7 +137,7 @@ pub extern "C" fn desk_plain_run(
         answer.new }
 {
     if answer.len() < ANSWER_SIZE {
-        return ROOM;
+        return Refusal::Room;
     }
     let ended = plain_run(book, tokens, stack, list);
     write_answer(answer, ended);
@@ -151,7 +151,7 @@ pub extern "C" fn desk_patterns(patterns: &[u8], lengths: &[u64], answer: &mut [
         result answer.new }
 {
     if answer.len() < ANSWER_SIZE {
-        return ROOM;
+        return Refusal::Room;
     }
     let told = patterns::judge(patterns, lengths);
     write_answer(answer, told);
@@ -181,7 +181,7 @@ pub extern "C" fn desk_cut(
         answer.new }
 {
     if answer.len() < ANSWER_SIZE {
-        return ROOM;
+        return Refusal::Room;
     }
     let told = cut::cut(patterns, lengths, line, machine, tokens);
     write_answer(answer, told);
@@ -209,7 +209,7 @@ pub extern "C" fn desk_cut_with(
         answer.new }
 {
     if answer.len() < ANSWER_SIZE {
-        return ROOM;
+        return Refusal::Room;
     }
     let told = cut_with(machine, line, tokens, ends);
     write_answer(answer, told);
@@ -235,7 +235,7 @@ pub extern "C" fn desk_sets(
         answer.new }
 {
     if answer.len() < ANSWER_SIZE {
-        return ROOM;
+        return Refusal::Room;
     }
     let filled = follow::sets(book, first, follow);
     write_answer(answer, filled);
@@ -264,7 +264,7 @@ pub extern "C" fn desk_build(
         answer.new }
 {
     if answer.len() < ANSWER_SIZE {
-        return ROOM;
+        return Refusal::Room;
     }
     let built = table::build(book, first, follow, table);
     write_answer(answer, built);
@@ -293,7 +293,7 @@ pub extern "C" fn desk_lookahead(
         answer.new }
 {
     if set.len() < 1 || count.len() < 1 || answer.len() < ANSWER_SIZE {
-        return ROOM;
+        return Refusal::Room;
     }
     let found = follow::lookahead(book, production);
     let ahead = found.set;
@@ -326,7 +326,7 @@ pub extern "C" fn desk_first_of(
         answer.new }
 {
     if set.len() < 1 || count.len() < 1 || answer.len() < ANSWER_SIZE {
-        return ROOM;
+        return Refusal::Room;
     }
     let found = first::first_of(book, symbols);
     let begins = found.set;
@@ -361,7 +361,7 @@ pub extern "C" fn desk_slr_run(
         answer.new }
 {
     if answer.len() < ANSWER_SIZE {
-        return ROOM;
+        return Refusal::Room;
     }
     let reduced = slr_run::running::run(book, table, tokens, stack, list);
     write_answer(answer, reduced);

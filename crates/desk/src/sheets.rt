@@ -2,7 +2,7 @@
 ghost use Rattle.desk.specs.Desk.{WriteSheetCall, ReadSheetCall};
 
 use crate::words::{ANSWER_SIZE, write_answer};
-use answers::refusals::ROOM;
+use answers::refusals::Refusal;
 use sheet::reading::read;
 use sheet::writing::write;
 
@@ -18,7 +18,7 @@ pub extern "C" fn desk_write_sheet(book: &[u8], sheet: &mut [u8], answer: &mut [
         answer.new }
 {
     if answer.len() < ANSWER_SIZE {
-        return ROOM;
+        return Refusal::Room;
     }
     let written = write(book, sheet);
     write_answer(answer, written);
@@ -37,7 +37,7 @@ pub extern "C" fn desk_read_sheet(sheet: &[u8], book: &mut [u8], answer: &mut [u
         answer.new }
 {
     if answer.len() < ANSWER_SIZE {
-        return ROOM;
+        return Refusal::Room;
     }
     let told = read(sheet, book);
     write_answer(answer, told);

@@ -8,7 +8,7 @@ ghost use Rattle.listing.specs.Writing.{ServedPut, Written};
 use crate::header::header_in;
 use crate::lines::{grammar_line, refused_line};
 use answers::limits::{MOST_NONTERMINALS, MOST_TOKENS};
-use answers::refusals::{DONE, ROOM};
+use answers::refusals::{DONE, Refusal};
 use answers::{Answer, refusal};
 use book::columns::Outline;
 use showing::lines::{row_lines, set_lines};
@@ -62,7 +62,7 @@ pub fn list(book: &[u8], out: &mut [u8]) -> Result<usize, Answer>
     let mut text = [0u8; LONGEST_LISTING];
     let size = write(book, &mut text);
     if out.len() < size {
-        return Err(refusal(ROOM, size as u64, 0));
+        return Err(refusal(Refusal::Room, size as u64, 0));
     }
     Ok(put_all(out, 0, &text[..size]))
 }

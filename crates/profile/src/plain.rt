@@ -5,7 +5,7 @@ ghost use Rattle.profile.specs.Breaking.{Profiled};
 
 use crate::breaks::first_break;
 use crate::heads::enter_heads;
-use answers::refusals::{DONE, PROFILE};
+use answers::refusals::{DONE, Refusal};
 use answers::{Answer, done, refusal};
 use book::Reading;
 use book::columns::outline_of;
@@ -26,7 +26,7 @@ fn profile_of(book: &[u8], reading: Reading) -> Answer
     let outline = outline_of(reading);
     let broken = first_break(book, &places, outline);
     if broken < outline.productions {
-        refusal(PROFILE, broken as u64, 0)
+        refusal(Refusal::Profile, broken as u64, 0)
     } else {
         done(0)
     }

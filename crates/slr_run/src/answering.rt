@@ -6,7 +6,7 @@ ghost use Rattle.slr_run.specs.Answering.{WithColumn, Expects, Values, Answers};
 
 use crate::checking::columns_of;
 use crate::{Cause, Reply, Stage};
-use answers::refusals::{LIST_ROOM, ROOM, STACK_ROOM, SYNTAX};
+use answers::refusals::{Lent, Refusal};
 use answers::{Answer, at_depth, done, stop};
 use book::columns::Outline;
 use sets::{Set, column_bit, none, with};
@@ -66,9 +66,9 @@ fn values_of(table: &[u16], outline: Outline, reply: Reply) -> Answer
     match reply {
         Reply::Taken(_) => done(steps),
         Reply::Stopped(cause, _) => match cause {
-            Cause::FullList => stop(ROOM, place, LIST_ROOM, steps, none()),
-            Cause::FullStack => stop(ROOM, place, STACK_ROOM, steps, none()),
-            Cause::Wants => stop(SYNTAX, place, 0, steps, expects(table, outline, at.top)),
+            Cause::FullList => stop(Refusal::Room, place, Lent::List.detail(), steps, none()),
+            Cause::FullStack => stop(Refusal::Room, place, Lent::Stack.detail(), steps, none()),
+            Cause::Wants => stop(Refusal::Syntax, place, 0, steps, expects(table, outline, at.top)),
         },
     }
 }

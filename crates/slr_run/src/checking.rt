@@ -7,7 +7,7 @@ ghost use Rattle.slr_run.specs.Fitting.{NumberFits};
 ghost use Rattle.slr_run.specs.Checking.{columns_in, RowFits, CellFits, WholeRows, TableCheck, CheckedFor};
 
 use answers::limits::LONGEST_STRING;
-use answers::refusals::{LIMIT, ROOM, STACK_ROOM, TABLE, TOKEN};
+use answers::refusals::{Lent, Refusal};
 use answers::{Answer, done, refusal};
 use book::columns::Outline;
 use run::checking::first_above;
@@ -106,17 +106,17 @@ pub(crate) fn check(outline: Outline, table: &[u16], tokens: &[u8], cells: usize
 {
     let fitting = check_table(table, outline);
     if let Fitting::MisfitAt(place) = fitting {
-        return refusal(TABLE, place as u64, 0);
+        return refusal(Refusal::Table, place as u64, 0);
     }
     if LONGEST_STRING < tokens.len() {
-        return refusal(LIMIT, LONGEST_STRING as u64, 0);
+        return refusal(Refusal::Limit, LONGEST_STRING as u64, 0);
     }
     let strange = first_above(tokens, outline.tokens);
     if strange < tokens.len() {
-        return refusal(TOKEN, strange as u64, 0);
+        return refusal(Refusal::Token, strange as u64, 0);
     }
     if cells == 0 {
-        return refusal(ROOM, 0, STACK_ROOM);
+        return refusal(Refusal::Room, 0, Lent::Stack.detail());
     }
     done(0)
 }
