@@ -1,4 +1,5 @@
 -- The demands, one page: a call that keeps its promise meets them, each theorem under the sentence that it proves.
+use Rattle.std.specs.Prelude.{Result}
 use mathlib.Core.Path.{◌≡◌, refl, ap, ◌∙◌}
 use mathlib.Core.Logic.{◌↔◌, ◌⊎◌, ◌≢◌}
 use mathlib.Core.List.{List, [], ◌∷◌}
@@ -14,7 +15,7 @@ use Rattle.answers.specs.Refusals.{room, syntax, production, stack_room}
 use Rattle.answers.specs.Buffers.{over, counted}
 use Rattle.answers.specs.Limits.{longest_list, most_cells}
 use Rattle.book.specs.Judging.{Serves}
-use Rattle.book.specs.declared.Reading.{Reading}
+use Rattle.book.specs.declared.Index.{Index}
 use Rattle.table.specs.Table.{cell_of}
 use Rattle.machine.specs.Room.{peak, LongestList}
 use Rattle.machine.specs.Stopping.{RoomNeeded}
@@ -22,7 +23,7 @@ use Rattle.machine.proofs.Promise.{room_needed}
 use Rattle.offer.specs.Resuming.{OfferResult}
 use Rattle.offer.specs.Strings.{ran}
 use Rattle.offer.specs.declared.Progress.{Progress}
-use Rattle.offer.specs.declared.Reply.{Reply}
+use Rattle.offer.specs.Reply.{Reply}
 use Rattle.offer.proofs.Promise.{told_numbers}
 use Rattle.run.specs.Judged.{JudgedRun}
 use Rattle.run.specs.Running.{Admits}
@@ -33,7 +34,7 @@ use Rattle.demands.specs.Depth.{RunDepth, ExpandDepth}
 use Rattle.demands.specs.Formula.{RunWithinFormula}
 use Rattle.demands.specs.Examples.{Given}
 use Rattle.demands.specs.ChainExample.{chain_book, chain_table, long_run, low_run, listless_run}
-use Rattle.demands.specs.Offers.{start_on, at_start, OfferedInTurn, deepest_of, MakesRun}
+use Rattle.demands.specs.Offers.{tokens_in, start_on, at_start, OfferedInTurn, deepest_of, MakesRun}
 use Rattle.demands.proofs.BuildDemands.{done_exactly, conflict_exactly, done_exactly_if}
 use Rattle.demands.proofs.ExpandDemands.{ends_moves, done_complete, done_exact, unfit_exact, unfit_place}
 use Rattle.demands.proofs.ExpandDemands.{expands_to, complete_room_iff}
@@ -321,13 +322,13 @@ module _ (book table : List ℕ) where
         ),
       )
 
-module _ (book : List ℕ) (reading : Reading) (table tokens stack list : List ℕ) where
+module _ (book : List ℕ) (reading : Result Index Answer) (table tokens stack list : List ℕ) where
   -- offers make a run: with the start symbol on the stack, an offer for each token and then one of the end mark give
   -- what a run on the judged book gives, for any reading and table, a string of the book's tokens that can be counted
   -- and a stack cell; its depth is the greatest that any of the offers tells
   pub offers_run : 1 ≤ length stack
       → length tokens ≤ most_cells
-      → ((i : ℕ) → i < length tokens → get_or tokens i 0 < reading.tokens)
+      → ((i : ℕ) → i < length tokens → get_or tokens i 0 < tokens_in reading)
       → {r : Reply} {s l : List ℕ}
       → (turn : OfferedInTurn book reading table tokens at_start (start_on reading stack) list r s l)
       → {a : Answer} {stack' list' : List ℕ}
@@ -336,7 +337,7 @@ module _ (book : List ℕ) (reading : Reading) (table tokens stack list : List �
   offers_run some_cell short known turn = offers_made book reading table tokens stack list some_cell short known turn
 
 -- and offers in turn allow one outcome
-pub offers_unique : {book : List ℕ} {reading : Reading} {table tokens : List ℕ} {at : Progress} {stack list : List ℕ}
+pub offers_unique : {book : List ℕ} {reading : Result Index Answer} {table tokens : List ℕ} {at : Progress} {stack list : List ℕ}
     {r q : Reply} {s l t m : List ℕ}
     → OfferedInTurn book reading table tokens at stack list r s l
     → OfferedInTurn book reading table tokens at stack list q t m

@@ -1,4 +1,5 @@
 -- How deep a run or an expansion went, from what it answers; and that so many stack cells, and no fewer, are enough for it.
+use Rattle.std.specs.Prelude.{⊤, Result, Err}
 use mathlib.Core.Path.{◌≡◌, refl, sym, ap, ◌∙◌}
 use mathlib.Core.Logic.{◌↔◌, ◌⊎◌, inl, inr, ◌≢◌, ⊎_elim}
 use mathlib.Core.List.{List}
@@ -18,8 +19,8 @@ use Rattle.machine.specs.Machine.{Offered, stopped, final}
 use Rattle.machine.specs.declared.Reason.TheVariants.{FullStack}
 use Rattle.machine.specs.Expansion.{WithRoom, completes, misfits, ended}
 use Rattle.machine.specs.Expansion as machine
-use Rattle.machine.specs.declared.Upshot.{Upshot}
-use Rattle.machine.specs.declared.Upshot.TheVariants as upshots
+use Rattle.machine.specs.declared.Obstacle.{Obstacle}
+use Rattle.machine.specs.declared.Obstacle.TheVariants as obstacles
 use Rattle.machine.specs.Room.{right_of, peak}
 use Rattle.machine.specs.Stopping.{HadStack, Decided, accepted, refused, wanted_end, wanted_token, wanted_row}
 use Rattle.machine.proofs.Promise.{run_steps, run_tall, run_depth_same, run_depth_down, run_depth_short}
@@ -29,7 +30,8 @@ use Rattle.offer.specs.Stops.{answered, run_answer}
 use Rattle.offer.proofs.Promise.{told_steps, told_depth}
 use Rattle.run.specs.Running.{Barred, Admits, RunOutcome}
 use Rattle.run.specs.Running as running
-use Rattle.run.proofs.Promise.{Result, run_outcome_unique}
+use Rattle.run.proofs.Promise.{run_outcome_unique}
+use Rattle.run.proofs.Promise as runs
 use Rattle.expand.specs.Expanding.{closing, answered_by, expand_answer, ExpandOutcome}
 use Rattle.expand.specs.Expanding as expanding
 use Rattle.expand.proofs.Promise.{told_height, told_moves, told_complete, told_with_room, expand_outcome_unique}
@@ -139,7 +141,7 @@ module _ (book table tokens stack list : List ℕ) (r : Ran) (o : MayRun book ta
       goes : {a : Answer} {t l : List ℕ} → r.answer ≡ a → r.list ≡ l → RunOutcome book table tokens other list a t l → (q.answer ≡ r.answer) × (q.list ≡ r.list)
       goes e f c =
           let same = run_outcome_unique book table tokens other list p c in
-          (ap (λ (x : Result). x.0) same ∙ sym e, ap (λ (x : Result). x.2) same ∙ sym f)
+          (ap (λ (x : runs.Result). x.0) same ∙ sym e, ap (λ (x : runs.Result). x.2) same ∙ sym f)
 
       go : {a : Answer} {t l : List ℕ} → r.answer ≡ a → r.stack ≡ t → r.list ≡ l → RunOutcome book table tokens stack list a t l
           → r.answer.depth ≤ counted other → (q.answer ≡ r.answer) × (q.list ≡ r.list)
@@ -176,7 +178,7 @@ module _ (book table tokens stack list : List ℕ) (r : Ran) (o : MayRun book ta
       go g s a (no n) =
           let none : length other ≡ 0 = omega arith in
           let same = run_outcome_unique book table tokens other list p (running.barred s (running.no_stack a.fits a.short a.known none)) in
-          (ap (λ (x : Result). x.0.number) same, ap (λ (x : Result). x.0.detail) same, λ k. absurd (omega arith))
+          (ap (λ (x : runs.Result). x.0.number) same, ap (λ (x : runs.Result). x.0.detail) same, λ k. absurd (omega arith))
 
 module _ (book table tokens stack list : List ℕ) (r : Ran) (o : MayRun book table tokens stack list r) where
   -- a string that is accepted: as deep as its derivation is high
@@ -198,7 +200,7 @@ expansion_kinds (expanding.too_long s h) = inl (refusal_early limit longest_list
 expansion_kinds (expanding.no_stack s h e) = inl (refusal_early room 0 stack_room (omega arith))
 expansion_kinds (expanding.ended {g = g} s h k) = inr (g, s, h, k)
 
-with_room_had : {e : Upshot} → WithRoom e → e ≢ upshots.FullStack
+with_room_had : {e : Result ⊤ Obstacle} → WithRoom e → e ≢ Err obstacles.FullStack
 with_room_had completes f = let bad : ◌≡◌ {A = ℕ} 0 1 = cc in omega arith
 with_room_had misfits f = let bad : ◌≡◌ {A = ℕ} 0 1 = cc in omega arith
 
@@ -271,7 +273,7 @@ module _ (book list stack output : List ℕ) (r : Expanded) (o : MayExpand book 
       goes : {a : Answer} {t w : List ℕ} → r.answer ≡ a → r.output ≡ w → ExpandOutcome book list other output a t w → (q.answer ≡ r.answer) × (q.output ≡ r.output)
       goes e f c =
           let same = expand_outcome_unique book list other output p c in
-          (ap (λ (x : Result). x.0) same ∙ sym e, ap (λ (x : Result). x.2) same ∙ sym f)
+          (ap (λ (x : runs.Result). x.0) same ∙ sym e, ap (λ (x : runs.Result). x.2) same ∙ sym f)
 
       go : {a : Answer} {t w : List ℕ} → r.answer ≡ a → r.stack ≡ t → r.output ≡ w → ExpandOutcome book list stack output a t w
           → r.answer.depth ≤ counted other → (q.answer ≡ r.answer) × (q.output ≡ r.output)
@@ -302,7 +304,7 @@ module _ (book list stack output : List ℕ) (r : Expanded) (o : MayExpand book 
       go g s short stacked (yes k) =
           let less : counted other < (expanded g list stack output).progress.height = omega (arith, expansion_held book list stack output r o s short stacked) in
           let (c, stops, sooner) = expand_depth_short g (counted output) list (counted stack) (counted other) (omega arith) less in
-          let answer : q.answer ≡ expand_answer (ended upshots.FullStack c) =
+          let answer : q.answer ≡ expand_answer (ended (Err obstacles.FullStack) c) =
           (expansion_ends book list other output q p s short (omega arith)).answer ∙ ap expand_answer stops in
           let steps = told_moves (ends_told_by g list stack output (expansion_ends book list stack output r o s short stacked)) in
           let fewer : q.answer.steps < r.answer.steps = omega (arith, ap (λ (x : Answer). x.steps) answer, steps, sooner) in
@@ -310,7 +312,7 @@ module _ (book list stack output : List ℕ) (r : Expanded) (o : MayExpand book 
       go g s short stacked (no n) =
           let none : length other ≡ 0 = omega arith in
           let same = expand_outcome_unique book list other output p (expanding.no_stack s short none) in
-          (ap (λ (x : Result). x.0.number) same, ap (λ (x : Result). x.0.detail) same, λ k. absurd (omega arith))
+          (ap (λ (x : runs.Result). x.0.number) same, ap (λ (x : runs.Result). x.0.detail) same, λ k. absurd (omega arith))
 
 module _ (book list stack output : List ℕ) (r : Expanded) (o : MayExpand book list stack output r) where
   -- a complete list: as deep as its derivation is high

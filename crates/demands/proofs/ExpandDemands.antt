@@ -1,4 +1,5 @@
 -- What the answer of an expansion says of the list, where the book serves and the list has at most 65,535 productions.
+use Rattle.std.specs.Prelude.{Ok, Err}
 use mathlib.Core.Path.{◌≡◌, ap, ◌∙◌}
 use mathlib.Core.Logic.{◌↔◌, ◌≢◌, ◌⊎◌, inl, inr, ⊎_elim}
 use mathlib.Core.List.{List}
@@ -14,7 +15,7 @@ use Rattle.answers.specs.Buffers.{over, counted}
 use Rattle.book.specs.Judging.{Serves}
 use Rattle.book.proofs.Promise.{serves_limits}
 use Rattle.machine.specs.Expansion.{ended, expansion}
-use Rattle.machine.specs.declared.Upshot.TheVariants.{Finished, Unfit}
+use Rattle.machine.specs.declared.Obstacle.TheVariants.{Unfit}
 use Rattle.machine.specs.Expansion as machine
 use Rattle.machine.specs.Room.{peak, LongestList}
 use Rattle.machine.proofs.Promise.{peak_start, expand_steps, expand_sound, expand_complete, expand_exact, expand_refuses, expand_place, expand_room}
@@ -35,11 +36,11 @@ module _ (g : Grammar) (list stack output : List ℕ) where
     pub ends_moves : r.answer.steps ≡ expanded_by.progress.used + length expanded_by.progress.written
     ends_moves = told_moves ends_told_by ∙ (expand_steps g (counted stack) (counted output) list).moves
 
-    ends_done : expanded_by.ending ≡ Finished → r.answer.number ≡ 0
+    ends_done : expanded_by.ending ≡ Ok tt → r.answer.number ≡ 0
     unfolding done at_depth
     ends_done h = ap (λ (a : Answer). a.number) (e.answer ∙ complete_done expanded_by h)
 
-    ends_unfit : expanded_by.ending ≡ Unfit → r.answer.number ≡ production
+    ends_unfit : expanded_by.ending ≡ Err Unfit → r.answer.number ≡ production
     unfolding stop at_depth
     ends_unfit h = ap (λ (a : Answer). a.number) (e.answer ∙ unfit_refused expanded_by h)
 
@@ -93,7 +94,7 @@ module _ (g : Grammar) (list stack output : List ℕ) where
     complete_room_iff (stackless e a b c) = (inr (ap (λ (x : Answer). x.number) a), (λ n. inl (omega (arith, peak_start d)), λ n. ap (λ (x : Answer). x.number) a))
     complete_room_iff {r} (begins k e) = (kinds, (to, from))
       where
-        fits : (expanded_by.ending ≢ Unfit) × ((expanded_by.ending ≡ Finished) ↔ ((peak d ≤ counted stack) × (length w ≤ counted output)))
+        fits : (expanded_by.ending ≢ Err Unfit) × ((expanded_by.ending ≡ Ok tt) ↔ ((peak d ≤ counted stack) × (length w ≤ counted output)))
         fits = expand_room g (counted stack) (counted output) list d (omega arith)
 
         kinds : (r.answer.number ≡ 0) ⊎ (r.answer.number ≡ room)

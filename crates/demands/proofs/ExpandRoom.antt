@@ -1,4 +1,5 @@
 -- Where an expansion that has no room stops, and what it leaves then.
+use Rattle.std.specs.Prelude.{⊤, Result, Err}
 use mathlib.Core.Path.{◌≡◌, refl, ap}
 use mathlib.Core.List.{List}
 use Prim.Native.Nat.{ℕ, ◌+◌, ◌≤◌}
@@ -10,8 +11,8 @@ use Rattle.answers.specs.Answers.{done, stop, no_set, at_depth}
 use Rattle.answers.specs.Refusals.{room, stack_room, output_room}
 use Rattle.answers.specs.Buffers.{over, counted, cleared}
 use Rattle.machine.specs.Expansion.{Course, ended, Expansion}
-use Rattle.machine.specs.declared.Upshot.{Upshot}
-use Rattle.machine.specs.declared.Upshot.TheVariants.{FullStack, FullOutput}
+use Rattle.machine.specs.declared.Obstacle.{Obstacle}
+use Rattle.machine.specs.declared.Obstacle.TheVariants.{FullStack, FullOutput}
 use Rattle.machine.specs.Stopping.{Midway, Lacks, lacks_stack, lacks_output}
 use Rattle.machine.proofs.Promise.{expand_steps, WantsRoom, wants_stack, wants_output, expand_stops}
 use Rattle.expand.proofs.Promise.{ToldBy, finished, misfitting, out_of_stack, out_of_output}
@@ -31,25 +32,25 @@ module _ {g : Grammar} {list : List ℕ} {x : Expansion} {stack output : List �
   stops_as e f k y = rw (e, f, k) y
 
 -- the state of an ending for want of room
-abbrev Stands : Grammar → (list : List ℕ) → (cells output : ℕ) → Upshot → Course → Type 0
+abbrev Stands : Grammar → (list : List ℕ) → (cells output : ℕ) → Result ⊤ Obstacle → Course → Type 0
 Stands g list cells output e s = (rest : List ℕ) × ((α : Form) × Midway g list s rest α × Lacks g cells output s e rest α)
 
 module _ {g : Grammar} {list stack output : List ℕ} (stacked : 1 ≤ length stack) where
   lacking_stack : {s : Course} {rest : List ℕ} {α : Form}
       → Midway g list s rest α
-      → Lacks g (counted stack) (counted output) s FullStack rest α
-      → ExpansionStops g list (ended FullStack s) stack output
+      → Lacks g (counted stack) (counted output) s (Err FullStack) rest α
+      → ExpansionStops g list (ended (Err FullStack) s) stack output
       (at_depth s.height (stop room s.used stack_room (s.used + length s.written) no_set)) (cleared stack) (over s.written output)
   lacking_stack m (lacks_stack short) = places.no_stack_cells stacked refl m short
 
   lacking_output : {s : Course} {rest : List ℕ} {α : Form}
       → Midway g list s rest α
-      → Lacks g (counted stack) (counted output) s FullOutput rest α
-      → ExpansionStops g list (ended FullOutput s) stack output
+      → Lacks g (counted stack) (counted output) s (Err FullOutput) rest α
+      → ExpansionStops g list (ended (Err FullOutput) s) stack output
       (at_depth s.height (stop room s.used output_room (s.used + length s.written) no_set)) (cleared stack) (over s.written output)
   lacking_output m (lacks_output full) = places.no_output_cell stacked refl m full
 
-  ends_midway : {e : Upshot} {s : Course} {a : Answer} {st out : List ℕ}
+  ends_midway : {e : Result ⊤ Obstacle} {s : Course} {a : Answer} {st out : List ℕ}
       → ToldBy s e a
       → st ≡ cleared stack
       → out ≡ over s.written output

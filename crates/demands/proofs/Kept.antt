@@ -1,6 +1,5 @@
 -- What a call that keeps its promise answers and leaves, where the book serves: steps begin, or there is no stack cell.
 use mathlib.Core.Path.{◌≡◌, refl, ap}
-use mathlib.Core.Logic.{⊎_elim}
 use mathlib.Core.List.{List}
 use Prim.Native.Nat.{ℕ, ◌≤◌, ◌<◌}
 use native.Mathlib.Decide.{dec_lt}
@@ -10,10 +9,9 @@ use Rattle.grammar.specs.Grammar.{Grammar}
 use Rattle.grammar.specs.Machine.{Exact}
 use Rattle.answers.specs.declared.Answer.{Answer}
 use Rattle.answers.specs.Answers.{refusal}
-use Rattle.answers.specs.Refusals.{room, stack_room}
+use Rattle.answers.specs.Refusals.{number_of, room, stack_room}
 use Rattle.answers.specs.Buffers.{over, counted, cleared}
-use Rattle.reader.specs.Faults.{Fault, bad_mark, extra_byte, over_limit, not_a_symbol}
-use Rattle.reader.proofs.Promise.{refused_kinds}
+use Rattle.reader.proofs.Promise.{refused_number}
 use Rattle.book.specs.Judging.{Refuses, misread, useless_one, Serves}
 use Rattle.table.specs.Table.{cell_of}
 use Rattle.table.proofs.Promise.{built_exact, table_fits}
@@ -87,13 +85,9 @@ unfolding refusal
 refusal_early n place detail number = record { steps = refl; depth = refl; number = number }
 
 pub refuses_early : {book : List ℕ} {a : Answer} → Refuses book a → Early a
-refuses_early {book} (misread {number = n} {place = k} e) = refusal_early n k 0 (⊎_elim (λ short. omega arith) (λ fault. known fault) (refused_kinds book e).kind)
-  where
-    known : {n : ℕ} → Fault n → (1 ≤ n) × (n ≤ 10)
-    known bad_mark = omega arith
-    known extra_byte = omega arith
-    known over_limit = omega arith
-    known not_a_symbol = omega arith
+refuses_early {book} (misread {why = why} {place = k} e) =
+    let number = refused_number book e in
+    refusal_early (number_of why) k 0 (number.0, omega (arith, number.1))
 refuses_early (useless_one {A = A} e l) = refusal_early 6 A 0 (omega arith)
 
 pub barred_early : {g : Grammar} {table tokens stack : List ℕ} {a : Answer} → Barred g table tokens stack a → Early a

@@ -1,8 +1,9 @@
 -- Offers make a run: what is offered column by column comes to what the machine makes of the whole string.
+use Rattle.std.specs.Prelude.{Result, Ok, Err}
 use mathlib.Core.Path.{◌≡◌, refl, sym, ◌∙◌, ap, subst}
 use mathlib.Core.Logic.{◌≢◌}
 use mathlib.Core.List.{List, [], ◌∷◌}
-use mathlib.Core.Option.{Option}
+use mathlib.Core.Option as math
 use Prim.Native.Nat.{ℕ, suc, ◌+◌, ◌-◌, ◌%◌, ◌≤◌, ◌<◌, min, max}
 use native.Mathlib.Decide.{dec_lt}
 use native.Mathlib.Omega.{arith}
@@ -15,12 +16,11 @@ use Rattle.grammar.specs.declared.Symbol.{Symbol}
 use Rattle.sets.specs.declared.Set.{Set}
 use Rattle.answers.specs.declared.Answer.{Answer}
 use Rattle.answers.specs.Answers.{done, at_depth}
-use Rattle.answers.specs.Buffers.{over, counted, cleared}
+use Rattle.answers.specs.Buffers.{over, counted}
 use Rattle.answers.specs.Limits.{most_cells}
-use Rattle.answers.specs.Refusals.{served}
 use Rattle.reader.specs.Book.{byte_of}
-use Rattle.book.specs.Columns.{grammar_in, outlined, outline_in, production_at}
-use Rattle.book.specs.declared.Reading.{Reading}
+use Rattle.book.specs.Columns.{grammar_in, outlined, production_at}
+use Rattle.book.specs.declared.Index.{Index}
 use Rattle.book.specs.declared.columns.Outline.{Outline}
 use Rattle.book.proofs.Promise.{production_found, production_missing}
 use Rattle.table.specs.Table.{column_of, cell_of}
@@ -37,12 +37,12 @@ use Rattle.offer.specs.Resuming.{OfferResult, progress_of, reported, clamped, st
 use Rattle.offer.specs.Stops.{expected, answered, run_answer, values_of, deepest_in, answer_of}
 use Rattle.offer.specs.Strings.{ran}
 use Rattle.offer.specs.declared.Progress.{Progress}
-use Rattle.offer.specs.declared.Reply.TheVariants.{Taken, Refused}
-use Rattle.offer.specs.declared.Reply.{Reply}
+use Rattle.offer.specs.declared.Halt.TheVariants.{Refused}
+use Rattle.offer.specs.Reply.{Reply}
 use Rattle.offer.proofs.Promise.{offer_outcome_unique}
 use Rattle.run.specs.Judged.{JudgedRun, RanOn, ran_on}
 use Rattle.run.specs.Judged as judged
-use Rattle.demands.specs.Offers.{start_on, at_start, OfferedInTurn, at_end, stops, goes_on, deepest_of, MakesRun}
+use Rattle.demands.specs.Offers.{tokens_in, start_on, at_start, OfferedInTurn, at_end, stops, goes_on, deepest_of, MakesRun}
 use Rattle.demands.proofs.Height.{Alike, AlikeEnds, both_taken, both_stopped, alike_final, run_alike}
 
 -- every right side of a book is spelled by its bytes
@@ -55,7 +55,7 @@ rights_spelled book places o p = go (dec_lt p o.productions)
     go (no n) = rw (production_missing book places o {p = p} (omega arith), right_of) Every.nothing
 
 -- what holds of each symbol of the right sides and of the stack, an offer keeps
-module _ {right : ℕ → Form} {cell : ℕ → Column → Option ℕ} {room cells : ℕ} {P : Symbol → Type 0}
+module _ {right : ℕ → Form} {cell : ℕ → Column → math.Option ℕ} {room cells : ℕ} {P : Symbol → Type 0}
     (rights : (p : ℕ) → Every P (right p)) where
   walk_every : {z : List ℕ} {e : State} {w : List ℕ} {s : State}
       → Walk right cell room cells z e w s
@@ -75,7 +75,7 @@ module _ {right : ℕ → Form} {cell : ℕ → Column → Option ℕ} {room cel
   comes_every (walk.goes_on f r) h = walk_every r h
   comes_every (walk.ends r k) h = subst (λ (e : State). Every P e.stack) (sym (halt_final k)) (walk_every r h)
 
-offer_every : (right : ℕ → Form) (cell : ℕ → Column → Option ℕ) (room cells : ℕ) {P : Symbol → Type 0}
+offer_every : (right : ℕ → Form) (cell : ℕ → Column → math.Option ℕ) (room cells : ℕ) {P : Symbol → Type 0}
     → ((p : ℕ) → Every P (right p))
     → (l : ℕ) (c : Column) (s : State)
     → length s.listed + l ≡ cells
@@ -137,9 +137,9 @@ module _ {at : Progress} {stack list : List ℕ} {n : ℕ} (h : Within at stack 
         height_fits = λ k. h.height;
       }
 
-module _ (book : List ℕ) (reading : Reading) (table : List ℕ) where
+module _ (book : List ℕ) (index : Index) (table : List ℕ) where
   abbrev g : Grammar
-  g = grammar_in book reading
+  g = grammar_in book index
 
   -- the run of tokens from the state that the buffers spell
   abbrev runs : List ℕ → Progress → List ℕ → List ℕ → Offered
@@ -157,13 +157,13 @@ module _ (book : List ℕ) (reading : Reading) (table : List ℕ) where
     pub lists : list' ≡ over (final o).listed list
     pub stack_length : length stack' ≡ length stack
 
-  column_token : {t : ℕ} → t < reading.tokens → column_of g t ≡ token t
+  column_token : {t : ℕ} → t < index.outline.tokens → column_of g t ≡ token t
   unfolding column_of outlined
-  column_token {t} h = rw (lt-ltb t reading.tokens h, column_of)
+  column_token {t} h = rw (lt-ltb t index.outline.tokens h, column_of)
 
-  column_end : column_of g reading.tokens ≡ endmark
+  column_end : column_of g index.outline.tokens ≡ endmark
   unfolding column_of outlined
-  column_end = let h : reading.tokens ≤ reading.tokens = omega arith in rw (le-ltb reading.tokens reading.tokens h, column_of)
+  column_end = let h : index.outline.tokens ≤ index.outline.tokens = omega arith in rw (le-ltb index.outline.tokens index.outline.tokens h, column_of)
 
   module _ {at : Progress} {stack list : List ℕ} {n : ℕ} (h : Within at stack list n) {column : ℕ} {c : Column}
       (same : column_of g column ≡ c) {r : Reply} {stack' list' : List ℕ}
@@ -192,7 +192,7 @@ module _ (book : List ℕ) (reading : Reading) (table : List ℕ) where
     unfolding standing
     step_spelled =
         offer_every (right_of g) (cell_of g table) (counted stack) (counted list)
-        (rights_spelled book reading.places (outline_in reading))
+        (rights_spelled book index.places index.outline)
         (counted list - length (standing at stack list).listed) c (standing at stack list) left_is
         (cells_spelled stack at.height)
 
@@ -235,8 +235,8 @@ module _ (book : List ℕ) (reading : Reading) (table : List ℕ) where
     pub within : Within next stack₁ list₁ n
 
   module _ {at : Progress} {stack list : List ℕ} {n : ℕ} (h : Within at stack list (suc n)) {t : ℕ}
-      (small : t < reading.tokens) {next : Progress} {stack₁ list₁ : List ℕ}
-      (on : OfferedOn g table t at stack list (Taken next) stack₁ list₁) where
+      (small : t < index.outline.tokens) {next : Progress} {stack₁ list₁ : List ℕ}
+      (on : OfferedOn g table t at stack list (Ok next) stack₁ list₁) where
     abbrev last : State
     last = final (offers (token t) at stack list)
 
@@ -249,7 +249,7 @@ module _ (book : List ℕ) (reading : Reading) (table : List ℕ) where
         let comes = step_comes h same on in
         let left_in : last ≡ e = ap final f in
         let here : next ≡ progress_of last =
-        (let answer : Taken next ≡ reported (taken e) = x.answer ∙ ap reported f in
+        (let answer : Ok next ≡ reported (taken e) = x.answer ∙ ap reported f in
         let there : next ≡ progress_of e = cc in
         there ∙ ap progress_of (sym left_in)) in
         let one : gained (token t) (offers (token t) at stack list) ≡ 1 = ap (gained (token t)) f in
@@ -279,7 +279,7 @@ module _ (book : List ℕ) (reading : Reading) (table : List ℕ) where
       where
         go : (o : Offered) → offers (token t) at stack list ≡ o → Goes t at stack list next stack₁ list₁ n
         go (stopped q e) f =
-            let answer : Taken next ≡ reported (stopped q e) = (step_offers h (column_token small) on).answer ∙ ap reported f in
+            let answer : Ok next ≡ reported (stopped q e) = (step_offers h (column_token small) on).answer ∙ ap reported f in
             let bad : ◌≡◌ {A = ℕ} 0 1 = cc in absurd (omega arith)
         go (taken e) f = goes_taken e f
 
@@ -311,44 +311,92 @@ module _ (book : List ℕ) (reading : Reading) (table : List ℕ) where
           stack_length = c.stack_length ∙ k.stack_length;
         }
 
-  module _ (fine : reading.answer.number ≡ served) where
-    on_grammar : {column : ℕ} {at : Progress} {stack list : List ℕ} {r : Reply} {stack' list' : List ℕ}
-        → OfferOutcome book reading table column at stack list r stack' list'
-        → OfferedOn g table column at stack list r stack' list'
-    on_grammar (refused n) = absurd (n fine)
-    on_grammar (offered e on) = on
+  on_grammar : {column : ℕ} {at : Progress} {stack list : List ℕ} {r : Reply} {stack' list' : List ℕ}
+      → OfferOutcome book (Ok index) table column at stack list r stack' list'
+      → OfferedOn g table column at stack list r stack' list'
+  on_grammar (refused e) = let bad : ◌≡◌ {A = ℕ} 0 1 = cc in absurd (omega arith)
+  on_grammar {column} {at} {stack} {list} {r} {stack'} {list'} (offered {index = other} e on) =
+      let same : other ≡ index = cc in
+      subst (λ (x : Index). OfferedOn (grammar_in book x) table column at stack list r stack' list') same on
 
-    -- an offer that is not taken ends the run
-    stops_comes : {t : ℕ} (w : List ℕ) {at : Progress} {stack list : List ℕ} {n : ℕ}
-        → Within at stack list n
-        → t < reading.tokens
-        → {r : Reply} {stack' list' : List ℕ}
-        → OfferedOn g table t at stack list r stack' list'
-        → ((next : Progress) → r ≢ Taken next)
-        → Comes (runs (t ∷ w) at stack list) stack list r (deepest_in r) stack' list'
-    unfolding reported
-    stops_comes {t} w {at} {stack} {list} h small {r} {stack'} {list'} on other = go (offers (token t) at stack list) refl
-      where
-        go : (o : Offered) → offers (token t) at stack list ≡ o → Comes (runs (t ∷ w) at stack list) stack list r (deepest_in r) stack' list'
-        go (taken e) f = absurd (other (progress_of e) ((step_offers h (column_token small) on).answer ∙ ap reported f))
-        go (stopped q e) f =
-            subst (λ (o : Offered). Comes o stack list r (deepest_in r) stack' list')
-            (f ∙ sym (run_stopped (right_of g) (cell_of g table) (counted stack) (counted list) t w (standing at stack list) f))
-            (step_comes h (column_token small) on)
+  -- an offer that is not taken ends the run
+  stops_comes : {t : ℕ} (w : List ℕ) {at : Progress} {stack list : List ℕ} {n : ℕ}
+      → Within at stack list n
+      → t < index.outline.tokens
+      → {r : Reply} {stack' list' : List ℕ}
+      → OfferedOn g table t at stack list r stack' list'
+      → ((next : Progress) → r ≢ Ok next)
+      → Comes (runs (t ∷ w) at stack list) stack list r (deepest_in r) stack' list'
+  unfolding reported
+  stops_comes {t} w {at} {stack} {list} h small {r} {stack'} {list'} on other = go (offers (token t) at stack list) refl
+    where
+      go : (o : Offered) → offers (token t) at stack list ≡ o → Comes (runs (t ∷ w) at stack list) stack list r (deepest_in r) stack' list'
+      go (taken e) f = absurd (other (progress_of e) ((step_offers h (column_token small) on).answer ∙ ap reported f))
+      go (stopped q e) f =
+          subst (λ (o : Offered). Comes o stack list r (deepest_in r) stack' list')
+          (f ∙ sym (run_stopped (right_of g) (cell_of g table) (counted stack) (counted list) t w (standing at stack list) f))
+          (step_comes h (column_token small) on)
 
-    -- offers in turn come to what the machine makes of the tokens
-    turn_comes : {w : List ℕ} {at : Progress} {stack list : List ℕ} {r : Reply} {stack' list' : List ℕ}
-        → (turn : OfferedInTurn book reading table w at stack list r stack' list')
-        → Within at stack list (length w)
-        → ((i : ℕ) → i < length w → get_or w i 0 < reading.tokens)
-        → Comes (runs w at stack list) stack list r (deepest_of turn) stack' list'
-    unfolding run_from deepest_of
-    turn_comes (at_end o) h known = step_comes h column_end (on_grammar o)
-    turn_comes (stops {w = w} o other) h known = stops_comes w h (known 0 (omega arith)) (on_grammar o) other
-    turn_comes (goes_on {w = w} o rest) h known =
-        let k = goes_next h (known 0 (omega arith)) (on_grammar o) in
-        goes_comes w k (turn_comes rest k.within (λ i l. known (suc i) (omega arith)))
+  -- offers in turn come to what the machine makes of the tokens
+  turn_comes : {w : List ℕ} {at : Progress} {stack list : List ℕ} {r : Reply} {stack' list' : List ℕ}
+      → (turn : OfferedInTurn book (Ok index) table w at stack list r stack' list')
+      → Within at stack list (length w)
+      → ((i : ℕ) → i < length w → get_or w i 0 < index.outline.tokens)
+      → Comes (runs w at stack list) stack list r (deepest_of turn) stack' list'
+  unfolding run_from deepest_of
+  turn_comes (at_end o) h known = step_comes h column_end (on_grammar o)
+  turn_comes (stops {w = w} o other) h known = stops_comes w h (known 0 (omega arith)) (on_grammar o) other
+  turn_comes (goes_on {w = w} o rest) h known =
+      let k = goes_next h (known 0 (omega arith)) (on_grammar o) in
+      goes_comes w k (turn_comes rest k.within (λ i l. known (suc i) (omega arith)))
 
+  -- the start symbol alone on the stack
+  start_alike : (stack list : List ℕ)
+      → 1 ≤ length stack
+      → Alike 0 (standing at_start (start_on (Ok index) stack) list) (begun g.start)
+  unfolding standing begun spelled_by outlined
+  start_alike [] list h = absurd (omega arith)
+  start_alike (x ∷ stack) list h =
+      record {
+        stack = ap (λ (y : Symbol). y ∷ []) (nonterminal_spelled (index.outline.start % 128)).same;
+        listed = refl;
+        matched = refl;
+        moves = refl;
+        height = refl;
+      }
+
+  module _ (tokens stack list : List ℕ) (some_cell : 1 ≤ length stack) (short : length tokens ≤ most_cells)
+      (known : (i : ℕ) → i < length tokens → get_or tokens i 0 < index.outline.tokens) {r : Reply} {s l : List ℕ}
+      (turn : OfferedInTurn book (Ok index) table tokens at_start (start_on (Ok index) stack) list r s l) where
+    start_within : Within at_start (start_on (Ok index) stack) list (length tokens)
+    start_within =
+        let same = length-set stack 0 (byte_of (Nonterminal (index.outline.start % 128))) in
+        record { some_cell = omega arith; height = omega arith; listed = omega arith; matched = omega arith }
+
+    -- the machine from what the buffers spell, and from the start symbol
+    start_ran : AlikeEnds 0 (runs tokens at_start (start_on (Ok index) stack) list) (ran g table tokens stack list)
+    unfolding ran
+    start_ran =
+        let long = length-set stack 0 (byte_of (Nonterminal (index.outline.start % 128))) in
+        let same : counted (start_on (Ok index) stack) ≡ counted stack = ap (λ (n : ℕ). min n most_cells) long in
+        rw same (run_alike (right_of g) (cell_of g table) (counted stack) (counted list) tokens (start_alike stack list some_cell))
+
+    made_ran : {a : Answer} {stack' list' : List ℕ}
+        → RanOn g table tokens stack list a stack' list'
+        → MakesRun book (Ok index) table stack r (deepest_of turn) s l a stack' list'
+    made_ran (judged.no_stack e) = absurd (omega arith)
+    made_ran (judged.ended h) =
+        let c = turn_comes turn start_within known in
+        let deepest : deepest_of turn ≡ max 0 (deepest_of turn) = omega arith in
+        let same = length-set stack 0 (byte_of (Nonterminal (index.outline.start % 128))) in
+        record {
+          answer = sym (ap (λ (n : ℕ). at_depth n (values_of g table r)) deepest ∙ raised_answer g table start_ran (deepest_of turn) (values_of g table r) c.answer);
+          list = sym (c.lists ∙ ap (λ (ps : List ℕ). over ps list) (alike_final start_ran).listed);
+          stack_cleared = λ e. ap (λ (n : ℕ). replicate n 0) (sym (c.stack_length ∙ same));
+          stack_kept = λ e. let bad : ◌≡◌ {A = ℕ} 0 1 = cc in absurd (omega arith);
+        }
+
+module _ (book : List ℕ) (reading : Result Index Answer) (table : List ℕ) where
   -- offers in turn allow one outcome
   pub turn_unique : {w : List ℕ} {at : Progress} {stack list : List ℕ} {r q : Reply} {s l t m : List ℕ}
       → OfferedInTurn book reading table w at stack list r s l
@@ -363,105 +411,71 @@ module _ (book : List ℕ) (reading : Reading) (table : List ℕ) where
       (goes_on {w = w} {next = x} {stack₁ = s₁} {list₁ = l₁} o rest)
       (goes_on {next = y} {stack₁ = t₁} {list₁ = m₁} p more) =
       let same = offer_outcome_unique o p in
-      let replies : Taken x ≡ Taken y = ap (λ (z : OfferResult). z.0) same in
+      let replies : ◌≡◌ {A = Reply} (Ok x) (Ok y) = ap (λ (z : OfferResult). z.0) same in
       let there : x ≡ y = cc in
       let left : ◌≡◌ {A = Progress × List ℕ × List ℕ} (x, s₁, l₁) (y, t₁, m₁) = λ i. (there i, (same i).1, (same i).2) in
       turn_unique rest
       (subst (λ (z : Progress × List ℕ × List ℕ). OfferedInTurn book reading table w z.0 z.1 z.2 q t m) (sym left) more)
 
-  not_taken : {column : ℕ} {at next : Progress} {stack list : List ℕ} {r : Reply} {stack' list' : List ℕ}
-      → OfferOutcome book reading table column at stack list r stack' list'
-      → r ≡ Taken next
-      → reading.answer.number ≡ served
-  not_taken (refused n) e = let bad : ◌≡◌ {A = ℕ} 0 1 = cc in absurd (omega arith)
-  not_taken (offered fine on) e = fine
+-- on a book that was refused the first offer is the last
+module _ {book : List ℕ} {answer : Answer} {table : List ℕ} where
+  refused_outcome : {column : ℕ} {at : Progress} {stack list : List ℕ} {r : Reply} {stack' list' : List ℕ}
+      → OfferOutcome book (Err answer) table column at stack list r stack' list'
+      → ◌≡◌ {A = OfferResult} (r, stack', list') (Err (Refused answer), stack, list)
+  refused_outcome (refused {answer = other} e) = let same : other ≡ answer = cc in rw same
+  refused_outcome (offered e on) = let bad : ◌≡◌ {A = ℕ} 0 1 = cc in absurd (omega arith)
 
-  -- on a reading that was refused the first offer is the last
+  not_taken : {column : ℕ} {at next : Progress} {stack list stack' list' : List ℕ}
+      → OfferOutcome book (Err answer) table column at stack list (Ok next) stack' list'
+      → ⊥
+  not_taken {next = next} o =
+      let replies : ◌≡◌ {A = Reply} (Ok next) (Err (Refused answer)) = ap (λ (x : OfferResult). x.0) (refused_outcome o) in
+      let bad : ◌≡◌ {A = ℕ} 0 1 = cc in
+      omega arith
+
   turn_refused : {w : List ℕ} {at : Progress} {stack list : List ℕ} {r : Reply} {stack' list' : List ℕ}
-      → OfferedInTurn book reading table w at stack list r stack' list'
-      → reading.answer.number ≢ served
-      → ◌≡◌ {A = OfferResult} (r, stack', list') (Refused reading.answer, stack, list)
-  turn_refused (at_end (refused k)) n = refl
-  turn_refused (at_end (offered e on)) n = absurd (n e)
-  turn_refused (stops (refused k) other) n = refl
-  turn_refused (stops (offered e on) other) n = absurd (n e)
-  turn_refused (goes_on o rest) n = absurd (n (not_taken o refl))
+      → OfferedInTurn book (Err answer) table w at stack list r stack' list'
+      → ◌≡◌ {A = OfferResult} (r, stack', list') (Err (Refused answer), stack, list)
+  turn_refused (at_end o) = refused_outcome o
+  turn_refused (stops o other) = refused_outcome o
+  turn_refused (goes_on o rest) = absurd (not_taken o)
 
   refused_deepest : {w : List ℕ} {at : Progress} {stack list : List ℕ} {r : Reply} {stack' list' : List ℕ}
-      → (turn : OfferedInTurn book reading table w at stack list r stack' list')
-      → reading.answer.number ≢ served
+      → (turn : OfferedInTurn book (Err answer) table w at stack list r stack' list')
       → deepest_of turn ≡ 0
   unfolding deepest_of deepest_in
-  refused_deepest (at_end (refused k)) n = refl
-  refused_deepest (at_end (offered e on)) n = absurd (n e)
-  refused_deepest (stops (refused k) other) n = refl
-  refused_deepest (stops (offered e on) other) n = absurd (n e)
-  refused_deepest (goes_on o rest) n = absurd (n (not_taken o refl))
+  refused_deepest (at_end o) = ap (λ (x : OfferResult). deepest_in x.0) (refused_outcome o)
+  refused_deepest (stops o other) = ap (λ (x : OfferResult). deepest_in x.0) (refused_outcome o)
+  refused_deepest (goes_on o rest) = absurd (not_taken o)
 
-  -- the start symbol alone on the stack
-  start_alike : (stack list : List ℕ)
-      → 1 ≤ length stack
-      → Alike 0 (standing at_start (start_on reading stack) list) (begun g.start)
-  unfolding standing begun spelled_by outlined
-  start_alike [] list h = absurd (omega arith)
-  start_alike (x ∷ stack) list h =
+  made_refused : {w : List ℕ} {at : Progress} {stack list : List ℕ} {r : Reply} {s l : List ℕ}
+      → (turn : OfferedInTurn book (Err answer) table w at (start_on (Err answer) stack) list r s l)
+      → MakesRun book (Err answer) table stack r (deepest_of turn) s l (at_depth 0 answer) stack list
+  made_refused turn =
+      let same = turn_refused turn in
       record {
-        stack = ap (λ (y : Symbol). y ∷ []) (nonterminal_spelled (reading.start % 128)).same;
-        listed = refl;
-        matched = refl;
-        moves = refl;
-        height = refl;
+        answer = ap (λ (d : ℕ). at_depth d answer) (sym (refused_deepest turn));
+        list = sym (ap (λ (x : OfferResult). x.2) same);
+        stack_cleared = λ e. let bad : ◌≡◌ {A = ℕ} 0 1 = cc in absurd (omega arith);
+        stack_kept = λ e. (refl, ap (λ (x : OfferResult). x.1) same);
       }
 
-  module _ (tokens stack list : List ℕ) (some_cell : 1 ≤ length stack) (short : length tokens ≤ most_cells)
-      (known : (i : ℕ) → i < length tokens → get_or tokens i 0 < reading.tokens) {r : Reply} {s l : List ℕ}
-      (turn : OfferedInTurn book reading table tokens at_start (start_on reading stack) list r s l) where
-    start_within : Within at_start (start_on reading stack) list (length tokens)
-    start_within =
-        let same = length-set stack 0 (byte_of (Nonterminal (reading.start % 128))) in
-        record { some_cell = omega arith; height = omega arith; listed = omega arith; matched = omega arith }
-
-    -- the machine from what the buffers spell, and from the start symbol
-    start_ran : AlikeEnds 0 (runs tokens at_start (start_on reading stack) list) (ran g table tokens stack list)
-    unfolding ran
-    start_ran =
-        let long = length-set stack 0 (byte_of (Nonterminal (reading.start % 128))) in
-        let same : counted (start_on reading stack) ≡ counted stack = ap (λ (n : ℕ). min n most_cells) long in
-        rw same (run_alike (right_of g) (cell_of g table) (counted stack) (counted list) tokens (start_alike stack list some_cell))
-
-    made_served : (fine : reading.answer.number ≡ served)
-        → MakesRun book reading table stack r (deepest_of turn) s l
-        (run_answer g table (ran g table tokens stack list))
-        (cleared stack)
-        (over (final (ran g table tokens stack list)).listed list)
-    made_served fine =
-        let c = turn_comes fine turn start_within known in
-        let deepest : deepest_of turn ≡ max 0 (deepest_of turn) = omega arith in
-        let same = length-set stack 0 (byte_of (Nonterminal (reading.start % 128))) in
-        record {
-          answer = sym (ap (λ (n : ℕ). at_depth n (values_of g table r)) deepest ∙ raised_answer g table start_ran (deepest_of turn) (values_of g table r) c.answer);
-          list = sym (c.lists ∙ ap (λ (ps : List ℕ). over ps list) (alike_final start_ran).listed);
-          stack_cleared = λ e. ap (λ (n : ℕ). replicate n 0) (sym (c.stack_length ∙ same));
-          stack_kept = λ n. absurd (n fine);
-        }
-
-    made_ran : {a : Answer} {stack' list' : List ℕ}
-        → reading.answer.number ≡ served
-        → RanOn g table tokens stack list a stack' list'
-        → MakesRun book reading table stack r (deepest_of turn) s l a stack' list'
-    made_ran fine (judged.no_stack e) = absurd (omega arith)
-    made_ran fine (judged.ended h) = made_served fine
-
-    pub offers_made : {a : Answer} {stack' list' : List ℕ}
-        → JudgedRun book reading table tokens stack list a stack' list'
-        → MakesRun book reading table stack r (deepest_of turn) s l a stack' list'
-    unfolding values_of
-    offers_made (judged.refused n) =
-        let same = turn_refused turn n in
-        record {
-          answer = sym (ap (λ (d : ℕ). at_depth d (values_of g table r)) (refused_deepest turn n) ∙ ap (λ (x : OfferResult). at_depth 0 (values_of g table x.0)) same);
-          list = sym (ap (λ (x : OfferResult). x.2) same);
-          stack_cleared = λ e. absurd (n e);
-          stack_kept = λ m. (refl, ap (λ (x : OfferResult). x.1) same);
-        }
-    offers_made (ran_on fine on) = made_ran fine on
+pub offers_made : (book : List ℕ) (reading : Result Index Answer) (table tokens stack list : List ℕ)
+    → 1 ≤ length stack
+    → length tokens ≤ most_cells
+    → ((i : ℕ) → i < length tokens → get_or tokens i 0 < tokens_in reading)
+    → {r : Reply} {s l : List ℕ}
+    → (turn : OfferedInTurn book reading table tokens at_start (start_on reading stack) list r s l)
+    → {a : Answer} {stack' list' : List ℕ}
+    → JudgedRun book reading table tokens stack list a stack' list'
+    → MakesRun book reading table stack r (deepest_of turn) s l a stack' list'
+offers_made book (Ok index) table tokens stack list some_cell short known turn (judged.refused e) =
+    let bad : ◌≡◌ {A = ℕ} 0 1 = cc in absurd (omega arith)
+offers_made book (Ok index) table tokens stack list some_cell short known turn {a} {stack'} {list'} (ran_on {index = other} e on) =
+    let same : other ≡ index = cc in
+    made_ran book index table tokens stack list some_cell short known turn
+    (subst (λ (x : Index). RanOn (grammar_in book x) table tokens stack list a stack' list') same on)
+offers_made book (Err answer) table tokens stack list some_cell short known turn (judged.refused {answer = other} e) =
+    let same : other ≡ answer = cc in rw same (made_refused turn)
+offers_made book (Err answer) table tokens stack list some_cell short known turn (ran_on e on) =
+    let bad : ◌≡◌ {A = ℕ} 0 1 = cc in absurd (omega arith)

@@ -1,6 +1,6 @@
 -- Where a derivation stands when a run or an expansion stops for want of room, and what is left then.
 -- Document 01, "Running and expanding"; demand 3's sentence on room.
-use Rattle.std.specs.Prelude.{◌≡◌, List, ◌∷◌, ◌++◌, ℕ, ◌+◌, ◌≤◌, ◌<◌, length}
+use Rattle.std.specs.Prelude.{◌≡◌, List, ◌∷◌, ◌++◌, ℕ, ◌+◌, ◌≤◌, ◌<◌, length, Err}
 use Rattle.grammar.specs.declared.Symbol.TheVariants.{Token, Nonterminal}
 use Rattle.grammar.specs.Grammar.{Form, Grammar, Complete}
 use Rattle.answers.specs.Answers.{refusal, stop, no_set, at_depth}
@@ -11,7 +11,7 @@ use Rattle.machine.specs.Machine.{State, Offered, stopped}
 use Rattle.machine.specs.declared.Reason.TheVariants.{FullList, FullStack}
 use Rattle.machine.specs.Room.{right_of}
 use Rattle.machine.specs.Expansion.{Course, Expansion, ended}
-use Rattle.machine.specs.declared.Upshot.TheVariants as upshots
+use Rattle.machine.specs.declared.Obstacle.TheVariants as obstacles
 use Rattle.machine.specs.Stopping.{Before, Midway}
 
 -- what a run with the outcome o leaves that stops for room: no stack cell; or, in the state of o, right before the
@@ -48,7 +48,7 @@ pub data ExpansionStops (g : Grammar) (list : List ℕ) (e : Expansion) (stack o
   no_stack : length stack ≡ 0 → ExpansionStops g list e stack output (refusal room 0 stack_room) stack output
   no_stack_cells : {p A : ℕ} {rest : List ℕ} {below : Form} {s : Course}
       → 1 ≤ length stack
-      → e ≡ ended upshots.FullStack s
+      → e ≡ ended (Err obstacles.FullStack) s
       → Midway g list s (p ∷ rest) (Nonterminal A ∷ below)
       → counted stack < length (right_of g p ++ below)
       → ExpansionStops g list e stack output
@@ -57,7 +57,7 @@ pub data ExpansionStops (g : Grammar) (list : List ℕ) (e : Expansion) (stack o
       (over s.written output)
   no_output_cell : {t : ℕ} {rest : List ℕ} {below : Form} {s : Course}
       → 1 ≤ length stack
-      → e ≡ ended upshots.FullOutput s
+      → e ≡ ended (Err obstacles.FullOutput) s
       → Midway g list s rest (Token t ∷ below)
       → length s.written ≡ counted output
       → ExpansionStops g list e stack output

@@ -1,4 +1,5 @@
 -- The invariant of an expansion: the buffers hold a stack and a progress from which the machine comes to the expansion's end.
+use Rattle.std.specs.Prelude.{⊤, Result, Ok, Err}
 use mathlib.Core.Path.{◌≡◌, refl, sym, ◌∙◌, ap, subst, subst₂, subst₃}
 use mathlib.Core.Bool.{Bool}
 use mathlib.Core.List.{List, [], ◌∷◌, ◌++◌}
@@ -11,11 +12,11 @@ use Rattle.grammar.specs.declared.Symbol.TheVariants.{Token, Nonterminal}
 use Rattle.answers.specs.Buffers.{over, counted}
 use Rattle.reader.specs.Fields.{form_in}
 use Rattle.reader.specs.Book.{byte_of}
-use Rattle.book.specs.Columns.{outlined, Lefts, Lengths}
-use Rattle.book.specs.declared.columns.Outline.{Outline}
+use Rattle.book.specs.Columns.{grammar_in, outlined, Lefts, Lengths}
+use Rattle.book.specs.declared.Index.{Index}
 use Rattle.machine.specs.Expansion.{opened, expansion, Course, Expansion, ended, wrote, applied, expand_from}
-use Rattle.machine.specs.declared.Upshot.{Upshot}
-use Rattle.machine.specs.declared.Upshot.TheVariants.{Finished, Unfit, FullStack, FullOutput}
+use Rattle.machine.specs.declared.Obstacle.{Obstacle}
+use Rattle.machine.specs.declared.Obstacle.TheVariants.{Unfit, FullStack, FullOutput}
 use Rattle.machine.specs.Room.{right_of, is_of}
 use Rattle.machine.proofs.Promise.{finished_is, left_over_is, too_short_is, misfit_is, no_stack_is, apply_is, no_output_is, write_is}
 use Rattle.stack.specs.Sides.{RightSide}
@@ -32,23 +33,23 @@ drop_next [] used {p} {qs} e = let none : ◌≡◌ {A = List ℕ} [] (p ∷ qs)
 drop_next (x ∷ list) zero e = ((cc), omega arith)
 drop_next (x ∷ list) (suc used) e = let (rest, inside) = drop_next list used e in let one : suc used + 1 ≡ suc (used + 1) = omega arith in (rw one rest, omega arith)
 
-module _ (book places : List ℕ) (o : Outline) (lefts lengths list stack₀ output₀ : List ℕ) (cells : ℕ) where
+module _ (book : List ℕ) (index : Index) (lefts lengths list stack₀ output₀ : List ℕ) (cells : ℕ) where
   abbrev fits : ℕ → ℕ → Bool
-  fits = is_of (outlined book places o)
+  fits = is_of (grammar_in book index)
 
   abbrev right : ℕ → Form
-  right = right_of (outlined book places o)
+  right = right_of (grammar_in book index)
 
   abbrev runs : List ℕ → Form → Course → Expansion
   runs = expand_from fits right (counted stack₀) (counted output₀)
 
   abbrev whole : Expansion
-  whole = expansion (outlined book places o) (counted stack₀) (counted output₀) list
+  whole = expansion (grammar_in book index) (counted stack₀) (counted output₀) list
 
   -- what stays: the columns are the book's, and so many cells of the output count
   pub record Given : Type 0 where
-    pub lefts_are : Lefts book places o lefts
-    pub lengths_are : Lengths book places o lengths
+    pub lefts_are : Lefts book index lefts
+    pub lengths_are : Lengths book index lengths
     pub cells_are : cells ≡ counted output₀
 
   pub record Unrolled (stack output : List ℕ) (height used written deepest : ℕ) : Type 0 where
@@ -68,12 +69,12 @@ module _ (book places : List ℕ) (o : Outline) (lefts lengths list stack₀ out
     pub stack_cells : stack ≡ stacked form progress.height stack₀
     pub output_cells : output ≡ over progress.written output₀
 
-  pub unrolled_start : (stack : List ℕ) → Given → 1 ≤ length stack → stack₀ ≡ set stack 0 (byte_of (Nonterminal (o.start % 128))) → Unrolled stack₀ output₀ 1 0 0 1
+  pub unrolled_start : (stack : List ℕ) → Given → 1 ≤ length stack → stack₀ ≡ set stack 0 (byte_of (Nonterminal (index.outline.start % 128))) → Unrolled stack₀ output₀ 1 0 0 1
   unfolding opened outlined
   unrolled_start stack given h e =
       record {
         given = given;
-        form = Nonterminal (o.start % 128) ∷ [];
+        form = Nonterminal (index.outline.start % 128) ∷ [];
         progress = opened;
         same = refl;
         height_is = refl;
@@ -82,10 +83,10 @@ module _ (book places : List ℕ) (o : Outline) (lefts lengths list stack₀ out
         deepest_is = refl;
         inside = omega arith;
         highest = omega arith;
-        stack_room = omega (arith, ap length e, length-set stack 0 (byte_of (Nonterminal (o.start % 128))));
+        stack_room = omega (arith, ap length e, length-set stack 0 (byte_of (Nonterminal (index.outline.start % 128))));
         output_room = omega arith;
-        spelled = each (nonterminal_spelled (o.start % 128)) nothing;
-        stack_cells = rw e (stacked_open (Nonterminal (o.start % 128)) stack h);
+        spelled = each (nonterminal_spelled (index.outline.start % 128)) nothing;
+        stack_cells = rw e (stacked_open (Nonterminal (index.outline.start % 128)) stack h);
         output_cells = refl;
       }
 
@@ -102,11 +103,11 @@ module _ (book places : List ℕ) (o : Outline) (lefts lengths list stack₀ out
     unrolled_spells : spelled_by stack height ≡ u.form
     unrolled_spells = rw (u.height_is, u.stack_cells) (spelled_stacked u.spelled u.progress.height stack₀)
 
-    module _ {m : Turn} (turn : TurnAt lefts lengths o list used stack height written cells m) where
+    module _ {m : Turn} (turn : TurnAt lefts lengths index list used stack height written cells m) where
       -- the turn is chosen by what the buffers hold and the room as it was lent
       by_form : {n : Turn} → m ≡ n → Turns fits right (counted stack₀) (counted output₀) (drop used list) u.form (length u.progress.written) n
       by_form same =
-          let k = turn.turns book places u.given.lefts_are u.given.lengths_are in
+          let k = turn.turns book u.given.lefts_are u.given.lengths_are in
           subst₃ (λ (α : Form) (w : ℕ) (n : Turn). Turns fits right (counted stack₀) (counted output₀) (drop used list) α w n) unrolled_spells u.written_is same
           (subst₂ (λ (room cells : ℕ). Turns fits right room cells (drop used list) (spelled_by stack height) written m) (ap (λ (n : ℕ). min n 65535) unrolled_stack) u.given.cells_are k)
 
@@ -154,26 +155,26 @@ module _ (book places : List ℕ) (o : Outline) (lefts lengths list stack₀ out
       pub apply_fits : {p count : ℕ} → m ≡ Apply p → count ≡ get_or lengths p 0 → ApplyFits count
       apply_fits {p = p} {count = count} same e = go (by_form same)
         where
-          side : RightSide book places o p count
-          side = right_side book places o p u.given.lengths_are e
+          side : RightSide book index p count
+          side = right_side book index p u.given.lengths_are e
 
           go : Turns fits right (counted stack₀) (counted output₀) (drop used list) u.form (length u.progress.written) (Apply p) → ApplyFits count
           go (Turns.applies {β = β} e f g h) =
-              let many : length (right p) ≡ count = ap length side.symbols ∙ length_symbols book (get_or places p 0 + 4) count in
+              let many : length (right p) ≡ count = ap length side.symbols ∙ length_symbols book (get_or index.places p 0 + 4) count in
               record { some_symbol = omega (arith, u.height_is, ap length e); list_left = (drop_next list used f).1; stack_left = omega (arith, u.height_is, ap length e, length-append (right p) β) }
 
       pub unrolled_apply : {p count place deeper : ℕ} {after : List ℕ}
           → m ≡ Apply p
           → count ≡ get_or lengths p 0
-          → place ≡ get_or places p 0
+          → place ≡ get_or index.places p 0
           → after ≡ replacing (stack_bytes (form_in book (place + 4) count)) (height - 1) stack
           → deeper ≡ max deepest (height - 1 + count)
           → Unrolled after output (height - 1 + count) (used + 1) written deeper
       unfolding applied
       unrolled_apply {p = p} {count = count} {place = place} {deeper = deeper} {after = after} same counts at replaced greatest = go (by_form same)
         where
-          side : RightSide book places o p count
-          side = right_side book places o p u.given.lengths_are counts
+          side : RightSide book index p count
+          side = right_side book index p u.given.lengths_are counts
 
           room : ApplyFits count
           room = apply_fits same counts
@@ -187,7 +188,7 @@ module _ (book places : List ℕ) (o : Outline) (lefts lengths list stack₀ out
           go (Turns.applies {A = A} {β = β} {qs = qs} e f g h) =
               let n : height ≡ suc (length β) = u.height_is ∙ ap length e in
               let below : height - 1 ≡ length β = omega arith in
-              let many : length (right p) ≡ count = ap length side.symbols ∙ length_symbols book (get_or places p 0 + 4) count in
+              let many : length (right p) ≡ count = ap length side.symbols ∙ length_symbols book (get_or index.places p 0 + 4) count in
               let long = length-append (right p) β in
               let (rest, inside) = drop_next list used f in
               record {
@@ -203,36 +204,36 @@ module _ (book places : List ℕ) (o : Outline) (lefts lengths list stack₀ out
                 highest = omega arith;
                 stack_room = omega (arith, u.stack_room);
                 output_room = u.output_room;
-                spelled = every_append (subst (λ (γ : Form). Every Spelled γ) (sym side.symbols) (symbols_spelled book (get_or places p 0 + 4) count)) (every_rest (subst (λ (γ : Form). Every Spelled γ) e u.spelled));
+                spelled = every_append (subst (λ (γ : Form). Every Spelled γ) (sym side.symbols) (symbols_spelled book (get_or index.places p 0 + 4) count)) (every_rest (subst (λ (γ : Form). Every Spelled γ) e u.spelled));
                 stack_cells = cells_are ∙ rw (at, below, u.stack_cells, e, ← side.symbols) (stacked_replace (Nonterminal A) (right p) β u.progress.height stack₀ (omega (arith, u.highest, u.height_is)) (omega arith));
                 output_cells = u.output_cells;
               }
 
       -- where no move is made
-      closes : (e : Upshot) → runs (drop used list) u.form u.progress ≡ ended e u.progress → Unfolds (outlined book places o) list stack₀ output₀ (record { upshot = e; used = used; written = written; deepest = deepest }) stack output
+      closes : (e : Result ⊤ Obstacle) → runs (drop used list) u.form u.progress ≡ ended e u.progress → Unfolds (grammar_in book index) list stack₀ output₀ (record { ending = e; used = used; written = written; deepest = deepest }) stack output
       unfolding unfolded ended
       closes e k =
           let last : whole ≡ ended e u.progress = sym u.same ∙ k in
           record {
-            answer = (λ i. record { upshot = e; used = u.used_is i; written = u.written_is i; deepest = u.deepest_is i }) ∙ ap unfolded (sym last);
+            answer = (λ i. record { ending = e; used = u.used_is i; written = u.written_is i; deepest = u.deepest_is i }) ∙ ap unfolded (sym last);
             written = u.output_cells ∙ ap (λ (x : Expansion). over x.progress.written output₀) (sym last);
             stack_length = unrolled_stack;
             output_length = unrolled_output;
           }
 
-      pub unrolled_close : {f : Upshot} → m ≡ Close f → Unfolds (outlined book places o) list stack₀ output₀ (record { upshot = f; used = used; written = written; deepest = deepest }) stack output
+      pub unrolled_close : {f : Result ⊤ Obstacle} → m ≡ Close f → Unfolds (grammar_in book index) list stack₀ output₀ (record { ending = f; used = used; written = written; deepest = deepest }) stack output
       unrolled_close same = go (by_form same)
         where
           from : (ps : List ℕ) (α : Form) → drop used list ≡ ps → u.form ≡ α → {x : Expansion} → runs ps α u.progress ≡ x → runs (drop used list) u.form u.progress ≡ x
           from ps α f g h = rw (f, g) h
 
-          go : {f : Upshot} → Turns fits right (counted stack₀) (counted output₀) (drop used list) u.form (length u.progress.written) (Close f) → Unfolds (outlined book places o) list stack₀ output₀ (record { upshot = f; used = used; written = written; deepest = deepest }) stack output
-          go (Turns.finished e f) = closes Finished (from _ _ f e (finished_is fits right (counted stack₀) (counted output₀) u.progress))
-          go (Turns.left_over {p = p} {qs = qs} e f) = closes Unfit (from _ _ f e (left_over_is fits right (counted stack₀) (counted output₀) p qs u.progress))
-          go (Turns.too_short {A = A} {β = β} e f) = closes Unfit (from _ _ f e (too_short_is fits right (counted stack₀) (counted output₀) A β u.progress))
-          go (Turns.misfit {A = A} {p = p} {β = β} {qs = qs} e f g) = closes Unfit (from _ _ f e (misfit_is fits right (counted stack₀) (counted output₀) p A qs β u.progress g))
-          go (Turns.no_stack {A = A} {p = p} {β = β} {qs = qs} e f g h) = closes FullStack (from _ _ f e (no_stack_is fits right (counted stack₀) (counted output₀) p A qs β u.progress g h))
-          go (Turns.no_output {t = t} {β = β} e h) = closes FullOutput (from _ _ refl e (no_output_is fits right (counted stack₀) (counted output₀) t (drop used list) β u.progress h))
+          go : {f : Result ⊤ Obstacle} → Turns fits right (counted stack₀) (counted output₀) (drop used list) u.form (length u.progress.written) (Close f) → Unfolds (grammar_in book index) list stack₀ output₀ (record { ending = f; used = used; written = written; deepest = deepest }) stack output
+          go (Turns.finished e f) = closes (Ok tt) (from _ _ f e (finished_is fits right (counted stack₀) (counted output₀) u.progress))
+          go (Turns.left_over {p = p} {qs = qs} e f) = closes (Err Unfit) (from _ _ f e (left_over_is fits right (counted stack₀) (counted output₀) p qs u.progress))
+          go (Turns.too_short {A = A} {β = β} e f) = closes (Err Unfit) (from _ _ f e (too_short_is fits right (counted stack₀) (counted output₀) A β u.progress))
+          go (Turns.misfit {A = A} {p = p} {β = β} {qs = qs} e f g) = closes (Err Unfit) (from _ _ f e (misfit_is fits right (counted stack₀) (counted output₀) p A qs β u.progress g))
+          go (Turns.no_stack {A = A} {p = p} {β = β} {qs = qs} e f g h) = closes (Err FullStack) (from _ _ f e (no_stack_is fits right (counted stack₀) (counted output₀) p A qs β u.progress g h))
+          go (Turns.no_output {t = t} {β = β} e h) = closes (Err FullOutput) (from _ _ refl e (no_output_is fits right (counted stack₀) (counted output₀) t (drop used list) β u.progress h))
 
 -- that the start symbol is put on the stack changes no room
 pub unfolds_from : {g : Grammar} {list : List ℕ} (stack : List ℕ) (b : ℕ) {stack₀ output : List ℕ}
@@ -250,10 +251,3 @@ unfolds_from {g} {list} stack b {stack₀} {output} e h =
       stack_length = h.stack_length ∙ long;
       output_length = h.output_length;
     }
-
--- said of an equal end
-pub unfolds_as : {g : Grammar} {list stack output : List ℕ} {q r : Unfolding} {stack' output' : List ℕ}
-    → q ≡ r
-    → Unfolds g list stack output r stack' output'
-    → Unfolds g list stack output q stack' output'
-unfolds_as e h = rw e h

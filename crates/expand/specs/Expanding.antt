@@ -1,6 +1,6 @@
 -- What an expansion answers and leaves in the lent buffers, for every book, list and buffer.
 -- Document 01, "Refusals and their numbers" and "Running and expanding"; document 02, W7.
-use Rattle.std.specs.Prelude.{◌≡◌, List, ℕ, ◌≤◌, ◌<◌, length}
+use Rattle.std.specs.Prelude.{◌≡◌, List, ℕ, ◌≤◌, ◌<◌, length, ⊤, Result, Ok, Err}
 use Rattle.grammar.specs.Grammar.{Grammar}
 use Rattle.answers.specs.declared.Answer.{Answer}
 use Rattle.answers.specs.Answers.{done, refusal, stop, no_set, at_depth}
@@ -9,15 +9,15 @@ use Rattle.answers.specs.Buffers.{over, counted, cleared}
 use Rattle.answers.specs.Limits.{longest_list}
 use Rattle.book.specs.Judging.{Refuses, Serves}
 use Rattle.machine.specs.Expansion.{Expansion, expansion}
-use Rattle.machine.specs.declared.Upshot.{Upshot}
-use Rattle.machine.specs.declared.Upshot.TheVariants.{Finished, Unfit, FullStack, FullOutput}
+use Rattle.machine.specs.declared.Obstacle.{Obstacle}
+use Rattle.machine.specs.declared.Obstacle.TheVariants.{Unfit, FullStack, FullOutput}
 
 -- the paper's number and values for each way to end, after so many productions used and steps
-unfoldable pub closing : Upshot → (used steps : ℕ) → Answer
-closing Finished used steps = done steps
-closing Unfit used steps = stop production used 0 steps no_set
-closing FullStack used steps = stop room used stack_room steps no_set
-closing FullOutput used steps = stop room used output_room steps no_set
+unfoldable pub closing : Result ⊤ Obstacle → (used steps : ℕ) → Answer
+closing (Ok tt) used steps = done steps
+closing (Err Unfit) used steps = stop production used 0 steps no_set
+closing (Err FullStack) used steps = stop room used stack_room steps no_set
+closing (Err FullOutput) used steps = stop room used output_room steps no_set
 
 unfoldable pub answered_by : Expansion → Answer
 answered_by e = closing e.ending e.progress.used e.progress.moves

@@ -3,20 +3,21 @@
 
 ghost use Rattle.std.specs.Prelude.{◌≡◌, ◌+◌, ◌^◌, ◌≤◌, ◌<◌, length};
 ghost use Rattle.answers.specs.Answers.{at_depth};
-ghost use Rattle.book.specs.Columns.{outlined, Lefts, Lengths};
+ghost use Rattle.book.specs.Columns.{grammar_in, Lefts, Lengths};
 ghost use Rattle.expand.specs.Expanding.{closing, ExpandOutcome};
 ghost use Rattle.expand.specs.Turns.{Unfolds, ExpandedOn};
 
 use crate::turns::turn_at;
+use answers::buffers::cell_or;
 use answers::limits::LONGEST_LIST;
-use answers::refusals::{DONE, LIMIT, OUTPUT_ROOM, PRODUCTION, ROOM, STACK_ROOM};
+use answers::refusals::{Lent, Refusal};
 use answers::{Answer, at_depth, done, refusal, stop};
-use book::columns::{Outline, gather_lefts, gather_lengths, gathered, outline_of};
+use book::Index;
+use book::columns::{gather_lefts, gather_lengths};
 use book::judging::judge;
-use machine::Upshot;
-use reader::fields::place_at;
+use machine::Obstacle;
 use sets::none;
-use stack::{clear, counts, greater, put_start, replace};
+use stack::{clear, counts, put_start, replace};
 
 mod turns;
 
@@ -25,47 +26,34 @@ mod turns;
 pub(crate) enum Turn {
     Write(u8),
     Apply(u8),
-    Close(Upshot),
+    Close(Result<(), Obstacle>),
 }
 
 // An expansion that has ended, with the productions used, the tokens written, and the most stack cells in use at any
 // moment.
 #[derive(Clone, Copy)]
 pub(crate) struct Unfolding {
-    pub upshot: Upshot,
+    pub ending: Result<(), Obstacle>,
     pub used: usize,
     pub written: usize,
     pub deepest: usize,
 }
 
-// An expansion that ends so.
-fn closed(upshot: Upshot, used: usize, written: usize, deepest: usize) -> Unfolding
-    ensures { result ≡ record { upshot = upshot; used = used; written = written; deepest = deepest } }
-{
-    Unfolding {
-        upshot,
-        used,
-        written,
-        deepest,
-    }
-}
-
 // From the start symbol on, tokens on top are written and the list's productions used.
 fn unfold_all(
     book: &[u8],
-    places: &[u16],
+    index: &Index,
     lefts: &[u8],
     lengths: &[u8],
-    outline: Outline,
     list: &[u8],
     stack: &mut [u8],
     output: &mut [u8],
 ) -> Unfolding
     requires { (1 ≤ length stack.old)
-        × Lefts book.now places.now outline lefts.now
-        × Lengths book.now places.now outline lengths.now }
+        × Lefts book.now index.now lefts.now
+        × Lengths book.now index.now lengths.now }
     ensures { Unfolds
-        (outlined book.now places.now outline)
+        (grammar_in book.now index.now)
         list.now
         stack.old
         output.old
@@ -73,7 +61,7 @@ fn unfold_all(
         stack.new
         output.new }
 {
-    put_start(stack, outline.start);
+    put_start(stack, index.outline.start);
     let cells = counts(output.len());
     let mut height: usize = 1;
     let mut used: usize = 0;
@@ -81,7 +69,7 @@ fn unfold_all(
     let mut deepest: usize = 1;
     loop {
         let turn = turn_at(
-            lefts, lengths, outline, list, used, stack, height, written, cells,
+            lefts, lengths, index, list, used, stack, height, written, cells,
         );
         match turn {
             Turn::Write(t) => {
@@ -91,15 +79,21 @@ fn unfold_all(
                 written += 1;
             }
             Turn::Apply(p) => {
-                let count = gathered(lengths, p);
+                let count = cell_or(lengths, p as usize, 0);
                 let below = height - 1;
-                replace(book, place_at(places, p as usize), count, stack, below);
+                let at = cell_or(&index.places, p as usize, 0);
+                replace(book, at, count, stack, below);
                 height = below + count as usize;
-                deepest = greater(deepest, height);
+                deepest = deepest.max(height);
                 used += 1;
             }
-            Turn::Close(upshot) => {
-                return closed(upshot, used, written, deepest);
+            Turn::Close(ending) => {
+                return Unfolding {
+                    ending,
+                    used,
+                    written,
+                    deepest,
+                };
             }
         }
     }
@@ -108,40 +102,35 @@ fn unfold_all(
 // The paper's values of an expansion that has ended.
 fn values_of(u: Unfolding) -> Answer
     requires { u.used + u.written < 2 ^ 64 }
-    ensures { result ≡ closing u.upshot u.used (u.used + u.written) }
+    ensures { result ≡ closing u.ending u.used (u.used + u.written) }
 {
-    let upshot = u.upshot;
+    let ending = u.ending;
     let used = u.used as u64;
     let steps = used + u.written as u64;
-    match upshot {
-        Upshot::Finished => done(steps),
-        Upshot::Unfit => stop(PRODUCTION, used, 0, steps, none()),
-        Upshot::FullStack => stop(ROOM, used, STACK_ROOM, steps, none()),
-        Upshot::FullOutput => stop(ROOM, used, OUTPUT_ROOM, steps, none()),
+    match ending {
+        Ok(()) => done(steps),
+        Err(obstacle) => match obstacle {
+            Obstacle::Unfit => stop(Refusal::Production, used, 0, steps, none()),
+            Obstacle::FullStack => stop(Refusal::Room, used, Lent::Stack.detail(), steps, none()),
+            Obstacle::FullOutput => stop(Refusal::Room, used, Lent::Output.detail(), steps, none()),
+        },
     }
 }
 
 // The answer to an expansion that has ended: its values, and the most stack cells held.
 fn answer_to(u: Unfolding) -> Answer
     requires { u.used + u.written < 2 ^ 64 }
-    ensures { result ≡ at_depth u.deepest (closing u.upshot u.used (u.used + u.written)) }
+    ensures { result ≡ at_depth u.deepest (closing u.ending u.used (u.used + u.written)) }
 {
     let values = values_of(u);
     at_depth(values, u.deepest as u64)
 }
 
 // The steps of an expansion and their answer; after them every stack cell is 0.
-fn expand_on(
-    book: &[u8],
-    places: &[u16],
-    outline: Outline,
-    list: &[u8],
-    stack: &mut [u8],
-    output: &mut [u8],
-) -> Answer
+fn expand_on(book: &[u8], index: &Index, list: &[u8], stack: &mut [u8], output: &mut [u8]) -> Answer
     requires { 1 ≤ length stack.old }
     ensures { ExpandedOn
-        (outlined book.now places.now outline)
+        (grammar_in book.now index.now)
         list.now
         stack.old
         output.old
@@ -149,9 +138,9 @@ fn expand_on(
         stack.new
         output.new }
 {
-    let lefts = gather_lefts(book, places, outline);
-    let lengths = gather_lengths(book, places, outline);
-    let u = unfold_all(book, places, &lefts, &lengths, outline, list, stack, output);
+    let lefts = gather_lefts(book, index);
+    let lengths = gather_lengths(book, index);
+    let u = unfold_all(book, index, &lefts, &lengths, list, stack, output);
     clear(stack);
     answer_to(u)
 }
@@ -167,18 +156,15 @@ pub fn expand(book: &[u8], list: &[u8], stack: &mut [u8], output: &mut [u8]) -> 
         stack.new
         output.new }
 {
-    let reading = judge(book);
-    let judged = reading.answer;
-    if judged.number != DONE {
-        return judged;
-    }
+    let index = match judge(book) {
+        Ok(index) => index,
+        Err(refused) => return refused,
+    };
     if LONGEST_LIST < list.len() {
-        return refusal(LIMIT, LONGEST_LIST as u64, 0);
+        return refusal(Refusal::Limit, LONGEST_LIST as u64, 0);
     }
     if stack.len() == 0 {
-        return refusal(ROOM, 0, STACK_ROOM);
+        return refusal(Refusal::Room, 0, Lent::Stack.detail());
     }
-    let places = reading.places;
-    let outline = outline_of(reading);
-    expand_on(book, &places, outline, list, stack, output)
+    expand_on(book, &index, list, stack, output)
 }

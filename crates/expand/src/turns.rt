@@ -3,19 +3,21 @@ ghost use Rattle.std.specs.Prelude.{◌≡◌, ◌≤◌, length};
 ghost use Rattle.expand.specs.Turns.{emptied, TurnAt};
 
 use crate::Turn;
-use book::columns::{Outline, gathered, is_of};
+use answers::buffers::cell_or;
+use book::Index;
+use book::columns::is_of;
 use grammar::Symbol;
-use machine::Upshot;
+use machine::Obstacle;
 use reader::fields::symbol_of;
-use stack::{Ahead, ahead_of, counts};
+use stack::{ahead_of, counts};
 
 // How an expansion ends where the stack is empty.
-fn at_bottom(ahead: Ahead) -> Upshot
+fn at_bottom(ahead: Option<u8>) -> Result<(), Obstacle>
     ensures { result ≡ emptied ahead }
 {
     match ahead {
-        Ahead::Next(_) => Upshot::Unfit,
-        Ahead::End => Upshot::Finished,
+        Some(_) => Err(Obstacle::Unfit),
+        None => Ok(()),
     }
 }
 
@@ -24,7 +26,7 @@ fn at_bottom(ahead: Ahead) -> Upshot
 pub(crate) fn turn_at(
     lefts: &[u8],
     lengths: &[u8],
-    outline: Outline,
+    index: &Index,
     list: &[u8],
     used: usize,
     stack: &[u8],
@@ -36,7 +38,7 @@ pub(crate) fn turn_at(
     ensures { TurnAt
         lefts.now
         lengths.now
-        outline
+        index.now
         list.now
         used
         stack.now
@@ -55,22 +57,24 @@ pub(crate) fn turn_at(
             if written < cells {
                 Turn::Write(t)
             } else {
-                Turn::Close(Upshot::FullOutput)
+                Turn::Close(Err(Obstacle::FullOutput))
             }
         }
         Symbol::Nonterminal(n) => {
             let ahead = ahead_of(list, used);
             match ahead {
-                Ahead::Next(p) => {
-                    if !is_of(lefts, outline, n, p) {
-                        Turn::Close(Upshot::Unfit)
-                    } else if counts(stack.len()) < below + gathered(lengths, p) as usize {
-                        Turn::Close(Upshot::FullStack)
+                Some(p) => {
+                    if !is_of(lefts, index.outline, n, p) {
+                        Turn::Close(Err(Obstacle::Unfit))
+                    } else if counts(stack.len())
+                        < below + cell_or(lengths, p as usize, 0) as usize
+                    {
+                        Turn::Close(Err(Obstacle::FullStack))
                     } else {
                         Turn::Apply(p)
                     }
                 }
-                Ahead::End => Turn::Close(Upshot::Unfit),
+                None => Turn::Close(Err(Obstacle::Unfit)),
             }
         }
     }

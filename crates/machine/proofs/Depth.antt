@@ -1,5 +1,6 @@
 -- The greatest height that a run or an expansion reaches is the stack that it needs: with fewer cells it stops for want of stack, before it gets
 -- so high; with so many it goes the same way, and with more too, if it did not stop for want of stack.
+use Rattle.std.specs.Prelude.{⊤, Result, Err}
 use mathlib.Core.Path.{◌≡◌, refl, ap, ◌∙◌}
 use mathlib.Core.Logic.{◌≢◌}
 use mathlib.Core.Bool.{Bool}
@@ -16,8 +17,8 @@ use Rattle.machine.specs.Machine.{State, Offered, stopped, begun, popped, replac
 use Rattle.machine.specs.declared.Reason.TheVariants.{FullStack}
 use Rattle.machine.specs.Expansion.{Course, Expansion, ended, wrote, applied, expand_from, opened, expansion}
 use Rattle.machine.specs.Stopping.{HadStack}
-use Rattle.machine.specs.declared.Upshot.{Upshot}
-use Rattle.machine.specs.declared.Upshot.TheVariants as upshots
+use Rattle.machine.specs.declared.Obstacle.{Obstacle}
+use Rattle.machine.specs.declared.Obstacle.TheVariants as obstacles
 use Rattle.machine.proofs.Walk.{final, Walk, here, match, expand, Walked, Halt, accepts, left_over, unmatched, vacant, list_full, stack_full}
 use Rattle.machine.proofs.Agreement.{walk_runs, walk_lists, ran}
 use Rattle.machine.proofs.Count.{walk_grown, halt_final}
@@ -102,7 +103,7 @@ module _ (right : ℕ → Form) (cell : ℕ → Column → Option ℕ) (cells st
 
 module _ {fits : ℕ → ℕ → Bool} {right : ℕ → Form} {output : ℕ} where
   -- neither the greatest height nor the moves made ever fall
-  expands_on : {room : ℕ} {ps : List ℕ} {α : Form} {s s' : Course} {e : Upshot}
+  expands_on : {room : ℕ} {ps : List ℕ} {α : Form} {s s' : Course} {e : Result ⊤ Obstacle}
       → Expands fits right room output ps α s e s'
       → (s.height ≤ s'.height) × (s.moves ≤ s'.moves)
   unfolding wrote applied
@@ -116,8 +117,8 @@ module _ {fits : ℕ → ℕ → Bool} {right : ℕ → Form} {output : ℕ} whe
   expands_on (apply f h r) = let (higher, later) = expands_on r in (omega arith, omega arith)
 
   -- an expansion needs as much stack as it gets high; the one that stops for want of stack stops so with less too
-  expands_within : {much room : ℕ} {ps : List ℕ} {α : Form} {s s' : Course} {e : Upshot}
-      → (e ≡ upshots.FullStack → room ≤ much)
+  expands_within : {much room : ℕ} {ps : List ℕ} {α : Form} {s s' : Course} {e : Result ⊤ Obstacle}
+      → (e ≡ Err obstacles.FullStack → room ≤ much)
       → s'.height ≤ room
       → Expands fits right much output ps α s e s'
       → Expands fits right room output ps α s e s'
@@ -134,11 +135,11 @@ module _ {fits : ℕ → ℕ → Bool} {right : ℕ → Form} {output : ℕ} whe
       apply f fits_in (expands_within n k r)
 
   -- one that gets higher than the room stops for want of stack before it does
-  expands_cut : {much room : ℕ} {ps : List ℕ} {α : Form} {s s' : Course} {e : Upshot}
+  expands_cut : {much room : ℕ} {ps : List ℕ} {α : Form} {s s' : Course} {e : Result ⊤ Obstacle}
       → Expands fits right much output ps α s e s'
       → s.height ≤ room
       → room < s'.height
-      → (c : Course) × Expands fits right room output ps α s upshots.FullStack c × (c.moves < s'.moves)
+      → (c : Course) × Expands fits right room output ps α s (Err obstacles.FullStack) c × (c.moves < s'.moves)
   unfolding wrote applied
   expands_cut finished h k = absurd (omega arith)
   expands_cut left_over h k = absurd (omega arith)
@@ -150,13 +151,13 @@ module _ {fits : ℕ → ℕ → Bool} {right : ℕ → Form} {output : ℕ} whe
   expands_cut {room = room} {s' = s'} (apply {p = p} {A = A} {ps = ps} {α = α} {s = s} f l r) h k = go (dec_le (length (right p ++ α)) room) (expands_cut r)
     where
       go : Dec (length (right p ++ α) ≤ room)
-          → ((applied (right p ++ α) s).height ≤ room → room < s'.height → (c : Course) × Expands fits right room output ps (right p ++ α) (applied (right p ++ α) s) upshots.FullStack c × (c.moves < s'.moves))
-          → (c : Course) × Expands fits right room output (p ∷ ps) (Nonterminal A ∷ α) s upshots.FullStack c × (c.moves < s'.moves)
+          → ((applied (right p ++ α) s).height ≤ room → room < s'.height → (c : Course) × Expands fits right room output ps (right p ++ α) (applied (right p ++ α) s) (Err obstacles.FullStack) c × (c.moves < s'.moves))
+          → (c : Course) × Expands fits right room output (p ∷ ps) (Nonterminal A ∷ α) s (Err obstacles.FullStack) c × (c.moves < s'.moves)
       go (yes n) again = let (c, cut, sooner) = again (omega arith) k in (c, apply f n cut, sooner)
       go (no n) again = (s, no_stack {α = α} f (omega arith), omega (arith, (expands_on r).1))
 
   -- what the relation comes to is computed
-  expands_is : {room : ℕ} {ps : List ℕ} {α : Form} {s s' : Course} {e : Upshot}
+  expands_is : {room : ℕ} {ps : List ℕ} {α : Form} {s s' : Course} {e : Result ⊤ Obstacle}
       → Expands fits right room output ps α s e s'
       → expand_from fits right room output ps α s ≡ ended e s'
   expands_is {room = room} {s = s} finished = moves.finished_is fits right room output s
@@ -179,7 +180,7 @@ module _ (g : Grammar) (output : ℕ) (ps : List ℕ) where
   expand_tall room = omega (arith, (expands_on (whole g room output ps)).0)
 
   -- the same way with any other stack
-  pub expand_depth_same : (much room : ℕ) → (expands much).ending ≢ upshots.FullStack → (expands much).progress.height ≤ room → expands room ≡ expands much
+  pub expand_depth_same : (much room : ℕ) → (expands much).ending ≢ Err obstacles.FullStack → (expands much).progress.height ≤ room → expands room ≡ expands much
   unfolding ended
   expand_depth_same much room had low = expands_is (expands_within (λ f. absurd (had f)) low (whole g much output ps))
 
@@ -192,7 +193,7 @@ module _ (g : Grammar) (output : ℕ) (ps : List ℕ) where
   pub expand_depth_short : (much room : ℕ)
       → 1 ≤ room
       → room < (expands much).progress.height
-      → (c : Course) × (expands room ≡ ended upshots.FullStack c) × (c.moves < (expands much).progress.moves)
+      → (c : Course) × (expands room ≡ ended (Err obstacles.FullStack) c) × (c.moves < (expands much).progress.moves)
   unfolding opened
   expand_depth_short much room some_room low =
       let (c, cut, sooner) = expands_cut (whole g much output ps) (omega arith) low in

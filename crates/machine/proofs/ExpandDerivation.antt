@@ -1,4 +1,5 @@
 -- Expansion by a grammar's productions: a complete one is a leftmost derivation, and with room it follows each to its end.
+use Rattle.std.specs.Prelude.{⊤, Result, Ok}
 use mathlib.Core.Path.{◌≡◌, refl, sym, ◌∙◌, ap}
 use mathlib.Core.Bool.{true, false}
 use mathlib.Core.List.{List, [], ◌∷◌, ◌++◌, append_assoc, append-nil}
@@ -9,8 +10,7 @@ use borrow.Author.Tests.{eqb-true, eq-eqb}
 use lib.ListN.{length, length-append, get_elem?}
 use Rattle.grammar.specs.Grammar.{Form, Production, Grammar, Rule, Leftmost, done, shift, expand}
 use Rattle.machine.specs.Expansion.{Course, wrote, applied}
-use Rattle.machine.specs.declared.Upshot.{Upshot}
-use Rattle.machine.specs.declared.Upshot.TheVariants.{Finished}
+use Rattle.machine.specs.declared.Obstacle.{Obstacle}
 use Rattle.machine.specs.Room.{right_of, is_of, peak}
 use Rattle.machine.proofs.ExpandTrace.{Expands, finished, left_over, too_short, misfit, no_output, no_stack, write, apply}
 use Rattle.machine.proofs.ExpandPeak.{Moved, moved}
@@ -52,7 +52,7 @@ module _ {g : Grammar} where
 
   module _ {room output : ℕ} where
     -- a complete expansion is a leftmost derivation of what it wrote
-    pub complete_derives : {ps : List ℕ} {α : Form} {s s' : Course} → Expands (is_of g) (right_of g) room output ps α s Finished s' → DerivedBy g ps α s s'
+    pub complete_derives : {ps : List ℕ} {α : Form} {s s' : Course} → Expands (is_of g) (right_of g) room output ps α s (Ok tt) s' → DerivedBy g ps α s s'
     unfolding wrote applied
     complete_derives {s = s} finished = record { string = []; derivation = done; written = sym (append-nil s.written); used = omega arith }
     complete_derives {s = s} (write {t = t} f r) =
@@ -63,7 +63,7 @@ module _ {g : Grammar} where
         record { string = d.string; derivation = expand (fits_rule p A f) d.derivation; written = d.written; used = omega arith }
 
     -- its stack was as high as the derivation's greatest height
-    pub complete_height : {ps w : List ℕ} {α : Form} {s s' : Course} → Expands (is_of g) (right_of g) room output ps α s Finished s' → (d : Leftmost g α ps w) → length α ≤ s.height → s'.height ≡ max s.height (peak d)
+    pub complete_height : {ps w : List ℕ} {α : Form} {s s' : Course} → Expands (is_of g) (right_of g) room output ps α s (Ok tt) s' → (d : Leftmost g α ps w) → length α ≤ s.height → s'.height ≡ max s.height (peak d)
     unfolding wrote applied peak
     complete_height finished done h = omega arith
     complete_height (write f r) (shift d) h = omega (arith, complete_height r d (omega arith))
@@ -72,7 +72,7 @@ module _ {g : Grammar} where
         omega (arith, complete_height r m.derivation (omega arith), peak_form m.derivation, m.as_high)
 
     -- with room it follows a derivation to its end
-    pub room_complete : {ps w : List ℕ} {α : Form} {s s' : Course} {e : Upshot} → Expands (is_of g) (right_of g) room output ps α s e s' → (d : Leftmost g α ps w) → peak d ≤ room → length s.written + length w ≤ output → e ≡ Finished
+    pub room_complete : {ps w : List ℕ} {α : Form} {s s' : Course} {e : Result ⊤ Obstacle} → Expands (is_of g) (right_of g) room output ps α s e s' → (d : Leftmost g α ps w) → peak d ≤ room → length s.written + length w ≤ output → e ≡ Ok tt
     unfolding wrote applied peak
     room_complete finished done h k = refl
     room_complete left_over d h k = elim d [ ]

@@ -1,4 +1,5 @@
 -- The moves and endings of the expansion as equations, one a case.
+use Rattle.std.specs.Prelude.{Ok, Err}
 use mathlib.Core.Path.{◌≡◌, refl}
 use mathlib.Core.Bool.{Bool, true, false}
 use mathlib.Core.List.{List, [], ◌∷◌, ◌++◌}
@@ -8,26 +9,26 @@ use lib.ListN.{length}
 use Rattle.grammar.specs.declared.Symbol.TheVariants.{Token, Nonterminal}
 use Rattle.grammar.specs.Grammar.{Form}
 use Rattle.machine.specs.Expansion.{Course, ended, wrote, applied, writing, applying, expand_from}
-use Rattle.machine.specs.declared.Upshot.TheVariants.{Finished, Unfit, FullStack, FullOutput}
+use Rattle.machine.specs.declared.Obstacle.TheVariants.{Unfit, FullStack, FullOutput}
 
 module _ (fits : ℕ → ℕ → Bool) (right : ℕ → Form) (room output : ℕ) where
-  pub finished_is : (s : Course) → expand_from fits right room output [] [] s ≡ ended Finished s
+  pub finished_is : (s : Course) → expand_from fits right room output [] [] s ≡ ended (Ok tt) s
   unfolding expand_from writing
   finished_is s = refl
 
-  pub left_over_is : (p : ℕ) (ps : List ℕ) (s : Course) → expand_from fits right room output (p ∷ ps) [] s ≡ ended Unfit s
+  pub left_over_is : (p : ℕ) (ps : List ℕ) (s : Course) → expand_from fits right room output (p ∷ ps) [] s ≡ ended (Err Unfit) s
   unfolding expand_from writing
   left_over_is p ps s = refl
 
-  pub too_short_is : (A : ℕ) (α : Form) (s : Course) → expand_from fits right room output [] (Nonterminal A ∷ α) s ≡ ended Unfit s
+  pub too_short_is : (A : ℕ) (α : Form) (s : Course) → expand_from fits right room output [] (Nonterminal A ∷ α) s ≡ ended (Err Unfit) s
   unfolding expand_from writing
   too_short_is A α s = refl
 
-  pub misfit_is : (p A : ℕ) (ps : List ℕ) (α : Form) (s : Course) → fits A p ≡ false → expand_from fits right room output (p ∷ ps) (Nonterminal A ∷ α) s ≡ ended Unfit s
+  pub misfit_is : (p A : ℕ) (ps : List ℕ) (α : Form) (s : Course) → fits A p ≡ false → expand_from fits right room output (p ∷ ps) (Nonterminal A ∷ α) s ≡ ended (Err Unfit) s
   unfolding expand_from writing applying
   misfit_is p A ps α s f = rw (f, applying)
 
-  pub no_stack_is : (p A : ℕ) (ps : List ℕ) (α : Form) (s : Course) → fits A p ≡ true → room < length (right p ++ α) → expand_from fits right room output (p ∷ ps) (Nonterminal A ∷ α) s ≡ ended FullStack s
+  pub no_stack_is : (p A : ℕ) (ps : List ℕ) (α : Form) (s : Course) → fits A p ≡ true → room < length (right p ++ α) → expand_from fits right room output (p ∷ ps) (Nonterminal A ∷ α) s ≡ ended (Err FullStack) s
   unfolding expand_from writing applying
   no_stack_is p A ps α s f h = rw (f, lt-leb (length (right p ++ α)) room h, applying)
 
@@ -35,7 +36,7 @@ module _ (fits : ℕ → ℕ → Bool) (right : ℕ → Form) (room output : ℕ
   unfolding expand_from writing applying
   apply_is p A ps α s f h = rw (f, le-leb (length (right p ++ α)) room h, applying)
 
-  pub no_output_is : (t : ℕ) (ps : List ℕ) (α : Form) (s : Course) → output ≤ length s.written → expand_from fits right room output ps (Token t ∷ α) s ≡ ended FullOutput s
+  pub no_output_is : (t : ℕ) (ps : List ℕ) (α : Form) (s : Course) → output ≤ length s.written → expand_from fits right room output ps (Token t ∷ α) s ≡ ended (Err FullOutput) s
   unfolding expand_from writing
   no_output_is t [] α s h = rw (le-ltb (length s.written) output h, writing)
   no_output_is t (p ∷ ps) α s h = rw (le-ltb (length s.written) output h, writing)

@@ -1,4 +1,5 @@
 -- Where an expansion that does not fit ends: what it has used is the longest beginning of the list that some complete list shares.
+use Rattle.std.specs.Prelude.{Err}
 use mathlib.Core.Path.{◌≡◌, refl, ◌∙◌, ap, ap₂}
 use mathlib.Core.Bool.{false}
 use mathlib.Core.List.{List, [], ◌∷◌, ◌++◌, append_assoc}
@@ -13,7 +14,7 @@ use Rattle.grammar.proofs.Leftmost.{derives_leftmost}
 use Rattle.grammar.proofs.Useful.{names_from, Ends, names_end}
 use Rattle.grammar.proofs.Place.{behind_reachable}
 use Rattle.machine.specs.Expansion.{Course, wrote, applied}
-use Rattle.machine.specs.declared.Upshot.TheVariants.{Unfit}
+use Rattle.machine.specs.declared.Obstacle.TheVariants.{Unfit}
 use Rattle.machine.specs.Room.{right_of, is_of, BeginsList, LongestList}
 use Rattle.machine.proofs.ExpandTrace.{Expands, left_over, too_short, misfit, write, apply}
 use Rattle.machine.proofs.ExpandPasses as beginning
@@ -55,7 +56,7 @@ module _ {g : Grammar} where
         used = omega arith;
       }
 
-  pub unfit_stuck : {room output : ℕ} {ps : List ℕ} {α : Form} {s s' : Course} → Expands (is_of g) (right_of g) room output ps α s Unfit s' → Stuck g ps α s s'
+  pub unfit_stuck : {room output : ℕ} {ps : List ℕ} {α : Form} {s s' : Course} → Expands (is_of g) (right_of g) room output ps α s (Err Unfit) s' → Stuck g ps α s s'
   unfolding wrote applied
   unfit_stuck left_over = at_once no_stack
   unfit_stuck too_short = at_once no_rest

@@ -1,4 +1,5 @@
 -- Where an expansion that lacks room stops: what it used and wrote begins a leftmost derivation, whose stack then stands.
+use Rattle.std.specs.Prelude.{⊤, Result, Err}
 use mathlib.Core.Path.{◌≡◌, refl, sym, ap, ◌∙◌}
 use mathlib.Core.List.{List, [], ◌∷◌, ◌++◌, append_assoc, append-nil}
 use Prim.Native.Nat.{ℕ, suc, ◌+◌, ◌≤◌}
@@ -9,8 +10,8 @@ use Rattle.grammar.specs.Grammar.{Form, spelled, Grammar, LeftmostSteps, leftmos
 use Rattle.grammar.specs.Grammar as chain
 use Rattle.grammar.proofs.Leftmost.{spelled_append}
 use Rattle.machine.specs.Expansion.{Course, wrote, applied, opened, expansion}
-use Rattle.machine.specs.declared.Upshot.{Upshot}
-use Rattle.machine.specs.declared.Upshot.TheVariants.{FullStack, FullOutput}
+use Rattle.machine.specs.declared.Obstacle.{Obstacle}
+use Rattle.machine.specs.declared.Obstacle.TheVariants.{FullStack, FullOutput}
 use Rattle.machine.specs.Room.{right_of, is_of}
 use Rattle.machine.specs.Stopping.{Midway, Lacks, lacks_stack, lacks_output}
 use Rattle.machine.proofs.ExpandTrace.{Expands, finished, left_over, too_short, misfit, no_output, no_stack, write, apply, traced}
@@ -28,7 +29,7 @@ passes_steps_behind x (beginning.write {t = t} r) =
 passes_steps_behind x (use_rule {α = α} k r) = chain.next (leftmost x α k) (passes_steps_behind x r)
 
 -- how an expansion comes to where it lacks room, from any stack and course
-record Stops (g : Grammar) (cells output : ℕ) (ps : List ℕ) (α : Form) (s s' : Course) (e : Upshot) : Type 0 where
+record Stops (g : Grammar) (cells output : ℕ) (ps : List ℕ) (α : Form) (s s' : Course) (e : Result ⊤ Obstacle) : Type 0 where
   pub before : List ℕ
   pub rest : List ℕ
   pub tokens : List ℕ
@@ -40,12 +41,12 @@ record Stops (g : Grammar) (cells output : ℕ) (ps : List ℕ) (α : Form) (s s
   pub written : s'.written ≡ s.written ++ tokens
 
 -- the endings for want of room
-pub data WantsRoom : Upshot → Type 0 where
-  wants_stack : WantsRoom FullStack
-  wants_output : WantsRoom FullOutput
+pub data WantsRoom : Result ⊤ Obstacle → Type 0 where
+  wants_stack : WantsRoom (Err FullStack)
+  wants_output : WantsRoom (Err FullOutput)
 
 module _ {g : Grammar} {cells output : ℕ} where
-  at_once : {ps : List ℕ} {α : Form} {s : Course} {e : Upshot}
+  at_once : {ps : List ℕ} {α : Form} {s : Course} {e : Result ⊤ Obstacle}
       → Lacks g cells output s e ps α
       → Stops g cells output ps α s s e
   at_once {ps} {α} {s} l =
@@ -61,7 +62,7 @@ module _ {g : Grammar} {cells output : ℕ} where
         written = sym (append-nil s.written);
       }
 
-  stops : {ps : List ℕ} {α : Form} {s s' : Course} {e : Upshot}
+  stops : {ps : List ℕ} {α : Form} {s s' : Course} {e : Result ⊤ Obstacle}
       → Expands (is_of g) (right_of g) cells output ps α s e s'
       → WantsRoom e
       → length s.written ≤ output
@@ -102,7 +103,7 @@ module _ {g : Grammar} {cells output : ℕ} where
       }
 
   -- from the start symbol it stands midway in its list
-  midway : {ps : List ℕ} {s : Course} {e : Upshot} (k : Stops g cells output ps (Nonterminal g.start ∷ []) opened s e)
+  midway : {ps : List ℕ} {s : Course} {e : Result ⊤ Obstacle} (k : Stops g cells output ps (Nonterminal g.start ∷ []) opened s e)
       → Midway g ps s k.rest k.stack
   unfolding opened
   midway k =

@@ -1,4 +1,5 @@
 -- What an expansion counts, from any stack and progress, and the room in which none is too short.
+use Rattle.std.specs.Prelude.{⊤, Result}
 use mathlib.Core.Path.{◌≡◌, sym, ◌∙◌}
 use mathlib.Core.Bool.{Bool}
 use mathlib.Core.List.{List, [], ◌∷◌, ◌++◌, append_assoc, append-nil}
@@ -7,7 +8,7 @@ use native.Mathlib.Omega.{arith}
 use lib.ListN.{length, length-append}
 use Rattle.grammar.specs.Grammar.{Form}
 use Rattle.machine.specs.Expansion.{Course, wrote, applied, opened, Spent, WithRoom, completes, misfits}
-use Rattle.machine.specs.declared.Upshot.{Upshot}
+use Rattle.machine.specs.declared.Obstacle.{Obstacle}
 use Rattle.machine.proofs.ExpandTrace.{Expands, finished, left_over, too_short, misfit, no_output, no_stack, write, apply}
 
 -- how many symbols the productions have on their right sides together
@@ -35,7 +36,7 @@ nothing_more v = ([], sym (append-nil v))
 
 module _ {fits : ℕ → ℕ → Bool} {right : ℕ → Form} {room output : ℕ} where
   -- the counts stay right to the end
-  pub counted_end : {n : ℕ} {ps : List ℕ} {α : Form} {s s' : Course} {e : Upshot} → Expands fits right room output ps α s e s' → s.used + length ps ≤ n → Spent room output n s → Spent room output n s'
+  pub counted_end : {n : ℕ} {ps : List ℕ} {α : Form} {s s' : Course} {e : Result ⊤ Obstacle} → Expands fits right room output ps α s e s' → s.used + length ps ≤ n → Spent room output n s → Spent room output n s'
   unfolding wrote applied
   counted_end finished h c = c
   counted_end left_over h c = c
@@ -46,12 +47,12 @@ module _ {fits : ℕ → ℕ → Bool} {right : ℕ → Form} {room output : ℕ
   counted_end (write {t = t} {s = s} f r) h c = counted_end r h (counted_wrote t s f c)
   counted_end (apply {p = p} {α = α} {s = s} f k r) h c = counted_end r (omega arith) (counted_applied (right p ++ α) s k (omega arith) c)
 
-  pub counted_whole : {ps : List ℕ} {α : Form} {s : Course} {e : Upshot} → Expands fits right room output ps α opened e s → Spent room output (length ps) s
+  pub counted_whole : {ps : List ℕ} {α : Form} {s : Course} {e : Result ⊤ Obstacle} → Expands fits right room output ps α opened e s → Spent room output (length ps) s
   unfolding opened
   counted_whole r = counted_end r (omega arith) counted_opened
 
   -- what is written stays, and more comes after it
-  pub written_grows : {ps : List ℕ} {α : Form} {s s' : Course} {e : Upshot} → Expands fits right room output ps α s e s' → (u : List ℕ) × (s'.written ≡ s.written ++ u)
+  pub written_grows : {ps : List ℕ} {α : Form} {s s' : Course} {e : Result ⊤ Obstacle} → Expands fits right room output ps α s e s' → (u : List ℕ) × (s'.written ≡ s.written ++ u)
   unfolding wrote applied
   written_grows {s = s} finished = nothing_more s.written
   written_grows {s = s} left_over = nothing_more s.written
@@ -63,7 +64,7 @@ module _ {fits : ℕ → ℕ → Bool} {right : ℕ → Form} {room output : ℕ
   written_grows (apply f k r) = written_grows r
 
   -- with a cell for each symbol on the stack or still to come, neither stack nor output is too short
-  pub room_enough : {ps : List ℕ} {α : Form} {s s' : Course} {e : Upshot} → Expands fits right room output ps α s e s' → length α + symbols right ps ≤ room → length s.written + (length α + symbols right ps) ≤ output → WithRoom e
+  pub room_enough : {ps : List ℕ} {α : Form} {s s' : Course} {e : Result ⊤ Obstacle} → Expands fits right room output ps α s e s' → length α + symbols right ps ≤ room → length s.written + (length α + symbols right ps) ≤ output → WithRoom e
   unfolding wrote applied symbols
   room_enough finished h k = completes
   room_enough left_over h k = misfits

@@ -1,10 +1,10 @@
 -- The machine that expands a list of productions, on lists, with the room that it is lent. One move is one step.
 -- Document 01, "Running and expanding".
-use Rattle.std.specs.Prelude.{Bool, true, false, List, [], ◌∷◌, ◌++◌, ◌≡◌, ℕ, suc, ◌+◌, ◌≤◌, max, leb, ltb, length}
+use Rattle.std.specs.Prelude.{Bool, true, false, List, [], ◌∷◌, ◌++◌, ◌≡◌, ℕ, suc, ◌+◌, ◌≤◌, max, leb, ltb, length, ⊤, Result, Ok, Err}
 use Rattle.grammar.specs.declared.Symbol.TheVariants.{Token, Nonterminal}
 use Rattle.grammar.specs.Grammar.{Form, Grammar}
-use Rattle.machine.specs.declared.Upshot.{Upshot}
-use Rattle.machine.specs.declared.Upshot.TheVariants.{Finished, Unfit, FullStack, FullOutput}
+use Rattle.machine.specs.declared.Obstacle.{Obstacle}
+use Rattle.machine.specs.declared.Obstacle.TheVariants.{Unfit, FullStack, FullOutput}
 use Rattle.machine.specs.Room.{right_of, is_of}
 
 -- the tokens written and the productions used so far; the moves made; the greatest height of the stack so far
@@ -16,10 +16,10 @@ pub record Course : Type 0 where
 
 -- how it ends, and what it has come to
 pub record Expansion : Type 0 where
-  pub ending : Upshot
+  pub ending : Result ⊤ Obstacle
   pub progress : Course
 
-unfoldable pub ended : Upshot → Course → Expansion
+unfoldable pub ended : Result ⊤ Obstacle → Course → Expansion
 ended e s = record { ending = e; progress = s }
 
 unfoldable pub wrote : ℕ → Course → Course
@@ -35,7 +35,7 @@ module _ (fits : ℕ → ℕ → Bool) (right : ℕ → Form) (room output : ℕ
   unfoldable pub writing : (Course → Expansion) → (ℕ → Form → Course → Expansion) → Form → Course → Expansion
   writing empty apply [] s = empty s
   writing empty apply (Token t ∷ α) s =
-      elim (ltb (length s.written) output) [ true ↦ writing empty apply α (wrote t s) | false ↦ ended FullOutput s ]
+      elim (ltb (length s.written) output) [ true ↦ writing empty apply α (wrote t s) | false ↦ ended (Err FullOutput) s ]
   writing empty apply (Nonterminal A ∷ α) s = apply A α s
 
   -- a number that is no production of A does not fit; then the stack must not be too long
@@ -44,13 +44,13 @@ module _ (fits : ℕ → ℕ → Bool) (right : ℕ → Form) (room output : ℕ
       elim (fits A p) [
         | true ↦
             elim (leb (length (right p ++ α)) room)
-            [ true ↦ next (right p ++ α) (applied (right p ++ α) s) | false ↦ ended FullStack s ]
-        | false ↦ ended Unfit s
+            [ true ↦ next (right p ++ α) (applied (right p ++ α) s) | false ↦ ended (Err FullStack) s ]
+        | false ↦ ended (Err Unfit) s
       ]
 
   unfoldable pub expand_from : List ℕ → Form → Course → Expansion
-  expand_from [] α s = writing (ended Finished) (λ A β s. ended Unfit s) α s
-  expand_from (p ∷ ps) α s = writing (ended Unfit) (λ A β s. applying (expand_from ps) p A β s) α s
+  expand_from [] α s = writing (ended (Ok tt)) (λ A β s. ended (Err Unfit) s) α s
+  expand_from (p ∷ ps) α s = writing (ended (Err Unfit)) (λ A β s. applying (expand_from ps) p A β s) α s
 
 -- nothing is written or used, and the start symbol alone is on the stack
 unfoldable pub opened : Course
@@ -69,6 +69,6 @@ pub record Spent (cells output n : ℕ) (s : Course) : Type 0 where
   pub height : s.height ≤ max 1 cells
 
 -- the expansion ends for no want of room
-pub data WithRoom : Upshot → Type 0 where
-  completes : WithRoom Finished
-  misfits : WithRoom Unfit
+pub data WithRoom : Result ⊤ Obstacle → Type 0 where
+  completes : WithRoom (Ok tt)
+  misfits : WithRoom (Err Unfit)

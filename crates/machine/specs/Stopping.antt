@@ -1,7 +1,7 @@
 -- How a run ends: taken, a syntax stop, or a stop for want of room, where a derivation then stands, and what room a
 -- string needs.
 -- Document 01, "Running and expanding"; demand 3's sentence on room.
-use Rattle.std.specs.Prelude.{◌≡◌, ◌≢◌, List, [], ◌∷◌, ◌++◌, ℕ, ◌≤◌, ◌<◌, length, take}
+use Rattle.std.specs.Prelude.{◌≡◌, ◌≢◌, List, [], ◌∷◌, ◌++◌, ℕ, ◌≤◌, ◌<◌, length, take, ⊤, Result, Err}
 use Rattle.std.proofs.Math.Option.{Option}
 use Rattle.grammar.specs.declared.Symbol.TheVariants.{Token, Nonterminal}
 use Rattle.grammar.specs.Grammar.{Form, spelled, Grammar, Column, LeftmostSteps}
@@ -10,8 +10,8 @@ use Rattle.machine.specs.declared.Reason.{Reason}
 use Rattle.machine.specs.declared.Reason.TheVariants.{FullList, FullStack, WantsEnd, WantsToken, WantsRow}
 use Rattle.machine.specs.Room.{right_of}
 use Rattle.machine.specs.Expansion.{Course}
-use Rattle.machine.specs.declared.Upshot.{Upshot}
-use Rattle.machine.specs.declared.Upshot.TheVariants as upshots
+use Rattle.machine.specs.declared.Obstacle.{Obstacle}
+use Rattle.machine.specs.declared.Obstacle.TheVariants as obstacles
 
 -- the reasons of a syntax stop
 pub data Syntax : Reason → Type 0 where
@@ -70,10 +70,10 @@ pub record Midway (g : Grammar) (ps : List ℕ) (s : Course) (rest : List ℕ) (
 
 -- what an expansion lacks that stops for room: stack cells for the next production's right side, or an output cell for
 -- the token on top
-pub data Lacks (g : Grammar) (cells output : ℕ) (s : Course) : Upshot → List ℕ → Form → Type 0 where
+pub data Lacks (g : Grammar) (cells output : ℕ) (s : Course) : Result ⊤ Obstacle → List ℕ → Form → Type 0 where
   lacks_stack : {p A : ℕ} {rest : List ℕ} {α : Form}
       → cells < length (right_of g p ++ α)
-      → Lacks g cells output s upshots.FullStack (p ∷ rest) (Nonterminal A ∷ α)
+      → Lacks g cells output s (Err obstacles.FullStack) (p ∷ rest) (Nonterminal A ∷ α)
   lacks_output : {t : ℕ} {rest : List ℕ} {α : Form}
       → length s.written ≡ output
-      → Lacks g cells output s upshots.FullOutput rest (Token t ∷ α)
+      → Lacks g cells output s (Err obstacles.FullOutput) rest (Token t ∷ α)

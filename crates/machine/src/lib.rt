@@ -13,10 +13,9 @@ pub enum Reason {
     WantsRow(u8),
 }
 
-// How an expansion ends: it is finished, the list does not fit, or stack or output is too short.
+// Why an expansion stops: the list does not fit, or stack or output is too short.
 #[derive(Clone, Copy)]
-pub enum Upshot {
-    Finished,
+pub enum Obstacle {
     Unfit,
     FullStack,
     FullOutput,

@@ -1,4 +1,5 @@
 -- The invariant of an offer: the buffers hold a state from which the machine comes to the offer's outcome.
+use Rattle.std.specs.Prelude.{Result, Ok, Err}
 use mathlib.Core.Path.{◌≡◌, refl, sym, ◌∙◌, ap, subst, subst₂}
 use mathlib.Core.List.{List, [], ◌∷◌, ◌++◌}
 use mathlib.Core.Option.{Option}
@@ -18,14 +19,13 @@ use Rattle.machine.proofs.Promise.{offer_match, offer_use, offer_halt, Halt}
 use Rattle.stack.specs.Stack.{Spelled, stack_bytes, spelled_by}
 use Rattle.stack.proofs.Promise.{over_more, symbols_spelled, every_append, every_rest, length_symbols, spelled_stacked, stacked_pop, stacked_replace}
 use Rattle.offer.specs.Moves.{Chosen}
-use Rattle.offer.specs.Offering.{Holds, Offering, finished, finished_stack}
+use Rattle.offer.specs.Offering.{Holds, Offering, matched_at}
 use Rattle.offer.specs.Resuming.{progress_of, reported}
-use Rattle.offer.specs.declared.Ending.{Ending}
-use Rattle.offer.specs.declared.Move.TheVariants.{Use, Finish}
+use Rattle.offer.specs.declared.Move.TheVariants.{Use, Match, Accept}
 use Rattle.offer.specs.declared.Move.{Move}
 use Rattle.offer.specs.declared.Progress.{Progress}
-use Rattle.offer.specs.declared.Reply.TheVariants.{Taken, Stopped}
-use Rattle.offer.specs.declared.Reply.{Reply}
+use Rattle.offer.specs.declared.Halt.TheVariants.{Stopped}
+use Rattle.offer.specs.Reply.{Reply}
 
 -- the counts after the symbol on top gave way to so many
 abbrev pub grown_by : ℕ → Progress → Progress
@@ -36,6 +36,11 @@ grown_by count at =
       matched = at.matched;
       deepest = max at.deepest (at.height - 1 + count);
     }
+
+-- the offer ends with the stack as it is: the end mark is taken, or the run stops
+pub data Finishes (at : Progress) : Result Move Reason → Reply → Type 0 where
+  accepting : Finishes at (Ok Accept) (Ok at)
+  stopping : {reason : Reason} → Finishes at (Err reason) (Err (Stopped reason at))
 
 module _ {s : State} {at : Progress} {stack₀ list₀ stack list : List ℕ} (h : Holds s at stack₀ list₀ stack list) where
   -- the first cells spell the stack
@@ -110,18 +115,18 @@ module _ (right : ℕ → Form) (cell : ℕ → Column → Option ℕ) (c : Colu
 
   module _ {at : Progress} {stack list : List ℕ} (w : Walking at stack list) where
     -- the move is chosen by the state that the buffers hold
-    chosen_by : {m : Move} → Chosen right cell (counted stack₀) (counted list₀) c (spelled_by stack at.height) at.listed m → Chosen right cell (counted stack₀) (counted list₀) c w.state.stack (length w.state.listed) m
+    chosen_by : {m : Result Move Reason} → Chosen right cell (counted stack₀) (counted list₀) c (spelled_by stack at.height) at.listed m → Chosen right cell (counted stack₀) (counted list₀) c w.state.stack (length w.state.listed) m
     chosen_by {m} k = subst₂ (λ (α : Form) (n : ℕ). Chosen right cell (counted stack₀) (counted list₀) c α n m) (holds_spells w.holds) w.holds.listed k
 
     -- so many list cells are left
     counts_left : length w.state.listed + (counted list₀ - at.listed) ≡ counted list₀
     counts_left = omega (arith, w.holds.listed, w.holds.list_room)
 
-    pub walking_use : (book : List ℕ) (from count : ℕ) {p : ℕ} → right p ≡ form_in book from count → Chosen right cell (counted stack₀) (counted list₀) c (spelled_by stack at.height) at.listed (Use p)
+    pub walking_use : (book : List ℕ) (from count : ℕ) {p : ℕ} → right p ≡ form_in book from count → Chosen right cell (counted stack₀) (counted list₀) c (spelled_by stack at.height) at.listed (Ok (Use p))
         → Walking (grown_by count at) (sets (set stack (at.height - 1) 0) (at.height - 1) (stack_bytes (form_in book from count))) (set list at.listed p)
     walking_use book from count {p} side k = go (chosen_by k)
       where
-        go : Chosen right cell (counted stack₀) (counted list₀) c w.state.stack (length w.state.listed) (Use p) → Walking (grown_by count at) (sets (set stack (at.height - 1) 0) (at.height - 1) (stack_bytes (form_in book from count))) (set list at.listed p)
+        go : Chosen right cell (counted stack₀) (counted list₀) c w.state.stack (length w.state.listed) (Ok (Use p)) → Walking (grown_by count at) (sets (set stack (at.height - 1) 0) (at.height - 1) (stack_bytes (form_in book from count))) (set list at.listed p)
         go (Chosen.uses {β = β} e f l m) =
             let one : counted list₀ - at.listed ≡ suc (counted list₀ - (at.listed + 1)) = omega (arith, w.holds.listed) in
             record {
@@ -138,24 +143,32 @@ module _ (right : ℕ → Form) (cell : ℕ → Column → Option ℕ) (c : Colu
     matched : {t : ℕ} {α : Form} → w.state.stack ≡ Token t ∷ α → c ≡ token t → taken (popped α w.state) ≡ outcome
     matched {t} e f = sym (offer_match right cell (counted stack₀) (counted list₀) (counted list₀ - at.listed) w.state e) ∙ rw (← f) w.same
 
-    pub walking_finish : {e : Ending} → Chosen right cell (counted stack₀) (counted list₀) c (spelled_by stack at.height) at.listed (Finish e) → Offering outcome stack₀ list₀ (finished e at) (finished_stack e at stack) list
-    unfolding finished finished_stack reported final
-    walking_finish k = go (chosen_by k)
+    pub walking_match : Chosen right cell (counted stack₀) (counted list₀) c (spelled_by stack at.height) at.listed (Ok Match) → Offering outcome stack₀ list₀ (Ok (matched_at at)) (set stack (at.height - 1) 0) list
+    unfolding reported final
+    walking_match k = go (chosen_by k)
+      where
+        go : Chosen right cell (counted stack₀) (counted list₀) c w.state.stack (length w.state.listed) (Ok Match) → Offering outcome stack₀ list₀ (Ok (matched_at at)) (set stack (at.height - 1) 0) list
+        go (Chosen.matches f g) = let p = holds_pop w.holds f in holds_outcome p (matched f g) refl (ap Ok (holds_progress p))
+
+    pub walking_finish : {m : Result Move Reason} {r : Reply} → Chosen right cell (counted stack₀) (counted list₀) c (spelled_by stack at.height) at.listed m → Finishes at m r → Offering outcome stack₀ list₀ r stack list
+    unfolding reported final
+    walking_finish k ends = go (chosen_by k) ends
       where
         h : Holds w.state at stack₀ list₀ stack list
         h = w.holds
 
-        accept : Taken at ≡ reported (taken w.state)
-        accept = ap Taken (holds_progress h)
+        accept : Ok at ≡ reported (taken w.state)
+        accept = ap Ok (holds_progress h)
 
-        stop : (r : Reason) → Stopped r at ≡ reported (stopped r w.state)
-        stop r = ap (Stopped r) (holds_progress h)
+        stop : (r : Reason) → Err (Stopped r at) ≡ reported (stopped r w.state)
+        stop r = ap (λ (x : Progress). Err (Stopped r x)) (holds_progress h)
 
-        go : {e : Ending} → Chosen right cell (counted stack₀) (counted list₀) c w.state.stack (length w.state.listed) (Finish e) → Offering outcome stack₀ list₀ (finished e at) (finished_stack e at stack) list
-        go (Chosen.accepts f g) = holds_outcome h (halted (Halt.accepts f g)) refl accept
-        go (Chosen.left_over f g) = holds_outcome h (halted (Halt.left_over f g)) refl (stop WantsEnd)
-        go (Chosen.unmatched {t = t} f g) = holds_outcome h (halted (Halt.unmatched f g)) refl (stop (WantsToken t))
-        go (Chosen.vacant {A = A} f g) = holds_outcome h (halted (Halt.vacant f g)) refl (stop (WantsRow A))
-        go (Chosen.list_full f g l) = holds_outcome h (halted (Halt.list_full f g l)) refl (stop FullList)
-        go (Chosen.stack_full f g l m) = holds_outcome h (halted (Halt.stack_full f g l m)) refl (stop FullStack)
-        go (Chosen.matches f g) = let p = holds_pop h f in holds_outcome p (matched f g) refl (ap Taken (holds_progress p))
+        go : {m : Result Move Reason} {r : Reply} → Chosen right cell (counted stack₀) (counted list₀) c w.state.stack (length w.state.listed) m → Finishes at m r → Offering outcome stack₀ list₀ r stack list
+        go (Chosen.accepts f g) accepting = holds_outcome h (halted (Halt.accepts f g)) refl accept
+        go (Chosen.left_over f g) stopping = holds_outcome h (halted (Halt.left_over f g)) refl (stop WantsEnd)
+        go (Chosen.unmatched {t = t} f g) stopping = holds_outcome h (halted (Halt.unmatched f g)) refl (stop (WantsToken t))
+        go (Chosen.vacant {A = A} f g) stopping = holds_outcome h (halted (Halt.vacant f g)) refl (stop (WantsRow A))
+        go (Chosen.list_full f g l) stopping = holds_outcome h (halted (Halt.list_full f g l)) refl (stop FullList)
+        go (Chosen.stack_full f g l m) stopping = holds_outcome h (halted (Halt.stack_full f g l m)) refl (stop FullStack)
+        go (Chosen.matches f g) ends = elim ends [ ]
+        go (Chosen.uses f g l m) ends = elim ends [ ]

@@ -1,4 +1,5 @@
 -- A run in progress that its buffers spell, and what an offer to it answers and leaves.
+use Rattle.std.specs.Prelude.{Option, Some, None}
 use mathlib.Core.Path.{◌≡◌, refl, sym, ap, ◌∙◌}
 use mathlib.Core.List.{List}
 use Prim.Native.Nat.{ℕ, ◌+◌, ◌-◌, ◌≤◌, ◌<◌}
@@ -8,28 +9,26 @@ use lib.Seq.{length-take-le}
 use borrow.Author.Tests.{lt-ltb, le-ltb}
 use Rattle.grammar.specs.Grammar.{Grammar}
 use Rattle.answers.specs.Buffers.{counted}
-use Rattle.book.specs.declared.Reading.{Reading}
-use Rattle.book.specs.Columns.{outline_in, grammar_in}
+use Rattle.book.specs.declared.Index.{Index}
+use Rattle.book.specs.Columns.{grammar_in}
 use Rattle.book.proofs.Promise.{outlined_sized}
 use Rattle.table.specs.Table.{column_of, cell_of}
 use Rattle.machine.specs.Machine.{Offered, taken, stopped, final}
 use Rattle.machine.specs.Room.{right_of}
 use Rattle.machine.proofs.Promise.{Grown, gained, offer_grown}
 use Rattle.stack.specs.Ahead.{column_in}
-use Rattle.stack.specs.declared.Ahead.TheVariants.{Next, End}
-use Rattle.stack.specs.declared.Ahead.{Ahead}
 use Rattle.stack.proofs.Promise.{cells_spelled, length_spelled, stacked_spelled}
 use Rattle.offer.specs.Offering.{Holds, Ready, ColumnAhead, OfferedAt}
 use Rattle.offer.specs.Resuming.{progress_of, reported, clamped, standing, offered_to, Offers, OfferedOn}
 use Rattle.offer.specs.Stops.{values_of, deepest_in, answer_of, answered, run_answer}
 use Rattle.offer.specs.declared.Progress.{Progress}
-use Rattle.offer.specs.declared.Reply.{Reply}
+use Rattle.offer.specs.Reply.{Reply}
 
-pub column_next : {column tokens : ℕ} → column < tokens → (g : Grammar) → g.tokens ≡ tokens → column_in (Next column) ≡ column_of g column
+pub column_next : {column tokens : ℕ} → column < tokens → (g : Grammar) → g.tokens ≡ tokens → column_in (Some column) ≡ column_of g column
 unfolding column_in column_of
 column_next {column} h g e = rw (lt-ltb column g.tokens (rw e h), column_of)
 
-pub column_end : {column tokens : ℕ} → tokens ≤ column → (g : Grammar) → g.tokens ≡ tokens → column_in End ≡ column_of g column
+pub column_end : {column tokens : ℕ} → tokens ≤ column → (g : Grammar) → g.tokens ≡ tokens → column_in None ≡ column_of g column
 unfolding column_in column_of
 column_end {column} h g e = rw (le-ltb column g.tokens (rw e h), column_of)
 
@@ -71,31 +70,31 @@ offered_told g table column {at} {stack} {list} ready =
     let grown : Grown (standing at stack list) (final o) (gained (column_of g column) o) = offer_grown (right_of g) (cell_of g table) (counted stack) (counted list) (counted list - at.listed) (column_of g column) (standing at stack list) (omega (arith, ready.listed)) in
     reply_told g table o (omega (arith, grown.steps, grown.matches, ap length grown.lists, length-append (take at.listed list) grown.new))
 
-module _ (book : List ℕ) (reading : Reading) (table : List ℕ) (column : ℕ) {ahead : Ahead}
-    (same : ColumnAhead column reading.tokens ahead) {stack list : List ℕ} {r : Reply} {stack' list' : List ℕ} where
+module _ (book : List ℕ) (index : Index) (table : List ℕ) (column : ℕ) {ahead : Option ℕ}
+    (same : ColumnAhead column index.outline.tokens ahead) {stack list : List ℕ} {r : Reply} {stack' list' : List ℕ} where
   -- what is offered to every state that the buffers hold is offered to the one that they spell
   spelled_offers : {at : Progress}
       → Ready at stack list
       → at.deepest ≡ at.height
-      → OfferedAt book reading.places (outline_in reading) table ahead at stack list r stack' list'
-      → Offers (offered_to (grammar_in book reading) table column at stack list) stack list r stack' list'
+      → OfferedAt book index table ahead at stack list r stack' list'
+      → Offers (offered_to (grammar_in book index) table column at stack list) stack list r stack' list'
   unfolding offered_to
   spelled_offers {at} ready deepest offered =
       let x = offered.offers (standing at stack list) (standing_held ready deepest) in
-      let sized = outlined_sized book reading.places (outline_in reading) in
-      rw (← same.same (grammar_in book reading) sized.tokens)
+      let sized = outlined_sized book index.places index.outline in
+      rw (← same.same (grammar_in book index) sized.tokens)
       (record { answer = x.answer; stack_cells = x.holds.stack_cells; list_cells = x.holds.list_cells })
 
   pub offer_resumed : (at : Progress) {from : Progress}
       → from ≡ clamped at (length stack) (length list)
-      → OfferedAt book reading.places (outline_in reading) table ahead from stack list r stack' list'
-      → OfferedOn (grammar_in book reading) table column at stack list r stack' list'
+      → OfferedAt book index table ahead from stack list r stack' list'
+      → OfferedOn (grammar_in book index) table column at stack list r stack' list'
   unfolding clamped
   offer_resumed at clamps offered =
       let ready = clamped_ready at stack list in
-      let x : Offers (offered_to (grammar_in book reading) table column (clamped at (length stack) (length list)) stack list) stack list r stack' list' =
+      let x : Offers (offered_to (grammar_in book index) table column (clamped at (length stack) (length list)) stack list) stack list r stack' list' =
       spelled_offers ready refl (rw clamps at offered) in
       record {
         offers = x;
-        told = ap (answer_of (grammar_in book reading) table) x.answer ∙ offered_told (grammar_in book reading) table column ready;
+        told = ap (answer_of (grammar_in book index) table) x.answer ∙ offered_told (grammar_in book index) table column ready;
       }

@@ -1,35 +1,34 @@
 -- The invariant of a run: the buffers hold a state from which the machine comes to the run's outcome on the tokens that are left.
+use Rattle.std.specs.Prelude.{Option, Some, None, Ok, Err}
 use mathlib.Core.Path.{◌≡◌, refl, sym, ◌∙◌, ap, subst, subst₂}
-use mathlib.Core.Logic.{◌≢◌}
 use mathlib.Core.List.{List, [], ◌∷◌}
-use mathlib.Core.Option.{Option}
+use mathlib.Core.Option as math
 use Prim.Native.Nat.{ℕ, suc, ◌+◌, ◌-◌, ◌%◌, ◌^◌, ◌≤◌, ◌<◌, min}
 use native.Mathlib.Numerals.{add-one}
 use native.Mathlib.Omega.{arith}
-use lib.ListN.{length, drop, set, replicate, length-append, length-set, drop_of_length-le}
+use lib.ListN.{length, get_or, drop, set, replicate, length-append, length-set, drop_of_length-le}
 use lib.Seq.{drop-cons}
 use Rattle.grammar.specs.Grammar.{Form, Grammar, Column, nothing, each}
 use Rattle.grammar.specs.Machine.{front}
 use Rattle.grammar.specs.declared.Symbol.TheVariants.{Nonterminal}
 use Rattle.answers.specs.Buffers.{over, counted, cleared}
 use Rattle.reader.specs.Book.{byte_of}
-use Rattle.book.specs.Columns.{outlined}
-use Rattle.book.specs.declared.columns.Outline.{Outline}
+use Rattle.book.specs.Columns.{grammar_in, outlined}
+use Rattle.book.specs.declared.Index.{Index}
 use Rattle.table.specs.Table.{cell_of}
 use Rattle.machine.specs.Machine.{State, Offered, taken, stopped, begun, offer, run_from, final}
 use Rattle.machine.specs.declared.Reason.{Reason}
 use Rattle.machine.specs.Room.{right_of}
 use Rattle.machine.proofs.Promise.{Grown, gained, offer_grown, run_taken, run_stopped}
-use Rattle.stack.specs.Ahead.{column_in, ahead_in}
-use Rattle.stack.specs.declared.Ahead.{Ahead}
+use Rattle.stack.specs.Ahead.{column_in}
 use Rattle.stack.specs.Stack.{stacked}
-use Rattle.stack.proofs.Promise.{length_over, over_over, nonterminal_spelled, stacked_open, ahead_front, length_stacked, stacked_again}
+use Rattle.stack.proofs.Promise.{length_over, over_over, nonterminal_spelled, stacked_open, length_stacked, stacked_again}
 use Rattle.offer.specs.Strings.{Stepped, ran, StringOutcome, ended}
 use Rattle.offer.specs.Offering.{Holds, Ready, Offering, OfferedAt}
 use Rattle.offer.specs.Resuming.{progress_of, reported}
 use Rattle.offer.specs.declared.Progress.{Progress}
-use Rattle.offer.specs.declared.Reply.TheVariants.{Taken}
-use Rattle.offer.specs.declared.Reply.{Reply}
+use Rattle.offer.specs.Reply.{Reply}
+use Rattle.offer.specs.declared.Halt.{Halt}
 
 module _ {s : State} {at : Progress} {stack₀ list₀ stack list : List ℕ} (h : Holds s at stack₀ list₀ stack list) where
   pub holds_stack_length : length stack ≡ length stack₀
@@ -75,7 +74,7 @@ begun_held A stack list h =
       list_cells = refl;
     }
 
-module _ (right : ℕ → Form) (cell : ℕ → Column → Option ℕ) (room cells : ℕ) (s : State) where
+module _ (right : ℕ → Form) (cell : ℕ → Column → math.Option ℕ) (room cells : ℕ) (s : State) where
   -- a stop ends the run, and so does the end mark
   stop_ends : (w : List ℕ) {q : Reason} {e : State} → offer right cell room cells (cells - length s.listed) (front w) s ≡ stopped q e → run_from right cell room cells w s ≡ stopped q e
   unfolding run_from
@@ -91,15 +90,24 @@ module _ (right : ℕ → Form) (cell : ℕ → Column → Option ℕ) (room cel
   unfolding gained
   taken_on w v {t} same f = rw same (run_taken right cell room cells t v s (rw same at f), rw (rw same at f))
 
-module _ (book places : List ℕ) (o : Outline) (table tokens stack₀ list₀ : List ℕ) where
-  abbrev right : ℕ → Form
-  right = right_of (outlined book places o)
+-- what is offered is at the front of the tokens that are left
+pub front_token : (tokens : List ℕ) {i matched : ℕ} → i < length tokens → matched ≡ i → column_in (Some (get_or tokens i 0)) ≡ front (drop matched tokens)
+unfolding column_in
+front_token tokens {i} h e = rw (e, drop-cons tokens i 0 h)
 
-  abbrev cell : ℕ → Column → Option ℕ
-  cell = cell_of (outlined book places o) table
+pub front_end : (tokens : List ℕ) {i matched : ℕ} → length tokens ≤ i → matched ≡ i → column_in None ≡ front (drop matched tokens)
+unfolding column_in
+front_end tokens h e = rw (e, drop_of_length-le tokens h)
+
+module _ (book : List ℕ) (index : Index) (table tokens stack₀ list₀ : List ℕ) where
+  abbrev right : ℕ → Form
+  right = right_of (grammar_in book index)
+
+  abbrev cell : ℕ → Column → math.Option ℕ
+  cell = cell_of (grammar_in book index) table
 
   abbrev pub whole : Offered
-  whole = ran (outlined book places o) table tokens stack₀ list₀
+  whole = ran (grammar_in book index) table tokens stack₀ list₀
 
   pub record Running (at : Progress) (stack list : List ℕ) : Type 0 where
     pub state : State
@@ -112,15 +120,15 @@ module _ (book places : List ℕ) (o : Outline) (table tokens stack₀ list₀ :
 
   -- what the run leaves before the stack is cleared
   abbrev Ends : Reply → List ℕ → List ℕ → Type 0
-  Ends = Stepped (outlined book places o) table tokens stack₀ list₀
+  Ends = Stepped (grammar_in book index) table tokens stack₀ list₀
 
-  pub running_start : (stack : List ℕ) → 1 ≤ length stack → stack₀ ≡ set stack 0 (byte_of (Nonterminal (o.start % 128))) → Running (record { height = 1; listed = 0; matched = 0; deepest = 1 }) stack₀ list₀
+  pub running_start : (stack : List ℕ) → 1 ≤ length stack → stack₀ ≡ set stack 0 (byte_of (Nonterminal (index.outline.start % 128))) → Running (record { height = 1; listed = 0; matched = 0; deepest = 1 }) stack₀ list₀
   unfolding ran begun outlined
   running_start stack h e =
       record {
-        state = begun (o.start % 128);
+        state = begun (index.outline.start % 128);
         same = refl;
-        holds = rw e (begun_held (o.start % 128) stack list₀ h);
+        holds = rw e (begun_held (index.outline.start % 128) stack list₀ h);
         inside = omega arith;
         lists = refl;
         stack_length = refl;
@@ -146,13 +154,13 @@ module _ (book places : List ℕ) (o : Outline) (table tokens stack₀ list₀ :
     abbrev next : Offered
     next = offer right cell (counted stack₀) (counted list₀) left (front rest) w.state
 
-    module _ {a : Ahead} {r : Reply} {stack' list' : List ℕ} (ahead : a ≡ ahead_in rest)
-        (offered : OfferedAt book places o table a at stack list r stack' list') where
+    module _ {a : Option ℕ} {r : Reply} {stack' list' : List ℕ} (ahead : column_in a ≡ front rest)
+        (offered : OfferedAt book index table a at stack list r stack' list') where
       offering : Offering next stack list r stack' list'
       offering =
           let room : counted stack ≡ counted stack₀ = ap (λ (n : ℕ). min n 65535) w.stack_length in
           let cells : counted list ≡ counted list₀ = ap (λ (n : ℕ). min n 65535) w.list_length in
-          let same : offer right cell (counted stack) (counted list) (counted list - at.listed) (column_in a) w.state ≡ next = rw (room, cells, ahead_front rest ahead, w.holds.listed) in
+          let same : offer right cell (counted stack) (counted list) (counted list - at.listed) (column_in a) w.state ≡ next = rw (room, cells, ahead, w.holds.listed) in
           subst (λ (x : Offered). Offering x stack list r stack' list') same (offered.offers w.state w.holds)
 
       grown : Grown w.state (final next) (gained (front rest) next)
@@ -173,18 +181,18 @@ module _ (book places : List ℕ) (o : Outline) (table tokens stack₀ list₀ :
             list_length = holds_list_length offering.holds ∙ w.list_length;
           }
 
-      pub running_stopped : ((x : Progress) → r ≢ Taken x) → Ends r stack' list'
+      pub running_stopped : {e : Halt} → r ≡ Err e → Ends (Err e) stack' list'
       unfolding reported
-      running_stopped other = go next refl
+      running_stopped {e} stops = subst (λ (y : Reply). Ends y stack' list') stops (go next refl)
         where
           go : (y : Offered) → next ≡ y → Ends r stack' list'
-          go (taken s) f = absurd (other (progress_of s) (offering.answer ∙ ap reported f))
+          go (taken s) f = let answer : r ≡ reported (taken s) = offering.answer ∙ ap reported f in let bad : ◌≡◌ {A = ℕ} 0 1 = cc in absurd (omega arith)
           go (stopped q s) f = ends (f ∙ sym (stop_ends right cell (counted stack₀) (counted list₀) w.state rest f) ∙ w.same)
 
-      pub running_over : {x : Progress} → r ≡ Taken x → length tokens ≤ at.matched → Ends (Taken x) stack' list'
-      running_over e h = subst (λ (y : Reply). Ends y stack' list') e (ends (end_ends right cell (counted stack₀) (counted list₀) w.state rest (drop_of_length-le tokens h) ∙ w.same))
+      pub running_over : length tokens ≤ at.matched → Ends r stack' list'
+      running_over h = ends (end_ends right cell (counted stack₀) (counted list₀) w.state rest (drop_of_length-le tokens h) ∙ w.same)
 
-      pub running_next : {x : Progress} → r ≡ Taken x → at.matched < length tokens → Running x stack' list' × (x.matched ≡ at.matched + 1)
+      pub running_next : {x : Progress} → r ≡ Ok x → at.matched < length tokens → Running x stack' list' × (x.matched ≡ at.matched + 1)
       unfolding reported progress_of final
       running_next {x} e h = go next refl
         where

@@ -1,3 +1,4 @@
+pub mod Reply
 pub mod Moves
 pub mod Offering
 pub mod Resuming

@@ -1,22 +1,18 @@
 -- An offer as the code has it: a run in progress by its counts and its buffers, and what becomes of it.
 -- Document 01, "Running and expanding". Only contracts inside the crate cite what stands here.
-use Rattle.std.specs.Prelude.{◌≡◌, List, ℕ, ◌+◌, ◌-◌, ◌^◌, ◌≤◌, ◌<◌, length, set}
+use Rattle.std.specs.Prelude.{◌≡◌, List, ℕ, ◌+◌, ◌-◌, ◌^◌, ◌≤◌, ◌<◌, length, Option}
 use Rattle.grammar.specs.Grammar.{Grammar, Every}
 use Rattle.answers.specs.Buffers.{over, counted}
-use Rattle.book.specs.declared.columns.Outline.{Outline}
-use Rattle.book.specs.Columns.{outlined}
+use Rattle.book.specs.declared.Index.{Index}
+use Rattle.book.specs.Columns.{grammar_in}
 use Rattle.table.specs.Table.{column_of, cell_of}
 use Rattle.machine.specs.Machine.{State, Offered, final, offer}
 use Rattle.machine.specs.Room.{right_of}
 use Rattle.stack.specs.Stack.{Spelled, stacked}
-use Rattle.stack.specs.declared.Ahead.{Ahead}
 use Rattle.stack.specs.Ahead.{column_in}
 use Rattle.offer.specs.Resuming.{progress_of, reported}
-use Rattle.offer.specs.declared.Ending.TheVariants.{Accept, Match, Stop}
-use Rattle.offer.specs.declared.Ending.{Ending}
 use Rattle.offer.specs.declared.Progress.{Progress}
-use Rattle.offer.specs.declared.Reply.TheVariants.{Taken, Stopped}
-use Rattle.offer.specs.declared.Reply.{Reply}
+use Rattle.offer.specs.Reply.{Reply}
 
 -- the buffers, which once were stack₀ and list₀, hold the state s
 pub record Holds (s : State) (at : Progress) (stack₀ list₀ stack list : List ℕ) : Type 0 where
@@ -43,32 +39,24 @@ pub record Offering (o : Offered) (stack₀ list₀ : List ℕ) (r : Reply) (sta
   pub answer : r ≡ reported o
   pub holds : Holds (final o) (progress_of (final o)) stack₀ list₀ stack list
 
--- a token that is matched is popped, and its cell is 0
-unfoldable pub finished : Ending → Progress → Reply
-finished Accept at = Taken at
-finished Match at =
-    Taken
-    (record { height = at.height - 1; listed = at.listed; matched = at.matched + 1; deepest = at.deepest })
-finished (Stop reason) at = Stopped reason at
-
-unfoldable pub finished_stack : Ending → Progress → List ℕ → List ℕ
-finished_stack Accept at stack = stack
-finished_stack Match at stack = set stack (at.height - 1) 0
-finished_stack (Stop reason) at stack = stack
+-- the counts after a token is matched and popped
+abbrev pub matched_at : Progress → Progress
+matched_at at =
+    record { height = at.height - 1; listed = at.listed; matched = at.matched + 1; deepest = at.deepest }
 
 -- a column below T is a token, any other the end mark
-pub record ColumnAhead (column T : ℕ) (r : Ahead) : Type 0 where
+pub record ColumnAhead (column T : ℕ) (r : Option ℕ) : Type 0 where
   pub same : (g : Grammar) → g.tokens ≡ T → column_in r ≡ column_of g column
 
 -- whatever state the buffers hold, they come to what the machine makes of it
-pub record OfferedAt (book places : List ℕ) (o : Outline) (table : List ℕ) (ahead : Ahead) (at : Progress)
+pub record OfferedAt (book : List ℕ) (index : Index) (table : List ℕ) (ahead : Option ℕ) (at : Progress)
     (stack list : List ℕ) (r : Reply) (stack' list' : List ℕ) : Type 0 where
   pub offers : (s : State)
       → Holds s at stack list stack list
       → Offering
       (offer
-      (right_of (outlined book places o))
-      (cell_of (outlined book places o) table)
+      (right_of (grammar_in book index))
+      (cell_of (grammar_in book index) table)
       (counted stack)
       (counted list)
       (counted list - at.listed)

@@ -1,12 +1,12 @@
 -- One column offered to a run in progress, for every book, reading, table, buffer and count.
 -- Document 01, "Running and expanding": at most 65,535 cells of a buffer count, and so of the matched tokens that the
 -- caller tells of. Document 02, W7: the most stack cells held are told of this one offer.
-use Rattle.std.specs.Prelude.{◌≡◌, ◌≢◌, List, ℕ, ◌+◌, ◌-◌, min, length, take}
+use Rattle.std.specs.Prelude.{◌≡◌, List, ℕ, ◌+◌, ◌-◌, min, length, take, Result, Ok, Err}
 use Rattle.grammar.specs.Grammar.{Grammar}
-use Rattle.answers.specs.Refusals.{served}
+use Rattle.answers.specs.declared.Answer.{Answer}
 use Rattle.answers.specs.Buffers.{over, counted}
 use Rattle.answers.specs.Limits.{most_cells}
-use Rattle.book.specs.declared.Reading.{Reading}
+use Rattle.book.specs.declared.Index.{Index}
 use Rattle.book.specs.Columns.{grammar_in}
 use Rattle.table.specs.Table.{column_of, cell_of}
 use Rattle.machine.specs.Machine.{State, Offered, taken, stopped, final, offer}
@@ -14,8 +14,8 @@ use Rattle.machine.specs.Room.{right_of}
 use Rattle.stack.specs.Stack.{spelled_by, stacked}
 use Rattle.offer.specs.Stops.{run_answer, answer_of}
 use Rattle.offer.specs.declared.Progress.{Progress}
-use Rattle.offer.specs.declared.Reply.TheVariants.{Taken, Stopped, Refused}
-use Rattle.offer.specs.declared.Reply.{Reply}
+use Rattle.offer.specs.declared.Halt.TheVariants.{Stopped, Refused}
+use Rattle.offer.specs.Reply.{Reply}
 
 -- the reply, the stack and the list
 abbrev pub OfferResult : Type 0
@@ -27,8 +27,8 @@ progress_of s =
 
 -- what the code says of an outcome
 unfoldable pub reported : Offered → Reply
-reported (taken s) = Taken (progress_of s)
-reported (stopped r s) = Stopped r (progress_of s)
+reported (taken s) = Ok (progress_of s)
+reported (stopped r s) = Err (Stopped r (progress_of s))
 
 -- the counts as far as they count, of buffers that are so long; the most cells held are those now, since what the
 -- caller tells of them is not believed
@@ -84,13 +84,14 @@ pub record OfferedOn (g : Grammar) (table : List ℕ) (column : ℕ) (at : Progr
   pub told : answer_of g table r
       ≡ run_answer g table (offered_to g table column (clamped at (length stack) (length list)) stack list)
 
--- an offer: the refusal of a reading that was refused, with nothing changed, or an offer on the grammar that it tells
--- of
-pub data OfferOutcome (book : List ℕ) (reading : Reading) (table : List ℕ) (column : ℕ) (at : Progress)
+-- an offer: the refusal of a book that was refused, with nothing changed, or an offer on the grammar that its index
+-- tells of
+pub data OfferOutcome (book : List ℕ) (reading : Result Index Answer) (table : List ℕ) (column : ℕ) (at : Progress)
     (stack list : List ℕ) : Reply → List ℕ → List ℕ → Type 0 where
-  refused : reading.answer.number ≢ served
-      → OfferOutcome book reading table column at stack list (Refused reading.answer) stack list
-  offered : {r : Reply} {stack' list' : List ℕ}
-      → reading.answer.number ≡ served
-      → OfferedOn (grammar_in book reading) table column at stack list r stack' list'
+  refused : {answer : Answer}
+      → reading ≡ Err answer
+      → OfferOutcome book reading table column at stack list (Err (Refused answer)) stack list
+  offered : {index : Index} {r : Reply} {stack' list' : List ℕ}
+      → reading ≡ Ok index
+      → OfferedOn (grammar_in book index) table column at stack list r stack' list'
       → OfferOutcome book reading table column at stack list r stack' list'

@@ -1,6 +1,6 @@
 -- The answer to each way in which steps end: the paper's number, place, detail, steps and expected set, and the depth.
 -- Document 01, "Refusals and their numbers" and "Running and expanding"; document 02, W7.
-use Rattle.std.specs.Prelude.{List, cond, ℕ, zero, suc, ◌+◌, ◌*◌, ltb, get_or}
+use Rattle.std.specs.Prelude.{List, cond, ℕ, zero, suc, ◌+◌, ◌*◌, ltb, get_or, Ok, Err}
 use Rattle.std.proofs.Math.Option.{some, none}
 use Rattle.grammar.specs.Grammar.{Grammar}
 use Rattle.sets.specs.Sets.{width, end_mark, added, column_place}
@@ -12,8 +12,8 @@ use Rattle.table.specs.Table.{held}
 use Rattle.machine.specs.Machine.{Offered, taken, stopped, final}
 use Rattle.machine.specs.declared.Reason.{Reason}
 use Rattle.machine.specs.declared.Reason.TheVariants.{FullList, FullStack, WantsEnd, WantsToken, WantsRow}
-use Rattle.offer.specs.declared.Reply.TheVariants.{Taken, Stopped, Refused}
-use Rattle.offer.specs.declared.Reply.{Reply}
+use Rattle.offer.specs.declared.Halt.TheVariants.{Stopped, Refused}
+use Rattle.offer.specs.Reply.{Reply}
 
 -- the set with that place too; a place past the width adds nothing
 unfoldable pub marking : ℕ → ℕ → ℕ
@@ -62,16 +62,16 @@ run_answer g table o = at_depth (final o).height (answered (expected g table) o)
 
 -- the paper's values of a reply to an offer
 unfoldable pub values_of : Grammar → List ℕ → Reply → Answer
-values_of g table (Taken at) = done (at.listed + at.matched)
-values_of g table (Stopped r at) =
+values_of g table (Ok at) = done (at.listed + at.matched)
+values_of g table (Err (Stopped r at)) =
     stop (number_of r) at.matched (detail_of r) (at.listed + at.matched) (expected g table r)
-values_of g table (Refused answer) = answer
+values_of g table (Err (Refused answer)) = answer
 
 -- the most stack cells held that a reply tells of; where the book was refused no step is made
 unfoldable pub deepest_in : Reply → ℕ
-deepest_in (Taken at) = at.deepest
-deepest_in (Stopped r at) = at.deepest
-deepest_in (Refused answer) = 0
+deepest_in (Ok at) = at.deepest
+deepest_in (Err (Stopped r at)) = at.deepest
+deepest_in (Err (Refused answer)) = 0
 
 -- and the answer to a reply
 unfoldable pub answer_of : Grammar → List ℕ → Reply → Answer

@@ -1,6 +1,6 @@
 -- What offering a whole token string comes to, for every grammar, table, token string and buffer.
 -- Document 01, "Running and expanding".
-use Rattle.std.specs.Prelude.{◌≡◌, List, ℕ, ◌≤◌, length}
+use Rattle.std.specs.Prelude.{◌≡◌, List, ℕ, ◌≤◌, length, Err}
 use Rattle.grammar.specs.Grammar.{Grammar}
 use Rattle.answers.specs.Buffers.{counted, over, cleared}
 use Rattle.table.specs.Table.{cell_of}
@@ -8,8 +8,8 @@ use Rattle.machine.specs.Machine.{Offered, begun, run_from, final}
 use Rattle.machine.specs.Room.{right_of}
 use Rattle.machine.specs.declared.Reason.TheVariants.{FullStack}
 use Rattle.offer.specs.Resuming.{reported}
-use Rattle.offer.specs.declared.Reply.TheVariants.{Stopped}
-use Rattle.offer.specs.declared.Reply.{Reply}
+use Rattle.offer.specs.declared.Halt.TheVariants.{Stopped}
+use Rattle.offer.specs.Reply.{Reply}
 
 -- the machine on a book's grammar, a table, and the room of the lent buffers
 unfoldable pub ran : Grammar → (table tokens stack list : List ℕ) → Offered
@@ -20,7 +20,7 @@ ran g table tokens stack list =
 pub data StringOutcome (g : Grammar) (table tokens stack list : List ℕ) : Reply → List ℕ → List ℕ → Type 0 where
   no_stack : length stack ≡ 0
       → StringOutcome g table tokens stack list
-      (Stopped FullStack (record { height = 0; listed = 0; matched = 0; deepest = 0 }))
+      (Err (Stopped FullStack (record { height = 0; listed = 0; matched = 0; deepest = 0 })))
       stack
       list
   ended : 1 ≤ length stack

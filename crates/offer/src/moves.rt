@@ -4,17 +4,19 @@ ghost use Rattle.machine.specs.Machine.{meets};
 ghost use Rattle.stack.specs.Ahead.{column_in};
 ghost use Rattle.offer.specs.Moves.{Bottom, CellFacing, Decision, Choice};
 
-use crate::{Ending, Move, Step};
-use book::columns::{Outline, gathered};
+use crate::{Move, Step};
+use answers::buffers::cell_or;
+use book::Index;
+use book::columns::Outline;
 use grammar::Symbol;
 use machine::Reason;
 use reader::fields::symbol_of;
-use stack::{Ahead, counts};
+use stack::counts;
 use table::VACANT;
 use table::fitting::cell_at;
 
 // What the table says in row n to what comes next.
-fn cell_facing(table: &[u8], outline: Outline, n: u8, ahead: Ahead) -> u8
+fn cell_facing(table: &[u8], outline: Outline, n: u8, ahead: Option<u8>) -> u8
     ensures { CellFacing outline table.now n ahead result }
 {
     if outline.nonterminals <= n {
@@ -22,29 +24,26 @@ fn cell_facing(table: &[u8], outline: Outline, n: u8, ahead: Ahead) -> u8
     }
     let row = n as usize * (outline.tokens as usize + 1);
     match ahead {
-        Ahead::Next(t) => {
+        Some(t) => {
             if t < outline.tokens {
                 cell_at(table, row + t as usize)
             } else {
                 VACANT
             }
         }
-        Ahead::End => cell_at(table, row + outline.tokens as usize),
+        None => cell_at(table, row + outline.tokens as usize),
     }
 }
 
 // Whether token t comes next.
-fn is_next(ahead: Ahead, t: u8) -> bool
+fn is_next(ahead: Option<u8>, t: u8) -> bool
     ensures { result ≡ meets (column_in ahead) t }
 {
-    match ahead {
-        Ahead::Next(s) => s == t,
-        Ahead::End => false,
-    }
+    ahead == Some(t)
 }
 
 // What the symbol on top of the stack says to what comes next.
-fn decide(step: Step, table: &[u8], outline: Outline) -> Move
+fn decide(step: Step, table: &[u8], outline: Outline) -> Result<Move, Reason>
     ensures { Decision step table.now outline result }
 {
     let symbol = step.symbol;
@@ -52,47 +51,47 @@ fn decide(step: Step, table: &[u8], outline: Outline) -> Move
     match symbol {
         Symbol::Token(t) => {
             if is_next(ahead, t) {
-                Move::Finish(Ending::Match)
+                Ok(Move::Match)
             } else {
-                Move::Finish(Ending::Stop(Reason::WantsToken(t)))
+                Err(Reason::WantsToken(t))
             }
         }
         Symbol::Nonterminal(n) => {
             let p = cell_facing(table, outline, n, ahead);
             if p == VACANT {
-                Move::Finish(Ending::Stop(Reason::WantsRow(n)))
+                Err(Reason::WantsRow(n))
             } else {
-                Move::Use(p)
+                Ok(Move::Use(p))
             }
         }
     }
 }
 
-// How the offer ends where the stack is empty.
-fn at_bottom(ahead: Ahead) -> Ending
+// What is done next where the stack is empty.
+fn at_bottom(ahead: Option<u8>) -> Result<Move, Reason>
     ensures { Bottom (column_in ahead) result }
 {
     match ahead {
-        Ahead::Next(_) => Ending::Stop(Reason::WantsEnd),
-        Ahead::End => Ending::Accept,
+        Some(_) => Err(Reason::WantsEnd),
+        None => Ok(Move::Accept),
     }
 }
 
 // What is done next with the first `height` cells of the stack in use and `listed` of the list's `cells`.
 pub(crate) fn choose(
     lengths: &[u8],
-    outline: Outline,
+    index: &Index,
     table: &[u8],
-    ahead: Ahead,
+    ahead: Option<u8>,
     stack: &[u8],
     height: usize,
     cells: usize,
     listed: usize,
-) -> Move
+) -> Result<Move, Reason>
     requires { height ≤ length stack.now }
     ensures { Choice
         lengths.now
-        outline
+        index.now
         table.now
         ahead
         stack.now
@@ -102,19 +101,19 @@ pub(crate) fn choose(
         result }
 {
     if height == 0 {
-        return Move::Finish(at_bottom(ahead));
+        return at_bottom(ahead);
     }
     let below = height - 1;
     let symbol = symbol_of(stack[below]);
-    let choice = decide(Step { symbol, ahead }, table, outline);
+    let choice = decide(Step { symbol, ahead }, table, index.outline)?;
     let Move::Use(p) = choice else {
-        return choice;
+        return Ok(choice);
     };
     if cells <= listed {
-        return Move::Finish(Ending::Stop(Reason::FullList));
+        return Err(Reason::FullList);
     }
-    if counts(stack.len()) < below + gathered(lengths, p) as usize {
-        return Move::Finish(Ending::Stop(Reason::FullStack));
+    if counts(stack.len()) < below + cell_or(lengths, p as usize, 0) as usize {
+        return Err(Reason::FullStack);
     }
-    choice
+    Ok(choice)
 }

@@ -1,59 +1,47 @@
 // One column offered to a run in progress.
-ghost use Rattle.std.specs.Prelude.{◌≡◌, ◌^◌, ◌≤◌, ◌<◌, length};
+ghost use Rattle.std.specs.Prelude.{◌≡◌, ◌-◌, ◌^◌, ◌≤◌, ◌<◌, length, set};
 ghost use Rattle.book.specs.Columns.{grammar_in, Lengths};
-ghost use Rattle.offer.specs.declared.Ending.TheVariants as endings;
-ghost use Rattle.offer.specs.Offering.{finished, finished_stack, ColumnAhead, Ready, OfferedAt};
+ghost use Rattle.offer.specs.Offering.{matched_at, ColumnAhead, Ready, OfferedAt};
 ghost use Rattle.offer.specs.Resuming.{clamped, OfferedOn, OfferOutcome};
 
 use crate::moves::choose;
-use crate::{Ending, Move, Progress, Reply};
+use crate::{Halt, Move, Progress};
+use answers::Answer;
+use answers::buffers::cell_or;
 use answers::limits::MOST_CELLS;
-use answers::refusals::DONE;
-use book::Reading;
-use book::columns::{Outline, gather_lengths, gathered, outline_of};
-use reader::fields::place_at;
-use stack::{Ahead, counts, greater, lower, replace};
+use book::Index;
+use book::columns::gather_lengths;
+use stack::{counts, replace};
 
-// The offer ends: a token that is matched is popped.
-fn finish(ending: Ending, stack: &mut [u8], at: Progress) -> Reply
-    requires { (ending ≡ endings.Match → 1 ≤ at.height)
-        × (at.height ≤ length stack.old)
-        × (at.matched < 2 ^ 63) }
-    ensures { (result ≡ finished ending at) × (stack.new ≡ finished_stack ending at stack.old) }
+// The token on top is matched and popped.
+fn pop(stack: &mut [u8], at: Progress) -> Progress
+    requires { (1 ≤ at.height) × (at.height ≤ length stack.old) × (at.matched < 2 ^ 63) }
+    ensures { (result ≡ matched_at at) × (stack.new ≡ set stack.old (at.height - 1) 0) }
 {
-    match ending {
-        Ending::Accept => Reply::Taken(at),
-        Ending::Match => {
-            let below = at.height - 1;
-            stack[below] = 0;
-            Reply::Taken(Progress {
-                height: below,
-                listed: at.listed,
-                matched: at.matched + 1,
-                deepest: at.deepest,
-            })
-        }
-        Ending::Stop(reason) => Reply::Stopped(reason, at),
+    let below = at.height - 1;
+    stack[below] = 0;
+    Progress {
+        height: below,
+        matched: at.matched + 1,
+        ..at
     }
 }
 
 // One column is offered: productions are used until it is taken or the run stops.
 pub(crate) fn offer_at(
     book: &[u8],
-    places: &[u16],
+    index: &Index,
     lengths: &[u8],
-    outline: Outline,
     table: &[u8],
-    ahead: Ahead,
+    ahead: Option<u8>,
     stack: &mut [u8],
     list: &mut [u8],
     at: Progress,
-) -> Reply
-    requires { Ready at stack.old list.old × Lengths book.now places.now outline lengths.now }
+) -> Result<Progress, Halt>
+    requires { Ready at stack.old list.old × Lengths book.now index.now lengths.now }
     ensures { OfferedAt
         book.now
-        places.now
-        outline
+        index.now
         table.now
         ahead
         at
@@ -68,69 +56,66 @@ pub(crate) fn offer_at(
     let mut listed = at.listed;
     let mut deepest = at.deepest;
     loop {
-        let choice = choose(lengths, outline, table, ahead, stack, height, cells, listed);
-        match choice {
+        let here = Progress {
+            height,
+            listed,
+            matched: at.matched,
+            deepest,
+        };
+        let choice = choose(lengths, index, table, ahead, stack, height, cells, listed);
+        let next = match choice {
+            Ok(next) => next,
+            Err(reason) => return Err(Halt::Stopped(reason, here)),
+        };
+        match next {
             Move::Use(p) => {
-                let count = gathered(lengths, p);
+                let count = cell_or(lengths, p as usize, 0);
                 let below = height - 1;
                 list[listed] = p;
                 listed += 1;
-                replace(book, place_at(places, p as usize), count, stack, below);
+                let at = cell_or(&index.places, p as usize, 0);
+                replace(book, at, count, stack, below);
                 height = below + count as usize;
-                deepest = greater(deepest, height);
+                deepest = deepest.max(height);
             }
-            Move::Finish(ending) => {
-                return finish(
-                    ending,
-                    stack,
-                    Progress {
-                        height,
-                        listed,
-                        matched: at.matched,
-                        deepest,
-                    },
-                );
-            }
+            Move::Match => return Ok(pop(stack, here)),
+            Move::Accept => return Ok(here),
         }
     }
 }
 
 // A column below T is a token, any other the end mark.
-fn column_ahead(column: u8, tokens: u8) -> Ahead
+fn column_ahead(column: u8, tokens: u8) -> Option<u8>
     ensures { ColumnAhead column tokens result }
 {
-    if column < tokens {
-        Ahead::Next(column)
-    } else {
-        Ahead::End
-    }
+    if column < tokens { Some(column) } else { None }
 }
 
 // The counts as far as they count; the most cells held are those of the stack now, whatever the caller tells.
 fn clamp(at: Progress, stack: usize, list: usize) -> Progress
     ensures { result ≡ clamped at stack list }
 {
-    let height = lower(at.height, counts(stack));
+    let height = at.height.min(counts(stack));
     Progress {
         height,
-        listed: lower(at.listed, counts(list)),
-        matched: lower(at.matched, MOST_CELLS),
+        listed: at.listed.min(counts(list)),
+        matched: at.matched.min(MOST_CELLS),
         deepest: height,
     }
 }
 
-// One column offered to a run in progress, by the grammar that a reading tells of.
+// One column offered to a run in progress, by the grammar that an index tells of.
 fn offer_on(
     book: &[u8],
-    reading: Reading,
+    index: &Index,
     table: &[u8],
     column: u8,
     stack: &mut [u8],
     list: &mut [u8],
     at: Progress,
-) -> Reply
+) -> Result<Progress, Halt>
     ensures { OfferedOn
-        (grammar_in book.now reading)
+        (grammar_in book.now index.now)
         table.now
         column
         at
@@ -140,14 +125,10 @@ fn offer_on(
         stack.new
         list.new }
 {
-    let places = reading.places;
-    let outline = outline_of(reading);
-    let lengths = gather_lengths(book, &places, outline);
-    let ahead = column_ahead(column, reading.tokens);
+    let lengths = gather_lengths(book, index);
+    let ahead = column_ahead(column, index.outline.tokens);
     let from = clamp(at, stack.len(), list.len());
-    offer_at(
-        book, &places, &lengths, outline, table, ahead, stack, list, from,
-    )
+    offer_at(book, index, &lengths, table, ahead, stack, list, from)
 }
 
 // One column offered to a run in progress, whatever the reading and the counts; every column from T on is the end
@@ -155,13 +136,13 @@ fn offer_on(
 // was refused, that is the reply, and nothing changes.
 pub fn offer(
     book: &[u8],
-    reading: Reading,
+    reading: Result<Index, Answer>,
     table: &[u8],
     column: u8,
     stack: &mut [u8],
     list: &mut [u8],
     at: Progress,
-) -> Reply
+) -> Result<Progress, Halt>
     ensures { OfferOutcome
         book.now
         reading
@@ -174,9 +155,6 @@ pub fn offer(
         stack.new
         list.new }
 {
-    let judged = reading.answer;
-    if judged.number != DONE {
-        return Reply::Refused(judged);
-    }
-    offer_on(book, reading, table, column, stack, list, at)
+    let index = reading?;
+    offer_on(book, &index, table, column, stack, list, at)
 }

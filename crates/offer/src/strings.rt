@@ -1,28 +1,28 @@
 // A whole token string offered from the start symbol on.
 ghost use Rattle.std.specs.Prelude.{◌≤◌, length};
-ghost use Rattle.book.specs.Columns.{outlined, Lengths};
+ghost use Rattle.book.specs.Columns.{grammar_in, Lengths};
 ghost use Rattle.offer.specs.Strings.{Stepped, StringOutcome};
 
 use crate::offering::offer_at;
-use crate::{Progress, Reply};
-use book::columns::{Outline, gather_lengths};
+use crate::{Halt, Progress};
+use book::Index;
+use book::columns::gather_lengths;
 use machine::Reason;
-use stack::{ahead_of, clear, put_start};
+use stack::{clear, put_start};
 
 // From the start symbol on, the tokens are offered one by one, then the end mark.
 fn offer_all(
     book: &[u8],
-    places: &[u16],
+    index: &Index,
     lengths: &[u8],
-    outline: Outline,
     table: &[u8],
     tokens: &[u8],
     stack: &mut [u8],
     list: &mut [u8],
-) -> Reply
-    requires { (1 ≤ length stack.old) × Lengths book.now places.now outline lengths.now }
+) -> Result<Progress, Halt>
+    requires { (1 ≤ length stack.old) × Lengths book.now index.now lengths.now }
     ensures { Stepped
-        (outlined book.now places.now outline)
+        (grammar_in book.now index.now)
         table.now
         tokens.now
         stack.old
@@ -31,42 +31,32 @@ fn offer_all(
         stack.new
         list.new }
 {
-    put_start(stack, outline.start);
+    put_start(stack, index.outline.start);
     let mut at = Progress {
         height: 1,
         listed: 0,
         matched: 0,
         deepest: 1,
     };
-    loop {
-        let i = at.matched;
-        let ahead = ahead_of(tokens, i);
-        let reply = offer_at(
-            book, places, lengths, outline, table, ahead, stack, list, at,
-        );
-        let Reply::Taken(next) = reply else {
-            return reply;
-        };
-        if tokens.len() <= i {
-            return reply;
-        }
-        at = next;
+    for token in tokens {
+        let ahead = Some(*token);
+        at = offer_at(book, index, lengths, table, ahead, stack, list, at)?;
     }
+    offer_at(book, index, lengths, table, None, stack, list, at)
 }
 
 // A whole token string offered, then the end mark, from the start symbol on; after that every stack cell is 0. Without
 // a stack cell nothing is done.
 pub fn offer_string(
     book: &[u8],
-    places: &[u16],
-    outline: Outline,
+    index: &Index,
     table: &[u8],
     tokens: &[u8],
     stack: &mut [u8],
     list: &mut [u8],
-) -> Reply
+) -> Result<Progress, Halt>
     ensures { StringOutcome
-        (outlined book.now places.now outline)
+        (grammar_in book.now index.now)
         table.now
         tokens.now
         stack.old
@@ -76,18 +66,16 @@ pub fn offer_string(
         list.new }
 {
     if stack.len() == 0 {
-        return Reply::Stopped(
-            Reason::FullStack,
-            Progress {
-                height: 0,
-                listed: 0,
-                matched: 0,
-                deepest: 0,
-            },
-        );
+        let at = Progress {
+            height: 0,
+            listed: 0,
+            matched: 0,
+            deepest: 0,
+        };
+        return Err(Halt::Stopped(Reason::FullStack, at));
     }
-    let lengths = gather_lengths(book, places, outline);
-    let reply = offer_all(book, places, &lengths, outline, table, tokens, stack, list);
+    let lengths = gather_lengths(book, index);
+    let reply = offer_all(book, index, &lengths, table, tokens, stack, list);
     clear(stack);
     reply
 }

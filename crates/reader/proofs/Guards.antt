@@ -8,8 +8,8 @@ use lib.ListN.{length, get_or}
 use Rattle.std.specs.Prelude.{Ok, Err}
 use Rattle.answers.specs.declared.refusals.Refusal.TheVariants as refusals
 use Rattle.reader.specs.declared.Fault.{Fault}
-use Rattle.reader.specs.Verdicts.{Verdict, bad}
-use Rattle.reader.specs.Positional.{and_then, symbol_from, symbols_from, record_from, each_record_from, is_symbol}
+use Rattle.reader.specs.Verdicts.{Verdict, bad, and_then}
+use Rattle.reader.specs.Positional.{symbol_from, symbols_from, record_from, each_record_from, is_symbol}
 use Rattle.reader.proofs.Turns.{symbols_turn, records_turn}
 use Rattle.reader.proofs.Passing.{by_cases, checked_right, checked_wrong, checked_short, symbols_pass, records_pass}
 

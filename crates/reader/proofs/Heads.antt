@@ -14,8 +14,8 @@ use Rattle.std.specs.Prelude.{Ok, Err, slice_range}
 use Rattle.answers.specs.Limits.{most_symbols}
 use Rattle.answers.specs.declared.refusals.Refusal.{Refusal}
 use Rattle.answers.specs.declared.refusals.Refusal.TheVariants as refusals
-use Rattle.reader.specs.Verdicts.{Verdict}
-use Rattle.reader.specs.Positional.{and_then, next_byte, within, wanted_from, symbols_from, marked_from, right_from, left_from, head_from, head_at, record_from}
+use Rattle.reader.specs.Verdicts.{Verdict, and_then}
+use Rattle.reader.specs.Positional.{next_byte, within, wanted_from, symbols_from, marked_from, right_from, left_from, head_from, head_at, record_from}
 use Rattle.reader.proofs.Passing.{by_cases, within_right, within_above, within_other, within_up_to, checked_right, checked_wrong, checked_short, symbols_pass}
 
 both : (t u : Bool) → (t && u) ≡ true → (t ≡ true) × (u ≡ true)

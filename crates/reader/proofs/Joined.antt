@@ -19,8 +19,8 @@ use Rattle.std.specs.Prelude.{Ok}
 use Rattle.answers.specs.declared.refusals.Refusal.{Refusal}
 use Rattle.answers.specs.declared.refusals.Refusal.TheVariants as refusals
 use Rattle.reader.specs.Book.{refused, Rest, wanted, marked, symbol_of, IsSymbol, symbols, records, ending, spells}
-use Rattle.reader.specs.Verdicts.{Verdict, bad, verdict_on, verdict_of}
-use Rattle.reader.specs.Positional.{and_then, next_byte, within, checked_at, wanted_from, symbol_from, symbols_from, marked_from, right_from, left_from, record_from, each_record_from, header_of, records_from, ended_at, end_from, is_symbol}
+use Rattle.reader.specs.Verdicts.{Verdict, bad, verdict_on, verdict_of, and_then}
+use Rattle.reader.specs.Positional.{next_byte, within, checked_at, wanted_from, symbol_from, symbols_from, marked_from, right_from, left_from, record_from, each_record_from, header_of, records_from, ended_at, end_from, is_symbol}
 use Rattle.reader.proofs.Passing.{Passes, by_cases, checked_right, checked_wrong, checked_short, symbols_pass, records_pass}
 
 module _ (T N : ℕ) where

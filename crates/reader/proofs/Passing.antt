@@ -1,5 +1,5 @@
 -- What the positional reader makes of one byte, and that a refusal goes through every part untouched.
-use mathlib.Core.Path.{◌≡◌, refl, sym, ap, ◌∙◌}
+use mathlib.Core.Path.{◌≡◌, refl, sym, ◌∙◌}
 use mathlib.Core.Logic.{◌≢◌}
 use mathlib.Core.Bool.{Bool, true, false}
 use mathlib.Core.List.{List}
@@ -14,8 +14,8 @@ use Rattle.std.specs.Prelude.{Ok, Err}
 use Rattle.answers.specs.declared.refusals.Refusal.{Refusal}
 use Rattle.answers.specs.declared.refusals.Refusal.TheVariants as refusals
 use Rattle.reader.specs.declared.Fault.{Fault}
-use Rattle.reader.specs.Verdicts.{Verdict, bad}
-use Rattle.reader.specs.Positional.{and_then, next_byte, within, checked_at, wanted_from, symbol_from, symbols_from, marked_from, right_from, left_from, record_from, each_record_from}
+use Rattle.reader.specs.Verdicts.{Verdict, bad, and_then}
+use Rattle.reader.specs.Positional.{next_byte, within, checked_at, wanted_from, symbol_from, symbols_from, marked_from, right_from, left_from, record_from, each_record_from}
 
 abbrev pub Passes : (Verdict → Verdict) → Type 0
 Passes K = (fault : Fault) → K (Err fault) ≡ Err fault
@@ -77,11 +77,3 @@ module _ (b : List ℕ) (T N : ℕ) where
   unfolding each_record_from record_from left_from right_from next_byte symbols_from wanted_from marked_from and_then
   records_pass zero fault = refl
   records_pass (suc p) fault = records_pass p fault
-
--- a refusal leaves every part as it came
-pub wanted_pass : (b : List ℕ) (low high : ℕ) (why : Refusal) → Passes (wanted_from b low high why)
-unfolding wanted_from and_then
-wanted_pass b low high why fault = refl
-
-pub stays : {v : Verdict} {fault : Fault} (K : Verdict → Verdict) → Passes K → v ≡ Err fault → Err fault ≡ K v
-stays {fault = fault} K passes e = sym (ap K e ∙ passes fault)

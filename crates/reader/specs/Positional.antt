@@ -4,12 +4,7 @@ use Rattle.std.specs.Prelude.{Bool, true, false, ◌&&◌, List, ℕ, zero, suc,
 use Rattle.answers.specs.Limits.{most_tokens, most_nonterminals, most_productions, most_symbols}
 use Rattle.answers.specs.declared.refusals.Refusal.{Refusal}
 use Rattle.answers.specs.declared.refusals.Refusal.TheVariants as refusals
-use Rattle.reader.specs.Verdicts.{Verdict, bad}
-
--- reading goes on from a next place, and a refusal stays
-unfoldable pub and_then : Verdict → (ℕ → Verdict) → Verdict
-and_then (Ok at) next = next at
-and_then (Err fault) next = Err fault
+use Rattle.reader.specs.Verdicts.{Verdict, bad, and_then}
 
 -- the byte that is next, 0 after a refusal
 unfoldable pub next_byte : List ℕ → Verdict → ℕ

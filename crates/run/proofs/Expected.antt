@@ -1,4 +1,5 @@
 -- The expected set as the code collects it, and the answer to an outcome.
+use Rattle.std.specs.Prelude.{Ok, Err}
 use mathlib.Core.Path.{◌≡◌, refl, ◌∙◌, ap}
 use mathlib.Core.Logic.{◌≢◌}
 use mathlib.Core.Bool.{false, and-false, or-false}
@@ -25,8 +26,8 @@ use Rattle.machine.specs.declared.Reason.{Reason}
 use Rattle.machine.specs.declared.Reason.TheVariants.{FullList, FullStack, WantsEnd, WantsToken, WantsRow}
 use Rattle.offer.specs.Stops.{marking, filled_below, expected, number_of, detail_of, values_of, deepest_in, answer_of}
 use Rattle.offer.specs.declared.Progress.{Progress}
-use Rattle.offer.specs.declared.Reply.TheVariants.{Taken, Stopped, Refused}
-use Rattle.offer.specs.declared.Reply.{Reply}
+use Rattle.offer.specs.declared.Halt.TheVariants.{Stopped, Refused}
+use Rattle.offer.specs.Reply.{Reply}
 use Rattle.run.specs.Answering.{RowColumns, Expects, progress_in, Values, Answers}
 
 -- a place past the width adds nothing
@@ -81,14 +82,14 @@ module _ {o : Outline} (table : List ℕ) {reason : Reason} {r : Set} where
 
 module _ {o : Outline} (table : List ℕ) {reply : Reply} {at : Progress} {steps : ℕ} {r : Answer}
     (here : at ≡ progress_in reply) (counts : steps ≡ at.listed + at.matched) where
-  pub values_done : {x : Progress} → reply ≡ Taken x → r ≡ done steps → Values o table reply r
+  pub values_done : {x : Progress} → reply ≡ Ok x → r ≡ done steps → Values o table reply r
   unfolding values_of
   values_done {x} e f =
       let same : at ≡ x = here ∙ ap progress_in e in
       record { values = λ g sized. f ∙ ap done counts ∙ rw (e, same) }
 
   pub values_stop : {x : Progress} {reason : Reason} {n place d : ℕ} {set : Set}
-      → reply ≡ Stopped reason x
+      → reply ≡ Err (Stopped reason x)
       → Expects o table reason set
       → n ≡ number_of reason
       → place ≡ at.matched
@@ -101,15 +102,15 @@ module _ {o : Outline} (table : List ℕ) {reply : Reply} {at : Progress} {steps
       record { values = λ g sized. f ∙ rw (number_is, place_is, detail_is, counts, expects.given g sized, e, same) }
 
 -- a refusal is its answer
-pub values_refused : {o : Outline} (table : List ℕ) {reply : Reply} {r : Answer} → reply ≡ Refused r → Values o table reply r
+pub values_refused : {o : Outline} (table : List ℕ) {reply : Reply} {r : Answer} → reply ≡ Err (Refused r) → Values o table reply r
 unfolding values_of
 values_refused table e = record { values = λ g sized. rw e }
 
 progress_deepest : (reply : Reply) → (progress_in reply).deepest ≡ deepest_in reply
 unfolding deepest_in
-progress_deepest (Taken at) = refl
-progress_deepest (Stopped reason at) = refl
-progress_deepest (Refused answer) = refl
+progress_deepest (Ok at) = refl
+progress_deepest (Err (Stopped reason at)) = refl
+progress_deepest (Err (Refused answer)) = refl
 
 -- the values and the most stack cells held are the answer
 pub answers_at : {o : Outline} (table : List ℕ) {reply : Reply} {at : Progress} {values r : Answer}

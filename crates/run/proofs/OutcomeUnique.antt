@@ -1,5 +1,6 @@
 -- Any two outcomes that the promises of running allow of the same inputs are equal, the answer and every buffer.
-use mathlib.Core.Path.{◌≡◌, refl}
+use Rattle.std.specs.Prelude.{Some, None}
+use mathlib.Core.Path.{◌≡◌, refl, ap}
 use mathlib.Core.List.{List}
 use Prim.Native.Nat.{ℕ}
 use native.Mathlib.Omega.{arith}
@@ -7,8 +8,8 @@ use lib.ListN.{length, drop}
 use Rattle.grammar.specs.Grammar.{Grammar}
 use Rattle.answers.specs.declared.Answer.{Answer}
 use Rattle.answers.specs.Buffers.{over, cleared}
-use Rattle.answers.specs.Lowest.{Lowest}
-use Rattle.answers.proofs.Promise.{lowest_unique}
+use Rattle.answers.specs.Lowest.{LowestIn}
+use Rattle.answers.proofs.Promise.{Unique, lowest_unique, lowest_or_count}
 use Rattle.table.proofs.Promise.{misfit_not_fit, misfit_unique}
 use Rattle.machine.specs.Machine.{final}
 use Rattle.stack.proofs.Promise.{Call, refused, barred, ended, Apart, call_unique}
@@ -22,11 +23,11 @@ pub first_strange_unique : {g : Grammar} {tokens : List ℕ} {i j : ℕ} → Fir
 first_strange_unique a b = lowest_unique a.lowest b.lowest
 
 -- and so is the first token that is not below a limit
-pub first_above_unique : (limit : ℕ) (tokens : List ℕ) {i j : ℕ}
-    → Lowest (Strange limit tokens) (length tokens) i
-    → Lowest (Strange limit tokens) (length tokens) j
-    → i ≡ j
-first_above_unique limit tokens = lowest_unique
+pub first_above_unique : (limit : ℕ) (tokens : List ℕ) → Unique (LowestIn (Strange limit tokens) (length tokens))
+first_above_unique limit tokens None None a b = refl
+first_above_unique limit tokens None (Some j) a b = absurd (a j b.inside b.holds)
+first_above_unique limit tokens (Some i) None a b = absurd (b i a.inside a.holds)
+first_above_unique limit tokens (Some i) (Some j) a b = ap Some (lowest_unique (lowest_or_count (Some i) a) (lowest_or_count (Some j) b))
 
 module _ {g : Grammar} {table tokens stack : List ℕ} where
   -- what is refused before steps is refused with one answer

@@ -1,22 +1,19 @@
 -- The answer of a run from the reply that the code has for its outcome.
 use mathlib.Core.Path.{◌≡◌, refl, ◌∙◌, ap, subst}
-use mathlib.Core.Logic.{◌≢◌}
 use mathlib.Core.List.{List}
 use Prim.Native.Nat.{ℕ, ◌+◌, ◌-◌, ◌^◌, ◌≤◌, ◌<◌}
 use native.Mathlib.Omega.{arith}
 use lib.ListN.{length, take, drop, length-drop}
 use lib.Seq.{take_all}
 use Rattle.grammar.specs.Grammar.{Grammar}
-use Rattle.answers.specs.Answers.{done, refusal, stop, at_depth}
+use Rattle.answers.specs.Answers.{refusal, stop, at_depth}
 use Rattle.answers.specs.declared.Answer.{Answer}
 use Rattle.answers.specs.Buffers.{counted}
-use Rattle.answers.specs.Checks.{passes, stops, goes}
-use Rattle.answers.proofs.Promise.{checked_goes}
-use Rattle.book.specs.Judging.{Judged}
-use Rattle.book.specs.declared.Reading.{Reading}
-use Rattle.book.specs.Columns.{outline_in, outlined, Outlines}
+use Rattle.book.specs.Judging.{Refuses, Indexes}
+use Rattle.book.specs.declared.Index.{Index}
+use Rattle.book.specs.Columns.{grammar_in, Outlines}
 use Rattle.book.specs.declared.columns.Outline.{Outline}
-use Rattle.book.proofs.Promise.{judged_done, judged_refused, reading_grammar}
+use Rattle.book.proofs.Promise.{reading_grammar}
 use Rattle.table.specs.Table.{cell_of}
 use Rattle.machine.specs.Machine.{State, Offered, taken, stopped, final}
 use Rattle.machine.specs.Room.{right_of}
@@ -27,14 +24,13 @@ use Rattle.offer.specs.Strings as strings
 use Rattle.offer.specs.Resuming.{progress_of, reported}
 use Rattle.offer.specs.Stops.{expected, run_answer, values_of, deepest_in, answer_of}
 use Rattle.offer.specs.declared.Progress.{Progress}
-use Rattle.offer.specs.declared.Reply.{Reply}
+use Rattle.offer.specs.Reply.{Reply}
 use Rattle.offer.proofs.Promise.{reply_told}
 use Rattle.run.specs.Answering.{progress_in, Answers}
 use Rattle.run.specs.Beside.{Shown}
-use Rattle.run.specs.Checking.{RunChecked}
 use Rattle.run.specs.Judged.{RanOn, no_stack, ended}
 use Rattle.run.specs.Accounting.{AccountedOn, Accounted}
-use Rattle.run.specs.Running.{Barred, bad_table, too_long, strange, Admits, RunOutcome, matched_in, words_of}
+use Rattle.run.specs.Running.{Barred, Admits, RunOutcome, matched_in, words_of}
 use Rattle.run.specs.declared.Account.{Account}
 
 progress_reported : (o : Offered) → progress_in (reported o) ≡ progress_of (final o)
@@ -89,30 +85,11 @@ module _ {g : Grammar} {table tokens stack list : List ℕ} where
   judged_answered (strings.no_stack e) sized a = rw (a.answer g sized) (no_stack e)
   judged_answered (strings.ended h) sized a = rw (ran_answered g table tokens stack list refl sized a) (ended h)
 
--- a refusal before steps has a number
-barred_some : {g : Grammar} {table tokens stack : List ℕ} {a : Answer} → Barred g table tokens stack a → a.number ≢ 0
-unfolding refusal
-barred_some (bad_table m) e = omega arith
-barred_some (too_long f h) e = omega arith
-barred_some (strange f h s) e = omega arith
-barred_some (Barred.no_stack f h k l) e = omega arith
-
-module _ {g : Grammar} {table tokens stack : List ℕ} where
-  checked_barred : {a : Answer} → RunChecked g table tokens stack a → a.number ≢ 0 → Barred g table tokens stack a
-  unfolding done
-  checked_barred (passes d) n = absurd (d refl)
-  checked_barred (stops d h) n = h
-  checked_barred (goes d h) n = absurd (n refl)
-
-  pub checked_admits : {a : Answer} → RunChecked g table tokens stack a → a.number ≡ 0 → Admits g table tokens stack
-  checked_admits h e = (checked_goes (λ a b. barred_some b) h e).1
-
-  pub account_barred : {list : List ℕ} {a : Answer}
-      → RunChecked g table tokens stack a
-      → a.number ≢ 0
-      → AccountedOn g table tokens stack list (record { answer = a; matched = 0 }) stack list
-  unfolding matched_in
-  account_barred h n = record { served = λ serves. record { run = RunOutcome.barred serves (checked_barred h n); matched = refl } }
+pub account_barred : {g : Grammar} {table tokens stack list : List ℕ} {a : Answer}
+    → Barred g table tokens stack a
+    → AccountedOn g table tokens stack list (record { answer = a; matched = 0 }) stack list
+unfolding matched_in
+account_barred barred = record { served = λ serves. record { run = RunOutcome.barred serves barred; matched = refl } }
 
 -- what is left when steps have been made and counted
 pub account_stepped : {g : Grammar} {table tokens stack list : List ℕ} {o : Outline} {reply : Reply} {at : Progress} {r : Answer} {stack' list' : List ℕ}
@@ -128,19 +105,17 @@ account_stepped {g} {table} {tokens} {stack} {list} admits sized (strings.ended 
     let matched = ap (λ (x : Progress). x.matched) here ∙ reply_matched g table tokens stack list refl in
     rw (ran_answered g table tokens stack list refl sized a) (record { served = λ serves. record { run = RunOutcome.ended serves admits; matched = matched } })
 
-module _ {book table tokens stack list : List ℕ} {reading : Reading} (judged : Judged book reading) where
-  pub account_refused : reading.answer.number ≢ 0
-      → Accounted book table tokens stack list (record { answer = reading.answer; matched = 0 }) stack list
+module _ {book table tokens stack list : List ℕ} where
+  pub account_refused : {a : Answer} → Refuses book a → Accounted book table tokens stack list (record { answer = a; matched = 0 }) stack list
   unfolding matched_in
-  account_refused n = record { run = RunOutcome.refused (judged_refused judged n).0; matched = refl }
+  account_refused refuses = record { run = RunOutcome.refused refuses; matched = refl }
 
-  pub account_served : {r : Account} {stack' list' : List ℕ}
-      → reading.answer.number ≡ 0
-      → AccountedOn (outlined book reading.places (outline_in reading)) table tokens stack list r stack' list'
+  pub account_served : {index : Index} {r : Account} {stack' list' : List ℕ}
+      → Indexes book index
+      → AccountedOn (grammar_in book index) table tokens stack list r stack' list'
       → Accounted book table tokens stack list r stack' list'
-  account_served {r} {stack'} {list'} none on =
-      let (g, serves, same) = judged_done judged none in
-      (subst (λ (g : Grammar). AccountedOn g table tokens stack list r stack' list') (reading_grammar serves same) on).served serves
+  account_served {r = r} {stack' = stack'} {list' = list'} indexes on =
+      (subst (λ (g : Grammar). AccountedOn g table tokens stack list r stack' list') (reading_grammar indexes.serves indexes.index) on).served indexes.serves
 
 module _ {book table tokens stack list : List ℕ} where
   -- no more tokens are matched than there are

@@ -1,7 +1,7 @@
 -- The answer to a reply, and the expected set of a stop, for every grammar with these numbers.
 -- Document 01, "Refusals and their numbers" and "Running and expanding". Only contracts inside the crate cite what
 -- stands here.
-use Rattle.std.specs.Prelude.{◌≡◌, List, ℕ, ◌+◌}
+use Rattle.std.specs.Prelude.{◌≡◌, List, ℕ, ◌+◌, Ok, Err}
 use Rattle.grammar.specs.Grammar.{Grammar}
 use Rattle.sets.specs.Calls.{number}
 use Rattle.sets.specs.declared.Set.{Set}
@@ -11,8 +11,8 @@ use Rattle.book.specs.declared.columns.Outline.{Outline}
 use Rattle.machine.specs.declared.Reason.{Reason}
 use Rattle.offer.specs.Stops.{filled_below, expected, values_of, answer_of}
 use Rattle.offer.specs.declared.Progress.{Progress}
-use Rattle.offer.specs.declared.Reply.TheVariants.{Taken, Stopped, Refused}
-use Rattle.offer.specs.declared.Reply.{Reply}
+use Rattle.offer.specs.declared.Halt.TheVariants.{Stopped, Refused}
+use Rattle.offer.specs.Reply.{Reply}
 
 -- the filled columns of row A below the last are marked, and then that one too
 pub record WithColumn (o : Outline) (table : List ℕ) (A column : ℕ) (before after : Set) : Type 0 where
@@ -30,9 +30,9 @@ pub record Expects (o : Outline) (table : List ℕ) (reason : Reason) (r : Set) 
 
 -- the counts of a reply; where the book was refused there are none
 abbrev pub progress_in : Reply → Progress
-progress_in (Taken at) = at
-progress_in (Stopped reason at) = at
-progress_in (Refused answer) = record { height = 0; listed = 0; matched = 0; deepest = 0 }
+progress_in (Ok at) = at
+progress_in (Err (Stopped reason at)) = at
+progress_in (Err (Refused answer)) = record { height = 0; listed = 0; matched = 0; deepest = 0 }
 
 -- the values of a reply, and the answer to it
 pub record Values (o : Outline) (table : List ℕ) (reply : Reply) (r : Answer) : Type 0 where

@@ -1,9 +1,9 @@
 -- What is checked of a token string, whatever book of T tokens it is run on.
 -- Document 01, "Refusals and their numbers".
-use Rattle.std.specs.Prelude.{List, ℕ, ◌<◌, ◌≤◌, length, get_or}
+use Rattle.std.specs.Prelude.{List, ℕ, ◌<◌, ◌≤◌, length, get_or, ⊤, Result}
 use Rattle.answers.specs.declared.Answer.{Answer}
-use Rattle.answers.specs.Answers.{done, refusal}
-use Rattle.answers.specs.Checks.{Checked}
+use Rattle.answers.specs.Answers.{refusal}
+use Rattle.answers.specs.Checks.{Tested}
 use Rattle.answers.specs.Limits.{longest_string}
 use Rattle.answers.specs.Lowest.{Lowest}
 use Rattle.answers.specs.Refusals.{limit, token}
@@ -24,5 +24,5 @@ pub record KnownTokens (T : ℕ) (tokens : List ℕ) : Type 0 where
   pub known : (i : ℕ) → i < length tokens → get_or tokens i 0 < T
 
 -- barred with the refusal, or all known
-abbrev pub TokensChecked : (T : ℕ) (tokens : List ℕ) → Answer → Type 0
-TokensChecked T tokens = Checked (done 0) (BarredTokens T tokens) (KnownTokens T tokens)
+abbrev pub TokensChecked : (T : ℕ) (tokens : List ℕ) → Result ⊤ Answer → Type 0
+TokensChecked T tokens = Tested (BarredTokens T tokens) (KnownTokens T tokens)

@@ -1,13 +1,14 @@
 // The answer to a run that has ended: the paper's number, place, detail, steps and expected set, and the depth.
 ghost use Rattle.std.specs.Prelude.{◌≡◌, ◌+◌, ◌^◌, ◌<◌};
+ghost use Rattle.answers.specs.Refusals as refusals;
 ghost use Rattle.offer.specs.Stops.{number_of, detail_of};
 ghost use Rattle.run.specs.Answering.{WithColumn, RowColumns, Expects, progress_in, Values, Answers};
 
-use answers::refusals::{LIST_ROOM, ROOM, STACK_ROOM, SYNTAX};
+use answers::refusals::{Lent, Refusal};
 use answers::{Answer, at_depth, done, stop};
 use book::columns::Outline;
 use machine::Reason;
-use offer::{Progress, Reply};
+use offer::{Halt, Progress};
 use sets::{END_MARK, Set, column_bit, none, with};
 use table::VACANT;
 use table::fitting::cell_at;
@@ -28,12 +29,9 @@ fn with_column(columns: Set, table: &[u8], outline: Outline, n: u8, j: u8) -> Se
 fn row_columns(table: &[u8], outline: Outline, n: u8) -> Set
     ensures { RowColumns outline table.now n result }
 {
-    let last = outline.tokens as usize;
     let mut columns = none();
-    let mut j: usize = 0;
-    while j <= last {
-        columns = with_column(columns, table, outline, n, j as u8);
-        j += 1;
+    for j in 0..=outline.tokens {
+        columns = with_column(columns, table, outline, n, j);
     }
     columns
 }
@@ -51,16 +49,16 @@ fn expects(table: &[u8], outline: Outline, reason: Reason) -> Set
     }
 }
 
-// The paper's number of a stop.
-fn number_of(reason: Reason) -> u32
-    ensures { result ≡ number_of reason }
+// The refusal of a stop.
+fn refusal_of(reason: Reason) -> Refusal
+    ensures { refusals.number_of result ≡ number_of reason }
 {
     match reason {
-        Reason::FullList => ROOM,
-        Reason::FullStack => ROOM,
-        Reason::WantsEnd => SYNTAX,
-        Reason::WantsToken(_) => SYNTAX,
-        Reason::WantsRow(_) => SYNTAX,
+        Reason::FullList => Refusal::Room,
+        Reason::FullStack => Refusal::Room,
+        Reason::WantsEnd => Refusal::Syntax,
+        Reason::WantsToken(_) => Refusal::Syntax,
+        Reason::WantsRow(_) => Refusal::Syntax,
     }
 }
 
@@ -69,8 +67,8 @@ fn detail_of(reason: Reason) -> u64
     ensures { result ≡ detail_of reason }
 {
     match reason {
-        Reason::FullList => LIST_ROOM,
-        Reason::FullStack => STACK_ROOM,
+        Reason::FullList => Lent::List.detail(),
+        Reason::FullStack => Lent::Stack.detail(),
         Reason::WantsEnd => 0,
         Reason::WantsToken(_) => 0,
         Reason::WantsRow(_) => 0,
@@ -78,13 +76,16 @@ fn detail_of(reason: Reason) -> u64
 }
 
 // The counts of a reply.
-pub(crate) fn progress_of(reply: Reply) -> Progress
+pub(crate) fn progress_of(reply: Result<Progress, Halt>) -> Progress
     ensures { result ≡ progress_in reply }
 {
-    match reply {
-        Reply::Taken(at) => at,
-        Reply::Stopped(_, at) => at,
-        Reply::Refused(_) => Progress {
+    let halt = match reply {
+        Ok(at) => return at,
+        Err(halt) => halt,
+    };
+    match halt {
+        Halt::Stopped(_, at) => at,
+        Halt::Refused(_) => Progress {
             height: 0,
             listed: 0,
             matched: 0,
@@ -102,30 +103,34 @@ fn steps_of(at: Progress) -> u64
 }
 
 // The paper's values of a reply.
-fn values_of(table: &[u8], outline: Outline, reply: Reply) -> Answer
+fn values_of(table: &[u8], outline: Outline, reply: Result<Progress, Halt>) -> Answer
     requires { (progress_in reply).listed + (progress_in reply).matched < 2 ^ 64 }
     ensures { Values outline table.now reply result }
 {
     let at = progress_of(reply);
     let steps = steps_of(at);
-    match reply {
-        Reply::Taken(_) => done(steps),
-        Reply::Stopped(reason, _) => {
+    let halt = match reply {
+        Ok(_) => return done(steps),
+        Err(halt) => halt,
+    };
+    match halt {
+        Halt::Stopped(reason, _) => {
             let expected = expects(table, outline, reason);
+            let place = at.matched as u64;
             stop(
-                number_of(reason),
-                at.matched as u64,
+                refusal_of(reason),
+                place,
                 detail_of(reason),
                 steps,
                 expected,
             )
         }
-        Reply::Refused(answer) => answer,
+        Halt::Refused(answer) => answer,
     }
 }
 
 // The answer to a run that ends with this reply: its values, and the most stack cells held.
-pub(crate) fn answer_of(table: &[u8], outline: Outline, reply: Reply) -> Answer
+pub(crate) fn answer_of(table: &[u8], outline: Outline, reply: Result<Progress, Halt>) -> Answer
     requires { (progress_in reply).listed + (progress_in reply).matched < 2 ^ 64 }
     ensures { Answers outline table.now reply result }
 {

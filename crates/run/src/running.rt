@@ -1,5 +1,5 @@
 // A whole token string run: judging, checks, steps and the answer.
-ghost use Rattle.book.specs.Columns.{grammar_in, outlined};
+ghost use Rattle.book.specs.Columns.{grammar_in};
 ghost use Rattle.run.specs.Accounting.{AccountedOn, Accounted};
 ghost use Rattle.run.specs.Judged.{RanOn, JudgedRun};
 ghost use Rattle.run.specs.Running.{RunOutcome};
@@ -7,24 +7,22 @@ ghost use Rattle.run.specs.Running.{RunOutcome};
 use crate::Account;
 use crate::answering::{answer_of, progress_of};
 use crate::checking::check;
-use answers::refusals::DONE;
 use answers::{Answer, at_depth};
-use book::Reading;
-use book::columns::{Outline, outline_of};
+use book::Index;
 use book::judging::judge;
 use offer::strings::offer_string;
 
-// A run on the grammar that a reading tells of.
+// A run on the grammar that an index tells of.
 fn run_on(
     book: &[u8],
-    reading: Reading,
+    index: &Index,
     table: &[u8],
     tokens: &[u8],
     stack: &mut [u8],
     list: &mut [u8],
 ) -> Answer
     ensures { RanOn
-        (grammar_in book.now reading)
+        (grammar_in book.now index.now)
         table.now
         tokens.now
         stack.old
@@ -33,17 +31,15 @@ fn run_on(
         stack.new
         list.new }
 {
-    let places = reading.places;
-    let outline = outline_of(reading);
-    let reply = offer_string(book, &places, outline, table, tokens, stack, list);
-    answer_of(table, outline, reply)
+    let reply = offer_string(book, index, table, tokens, stack, list);
+    answer_of(table, index.outline, reply)
 }
 
 // A run on a book that is judged already, whatever the reading: table and tokens are not checked. Where the book was
 // refused, that is the answer, with depth 0 since no step is made, and nothing changes.
 pub fn run_judged(
     book: &[u8],
-    reading: Reading,
+    reading: Result<Index, Answer>,
     table: &[u8],
     tokens: &[u8],
     stack: &mut [u8],
@@ -60,25 +56,23 @@ pub fn run_judged(
         stack.new
         list.new }
 {
-    let told = reading.answer;
-    if told.number != DONE {
-        return at_depth(told, 0);
+    match reading {
+        Ok(index) => run_on(book, &index, table, tokens, stack, list),
+        Err(refused) => at_depth(refused, 0),
     }
-    run_on(book, reading, table, tokens, stack, list)
 }
 
 // The checks, and the steps where these admit them.
 fn account_on(
     book: &[u8],
-    places: &[u16],
-    outline: Outline,
+    index: &Index,
     table: &[u8],
     tokens: &[u8],
     stack: &mut [u8],
     list: &mut [u8],
 ) -> Account
     ensures { AccountedOn
-        (outlined book.now places.now outline)
+        (grammar_in book.now index.now)
         table.now
         tokens.now
         stack.old
@@ -87,17 +81,13 @@ fn account_on(
         stack.new
         list.new }
 {
-    let checked = check(book, places, outline, table, tokens, stack.len());
-    if checked.number != DONE {
-        return Account {
-            answer: checked,
-            matched: 0,
-        };
+    if let Err(answer) = check(book, index, table, tokens, stack.len()) {
+        return Account { answer, matched: 0 };
     }
-    let reply = offer_string(book, places, outline, table, tokens, stack, list);
+    let reply = offer_string(book, index, table, tokens, stack, list);
     let at = progress_of(reply);
     Account {
-        answer: answer_of(table, outline, reply),
+        answer: answer_of(table, index.outline, reply),
         matched: at.matched,
     }
 }
@@ -120,17 +110,10 @@ pub(crate) fn account(
         stack.new
         list.new }
 {
-    let reading = judge(book);
-    let judged = reading.answer;
-    if judged.number != DONE {
-        return Account {
-            answer: judged,
-            matched: 0,
-        };
+    match judge(book) {
+        Ok(index) => account_on(book, &index, table, tokens, stack, list),
+        Err(answer) => Account { answer, matched: 0 },
     }
-    let places = reading.places;
-    let outline = outline_of(reading);
-    account_on(book, &places, outline, table, tokens, stack, list)
 }
 
 // A token string run on a book and a table.

@@ -5,8 +5,8 @@ pub use Rattle.stack.proofs.Stacked.{every_append, every_rest, length_bytes, len
 pub use Rattle.stack.proofs.Stacked.{stacked_pop, stacked_replace, stacked_open, stacked_spelled, stacked_again}
 pub use Rattle.stack.proofs.Stacked.{length_stacked, spelled_stacked}
 pub use Rattle.stack.proofs.Replacing.{replacing_fits}
-pub use Rattle.stack.proofs.Next.{ahead_front, next_first, end_none}
+pub use Rattle.stack.proofs.Next.{next_first, end_none}
 pub use Rattle.stack.proofs.Sides.{right_side, spelled_none, spelled_top, replaced_length}
 pub use Rattle.stack.proofs.Calls.{Call, refused, barred, ended, Apart, call_unique}
-pub use Rattle.stack.proofs.Unique.{ahead_unique, lower_unique, counts_unique}
+pub use Rattle.stack.proofs.Unique.{ahead_unique, counts_unique}
 pub use Rattle.stack.proofs.Unique.{put_start_unique, replace_unique, clear_unique}

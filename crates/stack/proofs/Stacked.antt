@@ -71,30 +71,27 @@ set_above : (us l : List ℕ) (i j v : ℕ) → i + length us ≤ j → sets (se
 set_above [] l i j v h = refl
 set_above (u ∷ us) l i j v h = ap (λ (m : List ℕ). sets m (suc i) us) (set_comm l j i v u (λ e. omega arith)) ∙ set_above us (set l i u) (suc i) j v (omega arith)
 
-pub push_start : (book : List ℕ) (at height count : ℕ) (stack : List ℕ)
-    → sets stack height (stack_bytes (form_in book (at + 4 + 0) (height + count - height))) ≡ sets stack height (stack_bytes (form_in book (at + 4) count))
-push_start book at height count stack = let same : height + count - height ≡ count = omega arith in rw (same, add-zero)
-
 -- a loop that writes the symbols from the top down puts them on the stack
-pub push_turn : (book : List ℕ) (at height top i : ℕ) (stack : List ℕ) {v : ℕ}
-    → height < top
+pub push_turn : (book : List ℕ) (at height count i : ℕ) (stack : List ℕ) {v : ℕ}
+    → i < count
     → v ≡ byte_of (symbol_at book at i)
-    → sets (set stack (top - 1) v) height (stack_bytes (form_in book (at + 4 + (i + 1)) (top - 1 - height))) ≡ sets stack height (stack_bytes (form_in book (at + 4 + i) (top - height)))
+    → sets (set stack (height + count - 1 - i) v) height (stack_bytes (form_in book (at + 4 + (i + 1)) (count - (i + 1)))) ≡ sets stack height (stack_bytes (form_in book (at + 4 + i) (count - i)))
 unfolding stack_bytes form_in symbol_at
-push_turn book at height top i stack {v} h e =
-    let rest : List ℕ = stack_bytes (form_in book (suc (at + 4 + i)) (top - 1 - height)) in
-    let more : top - height ≡ suc (top - 1 - height) = omega arith in
-    let reach : height + length rest ≡ top - 1 = omega (arith, length_bytes (form_in book (suc (at + 4 + i)) (top - 1 - height)), length_symbols book (suc (at + 4 + i)) (top - 1 - height)) in
+push_turn book at height count i stack {v} h e =
+    let top : ℕ = height + count - 1 - i in
+    let rest : List ℕ = stack_bytes (form_in book (suc (at + 4 + i)) (count - (i + 1))) in
+    let more : count - i ≡ suc (count - (i + 1)) = omega arith in
+    let reach : height + length rest ≡ top = omega (arith, length_bytes (form_in book (suc (at + 4 + i)) (count - (i + 1))), length_symbols book (suc (at + 4 + i)) (count - (i + 1))) in
     let next : at + 4 + (i + 1) ≡ suc (at + 4 + i) = omega arith in
     rw (next, more, e)
-    (set_above rest stack height (top - 1) (byte_of (symbol_at book at i)) (omega arith)
+    (set_above rest stack height top (byte_of (symbol_at book at i)) (omega arith)
     ∙ sym (sets_append rest (byte_of (symbol_at book at i) ∷ []) stack height ∙ ap (λ (k : ℕ). set (sets stack height rest) k (byte_of (symbol_at book at i))) reach))
 
-pub push_over : (book : List ℕ) (at height top i : ℕ) (stack : List ℕ)
-    → top ≤ height
-    → sets stack height (stack_bytes (form_in book (at + 4 + i) (top - height))) ≡ stack
+pub push_over : (book : List ℕ) (at height count i : ℕ) (stack : List ℕ)
+    → count ≤ i
+    → sets stack height (stack_bytes (form_in book (at + 4 + i) (count - i))) ≡ stack
 unfolding form_in stack_bytes
-push_over book at height top i stack h = let none : top - height ≡ 0 = omega arith in rw none
+push_over book at height count i stack h = let none : count - i ≡ 0 = omega arith in rw none
 
 zeros : (m n : ℕ) → n < m → replicate {A = ℕ} (m - n) 0 ≡ 0 ∷ replicate (m - suc n) 0
 zeros m n h = let one : m - n ≡ suc (m - suc n) = omega arith in ap (λ (k : ℕ). replicate {A = ℕ} k 0) one

@@ -1,4 +1,5 @@
 -- No contract of the crate allows a second outcome.
+use Rattle.std.specs.Prelude.{Option}
 use mathlib.Core.Path.{◌≡◌}
 use mathlib.Core.List.{List}
 use Prim.Native.Nat.{ℕ, ◌+◌, ◌%◌, min}
@@ -9,18 +10,14 @@ use Rattle.answers.specs.Buffers.{cleared}
 use Rattle.answers.specs.Limits.{most_cells}
 use Rattle.reader.specs.Book.{byte_of}
 use Rattle.reader.specs.Fields.{form_in}
-use Rattle.stack.specs.declared.Ahead.{Ahead}
 use Rattle.stack.specs.Ahead.{ahead_in}
 use Rattle.stack.specs.Stack.{stack_bytes, replacing}
 
-pub ahead_unique : (bytes : List ℕ) (i : ℕ) {r r' : Ahead}
+pub ahead_unique : (bytes : List ℕ) (i : ℕ) {r r' : Option ℕ}
     → r ≡ ahead_in (drop i bytes)
     → r' ≡ ahead_in (drop i bytes)
     → r ≡ r'
 ahead_unique bytes i = value_unique
-
-pub lower_unique : (x y : ℕ) {r r' : ℕ} → r ≡ min x y → r' ≡ min x y → r ≡ r'
-lower_unique x y = value_unique
 
 pub counts_unique : (cells : ℕ) {r r' : ℕ} → r ≡ min cells most_cells → r' ≡ min cells most_cells → r ≡ r'
 counts_unique cells = value_unique

@@ -1,7 +1,7 @@
 // What a run and an expansion share: the stack as bytes, how many cells of a lent buffer count, and what comes next.
 #![tactic(auto)]
 
-ghost use Rattle.std.specs.Prelude.{◌≡◌, ◌+◌, ◌%◌, ◌≤◌, min, max, length, drop, set};
+ghost use Rattle.std.specs.Prelude.{◌≡◌, ◌+◌, ◌%◌, ◌≤◌, min, length, drop, set};
 ghost use Rattle.std.proofs.lemmas.List.Edits.{sets};
 ghost use Rattle.grammar.specs.declared.Symbol.TheVariants.{Nonterminal};
 ghost use Rattle.answers.specs.Buffers.{cleared};
@@ -14,43 +14,18 @@ ghost use Rattle.stack.specs.Stack.{stack_bytes, replacing};
 use answers::limits::MOST_CELLS;
 use reader::fields::symbol_byte;
 
-// What comes next in a string of bytes: one of them, or the end.
-#[derive(Clone, Copy)]
-pub enum Ahead {
-    Next(u8),
-    End,
-}
-
 // What comes after the first i bytes.
-pub fn ahead_of(bytes: &[u8], i: usize) -> Ahead
+pub fn ahead_of(bytes: &[u8], i: usize) -> Option<u8>
     ensures { result ≡ ahead_in (drop i bytes.now) }
 {
-    if i < bytes.len() {
-        Ahead::Next(bytes[i])
-    } else {
-        Ahead::End
-    }
-}
-
-// The lower of two numbers.
-pub fn lower(x: usize, y: usize) -> usize
-    ensures { result ≡ min x y }
-{
-    if x < y { x } else { y }
-}
-
-// The greater of two numbers.
-pub fn greater(x: usize, y: usize) -> usize
-    ensures { result ≡ max x y }
-{
-    if x < y { y } else { x }
+    bytes.get(i).copied()
 }
 
 // How many cells count of a lent buffer that has so many.
 pub fn counts(cells: usize) -> usize
     ensures { result ≡ min cells most_cells }
 {
-    lower(cells, MOST_CELLS)
+    cells.min(MOST_CELLS)
 }
 
 // The start symbol is put into the lowest cell, where there is one.
@@ -68,12 +43,9 @@ fn push(book: &[u8], at: u16, count: u8, stack: &mut [u8], height: usize)
     ensures { stack.new
         ≡ sets stack.old height (stack_bytes (form_in book.now (at + 4) count)) }
 {
-    let mut top = height + count as usize;
-    let mut i: u8 = 0;
-    while height < top {
-        top -= 1;
-        stack[top] = symbol_byte(book, at, i);
-        i += 1;
+    let top = height + count as usize;
+    for i in 0..count {
+        stack[top - 1 - i as usize] = symbol_byte(book, at, i);
     }
 }
 
@@ -96,9 +68,5 @@ pub fn replace(book: &[u8], at: u16, count: u8, stack: &mut [u8], below: usize)
 pub fn clear(stack: &mut [u8])
     ensures { stack.new ≡ cleared stack.old }
 {
-    let mut i: usize = 0;
-    while i < stack.len() {
-        stack[i] = 0;
-        i += 1;
-    }
+    stack.fill(0);
 }

@@ -16,15 +16,15 @@ pub overflow_add-row-then-t-outline : goal.overflow_add-row-then-t-outline
 overflow_add-row-then-t-outline c =
     omega (arith, row_fits c.args.n c.args.outline.tokens (search rules) (search rules))
 
-pub overflow_add-row-in-End : goal.overflow_add-row-in-End
-overflow_add-row-in-End c =
+pub overflow_add-row-in-None : goal.overflow_add-row-in-None
+overflow_add-row-in-None c =
     omega (arith, row_fits c.args.n c.args.outline.tokens (search rules) (search rules))
 
 pub returns-then-t-outline : goal.returns-then-t-outline
-returns-then-t-outline c = cell_token _ (omega arith) c.in-Next.is c.if-t-outline.true c.cell_at.ensures
+returns-then-t-outline c = cell_token _ (omega arith) c.in-Some.is c.if-t-outline.true c.cell_at.ensures
 
 pub returns-else-t-outline : goal.returns-else-t-outline
-returns-else-t-outline c = cell_no_token _ (omega arith) c.in-Next.is c.if-t-outline.false
+returns-else-t-outline c = cell_no_token _ (omega arith) c.in-Some.is c.if-t-outline.false
 
-pub returns-in-End : goal.returns-in-End
-returns-in-End c = cell_end _ (omega arith) c.in-End.is c.cell_at-in-End.ensures
+pub returns-in-None : goal.returns-in-None
+returns-in-None c = cell_end _ (omega arith) c.in-None.is c.cell_at-in-None.ensures

@@ -4,10 +4,10 @@ use Rattle.answers.specs.Buffers.{counted}
 use Rattle.offer.proofs.Turning.{Turning}
 use Rattle.offer.proofs.offering.offer_at.Given as goal
 
-abbrev pub invariant-loop-p : goal.invariant-loop-p
-invariant-loop-p l =
-    Turning l.book l.places l.outline l.lengths l.table l.ahead l.at l.initial.stack l.initial.list l.cells l.stack l.list l.height l.listed l.deepest
+abbrev pub invariant-loop-next : goal.invariant-loop-next
+invariant-loop-next l =
+    Turning l.book l.index l.lengths l.table l.ahead l.at l.initial.stack l.initial.list l.cells l.stack l.list l.height l.listed l.deepest
 
-abbrev pub decreases-loop-p : goal.decreases-loop-p
-decreases-loop-p l =
+abbrev pub decreases-loop-next : goal.decreases-loop-next
+decreases-loop-next l =
     counted l.initial.list - l.listed

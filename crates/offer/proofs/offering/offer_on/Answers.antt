@@ -6,4 +6,4 @@ pub offer_at-requires : goal.offer_at-requires
 offer_at-requires c = (rw c.clamp-from.ensures (clamped_ready _ _ _), c.gather_lengths-lengths.ensures)
 
 pub returns : goal.returns
-returns c = offer_resumed _ c.args.reading _ _ c.column_ahead-ahead.ensures _ c.clamp-from.ensures (rw c.outline_of-outline.ensures at c.offer_at.ensures)
+returns c = offer_resumed _ c.args.index.now _ _ c.column_ahead-ahead.ensures _ c.clamp-from.ensures c.offer_at.ensures

@@ -1,7 +1,8 @@
 -- `PR`, the left side, the length, each where the one before it was right.
 use mathlib.Core.Path.{sym, ◌∙◌}
 use Rattle.std.proofs.lemmas.Result.{err_from_is_err_and}
-use Rattle.reader.specs.Positional.{wanted_from, left_from, head_from, and_then}
+use Rattle.reader.specs.Verdicts.{and_then}
+use Rattle.reader.specs.Positional.{wanted_from, left_from, head_from}
 use Rattle.reader.proofs.spelling.head.Goals as goal
 
 pub returns-in_err-left : goal.returns-in_err-left

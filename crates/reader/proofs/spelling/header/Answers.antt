@@ -1,7 +1,8 @@
 -- The six bytes in order, each where the one before it was right.
 use mathlib.Core.Path.{sym, ◌∙◌}
 use Rattle.std.proofs.lemmas.Result.{err_from_is_err_and}
-use Rattle.reader.specs.Positional.{wanted_from, header_of, and_then}
+use Rattle.reader.specs.Verdicts.{and_then}
+use Rattle.reader.specs.Positional.{wanted_from, header_of}
 use Rattle.reader.proofs.spelling.header.Goals as goal
 
 pub returns-in_err-tokens : goal.returns-in_err-tokens

@@ -4,7 +4,7 @@ use Prim.Native.Nat.{◌-◌}
 use native.Mathlib.Omega.{arith}
 use lib.ListN.{length}
 use Rattle.std.proofs.lemmas.Result.{err_from_is_err_and}
-use Rattle.reader.specs.Positional.{and_then}
+use Rattle.reader.specs.Verdicts.{and_then}
 use Rattle.reader.proofs.Guards.{symbols_cut}
 use Rattle.reader.proofs.spelling.right.Goals as goal
 

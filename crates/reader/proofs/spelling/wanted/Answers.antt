@@ -6,7 +6,8 @@ use lib.ListN.{length, get_or}
 use borrow.Author.Tests.{ltb-true, ltb-false}
 use Rattle.std.proofs.lemmas.List.{get_or_read}
 use Rattle.std.specs.Prelude.{Ok}
-use Rattle.reader.specs.Positional.{wanted_from, and_then}
+use Rattle.reader.specs.Verdicts.{and_then}
+use Rattle.reader.specs.Positional.{wanted_from}
 use Rattle.reader.proofs.Passing.{within_right, within_below, within_above, checked_right, checked_wrong, checked_short}
 use Rattle.reader.proofs.spelling.wanted.Goals as goal
 

@@ -1,7 +1,8 @@
 -- What the parts come to, one after another, is what the bytes spell.
 use mathlib.Core.Path.{sym}
 use Rattle.std.proofs.lemmas.Result.{err_from_is_err_and}
-use Rattle.reader.specs.Positional.{end_from, and_then}
+use Rattle.reader.specs.Verdicts.{and_then}
+use Rattle.reader.specs.Positional.{end_from}
 use Rattle.reader.proofs.Joined.{rest_passes, spells_joined}
 use Rattle.reader.proofs.walk.read.Goals as goal
 

@@ -1,19 +1,22 @@
--- One case of `Checked` for each answer.
+-- One case for each answer.
+use mathlib.Core.Path.{sym}
+use Rattle.std.proofs.lemmas.Result.{err_from_is_err_and}
 use Rattle.book.proofs.Promise.{outlined_sized}
-use Rattle.run.proofs.Checks.{check_table, check_barred, check_no_stack, check_done}
+use Rattle.run.specs.Running.{bad_table}
+use Rattle.run.proofs.Checks.{tokens_barred, check_no_stack, check_done}
 use Rattle.run.proofs.checking.check.Goals as goal
 
-pub returns-in-MisfitAt : goal.returns-in-MisfitAt
-returns-in-MisfitAt c = check_table c.check_table-fitting.ensures c.in-MisfitAt.is c.refusal.ensures
+pub returns-in-Err : goal.returns-in-Err
+returns-in-Err c = rw c.refusal.ensures (record { checked = λ stack all. bad_table c.in-Err.ensures })
 
-pub returns-then-checked-ne-DONE : goal.returns-then-checked-ne-DONE
-returns-then-checked-ne-DONE c =
-    check_barred c.check_table-fitting.ensures c.in_default.is (outlined_sized _ _ _) c.check_tokens-checked.ensures c.if-checked-ne-DONE.true
+pub returns-in_err-check_tokens : goal.returns-in_err-check_tokens
+returns-in_err-check_tokens c =
+    let p = err_from_is_err_and c.from_residual.result c.from_residual.ensures.1 in
+    rw (p.1, p.2) (record { checked = λ stack all. tokens_barred (sym (outlined_sized _ _ _).tokens) c.in_default.ensures c.in_err-check_tokens.ensures })
 
 pub returns-then-cells-eq0 : goal.returns-then-cells-eq0
 returns-then-cells-eq0 c =
-    check_no_stack c.check_table-fitting.ensures c.in_default.is (outlined_sized _ _ _) c.check_tokens-checked.ensures c.if-checked-ne-DONE.false c.if-cells-eq0.true c.refusal-then-cells-eq0.ensures
+    rw (c.refusal-then-cells-eq0.ensures, c.detail.ensures) (check_no_stack c.in_default.ensures (outlined_sized _ _ _) c.in_ok-check_tokens.ensures c.if-cells-eq0.true)
 
 pub returns : goal.returns
-returns c =
-    check_done c.check_table-fitting.ensures c.in_default.is (outlined_sized _ _ _) c.check_tokens-checked.ensures c.if-checked-ne-DONE.false c.if-cells-eq0.false c.done.ensures
+returns c = check_done c.in_default.ensures (outlined_sized _ _ _) c.in_ok-check_tokens.ensures c.if-cells-eq0.false

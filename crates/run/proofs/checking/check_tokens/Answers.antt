@@ -1,12 +1,13 @@
--- One case of `Checked` for each answer.
-use Rattle.run.proofs.Checks.{tokens_long, tokens_strange, tokens_known}
+-- One case for each answer.
+use Rattle.run.specs.Tokens.{too_long}
+use Rattle.run.proofs.Checks.{tokens_strange, tokens_known}
 use Rattle.run.proofs.checking.check_tokens.Goals as goal
 
 pub returns-then-tokens-gt-LONGEST_STRING : goal.returns-then-tokens-gt-LONGEST_STRING
-returns-then-tokens-gt-LONGEST_STRING c = tokens_long _ _ c.if-tokens-gt-LONGEST_STRING.true c.refusal.ensures
+returns-then-tokens-gt-LONGEST_STRING c = rw c.refusal.ensures (too_long c.if-tokens-gt-LONGEST_STRING.true)
 
-pub returns-then-strange-tokens : goal.returns-then-strange-tokens
-returns-then-strange-tokens c = tokens_strange _ _ c.if-tokens-gt-LONGEST_STRING.false c.first_above-strange.ensures c.if-strange-tokens.true c.refusal-then-strange-tokens.ensures
+pub returns-in-Some : goal.returns-in-Some
+returns-in-Some c = rw c.refusal-in-Some.ensures (tokens_strange c.if-tokens-gt-LONGEST_STRING.false c.in-Some.ensures)
 
-pub returns : goal.returns
-returns c = tokens_known _ _ c.if-tokens-gt-LONGEST_STRING.false c.first_above-strange.ensures c.if-strange-tokens.false c.done.ensures
+pub returns-in-None : goal.returns-in-None
+returns-in-None c = tokens_known c.if-tokens-gt-LONGEST_STRING.false c.in-None.ensures

@@ -1,5 +1,4 @@
--- None is above the limit if the highest is not; the invariant: the tokens passed are below the limit.
-use Prim.Native.Nat.{◌-◌}
+-- The invariant: the tokens passed are below the limit.
 use lib.ListN.{length}
 use Rattle.answers.proofs.Promise.{Searched}
 use Rattle.run.specs.Running.{Strange}
@@ -7,6 +6,3 @@ use Rattle.run.proofs.checking.first_above.Given as goal
 
 abbrev pub invariant-loop-i : goal.invariant-loop-i
 invariant-loop-i l = Searched (Strange l.limit l.tokens) (length l.tokens) l.i
-
-abbrev pub decreases-loop-i : goal.decreases-loop-i
-decreases-loop-i l = length l.tokens - l.i

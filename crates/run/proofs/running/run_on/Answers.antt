@@ -8,5 +8,4 @@ pub answer_of-requires : goal.answer_of-requires
 answer_of-requires c = string_countable c.offer_string-reply.ensures (search rules)
 
 pub returns : goal.returns
-returns c =
-    judged_answered (rw c.outline_of-outline.ensures at c.offer_string-reply.ensures) (outlined_sized _ _ _) (rw c.outline_of-outline.ensures at c.answer_of.ensures)
+returns c = judged_answered c.offer_string-reply.ensures (outlined_sized _ _ _) c.answer_of.ensures
