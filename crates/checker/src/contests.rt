@@ -47,13 +47,7 @@ fn contest_row(row: u8, claimed: Set, ahead: Set, tokens: u8, bound: usize) -> O
 }
 
 // One production more, of this row and with this lookahead; and the first cell before a bound that it contests.
-fn add_claims(
-    row: u8,
-    ahead: Set,
-    tokens: u8,
-    claimed: &mut [u64],
-    bound: usize,
-) -> Option<usize>
+fn add_claims(row: u8, ahead: Set, tokens: u8, claimed: &mut [u64], bound: usize) -> Option<usize>
     ensures { ClaimsAdded row (number ahead) tokens claimed.old bound result claimed.new }
 {
     let before = load(claimed, row as usize);
@@ -126,5 +120,9 @@ pub(crate) fn conflict_at(book: &[u8], index: &Index, ahead: &[u64], cell: usize
     let bit = column_bit((cell % columns) as u8, tokens);
     let lowest = claimant(book, index, ahead, row, bit, 0).unwrap();
     let next = claimant(book, index, ahead, row, bit, lowest + 1).unwrap();
-    refusal(Refusal::Conflict, cell as u64, lowest as u64 * 256 + next as u64)
+    refusal(
+        Refusal::Conflict,
+        cell as u64,
+        lowest as u64 * 256 + next as u64,
+    )
 }

@@ -1,6 +1,6 @@
 -- FIRST of two symbol strings put together, as the calls answer it: where both parts are done, the whole is done with
 -- the join of their sets, and where the whole is done, so are both parts.
-use mathlib.Core.Path.{◌≡◌, refl, sym, ap, ◌∙◌, subst}
+use mathlib.Core.Path.{◌≡◌, refl, sym, ◌∙◌, subst}
 use mathlib.Core.List.{List, [], ◌∷◌, ◌++◌, map}
 use mathlib.Core.Option.{Option, some}
 use Prim.Native.Nat.{ℕ, ◌≤◌}

@@ -1,7 +1,7 @@
 -- From what is found to what is promised: FIRST of a book's grammar, and FIRST of a symbol string.
-use mathlib.Core.Path.{◌≡◌, subst}
+use mathlib.Core.Path.{subst}
 use mathlib.Core.List.{List}
-use Prim.Native.Nat.{ℕ, ◌<◌}
+use Prim.Native.Nat.{ℕ}
 use lib.ListN.{length}
 use Rattle.grammar.specs.Grammar.{Grammar}
 use Rattle.sets.specs.Sets.{empty_string, only}

@@ -2,14 +2,13 @@
 use mathlib.Core.Path.{◌≡◌, refl, sym, ap, ◌∙◌, subst, subst₂}
 use mathlib.Core.Logic.{◌⊎◌, inl, inr}
 use mathlib.Core.List.{List}
-use Prim.Native.Nat.{ℕ, ◌≤◌}
+use Prim.Native.Nat.{ℕ}
 use native.Mathlib.Omega.{arith}
-use lib.ListN.{length}
 use Rattle.std.specs.Prelude.{Result, Ok, Err}
 use Rattle.grammar.specs.Grammar.{Grammar, Form, Rule, Lookahead}
 use Rattle.grammar.proofs.Leftmost.{rule_same}
 use Rattle.answers.specs.declared.Answer.{Answer}
-use Rattle.answers.specs.Answers.{done, refusal}
+use Rattle.answers.specs.Answers.{done}
 use Rattle.answers.specs.Buffers.{over}
 use Rattle.answers.proofs.Promise.{Unique, either_unique}
 use Rattle.book.specs.declared.Index.{Index}

@@ -18,7 +18,7 @@ use Rattle.reader.specs.Book.{Limits}
 use Rattle.book.specs.Judging.{Indexes}
 use Rattle.reader.specs.Fields.{left_at, right_at}
 use Rattle.first.specs.declared.forms.Trail.{Trail}
-use Rattle.first.specs.Numbers.{FamilyOf, FirstFamily}
+use Rattle.first.specs.Numbers.{FamilyOf}
 use Rattle.first.specs.Trail.{Trailed}
 use Rattle.first.specs.Calls.{FirstServed}
 use Rattle.first.proofs.Promise.{family_at, family_taken, left_is, right_is, rule_at, given_served, given_limits, given_lists}

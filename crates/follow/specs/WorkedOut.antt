@@ -21,10 +21,10 @@ abbrev pub WorkedOut : List ℕ → Result Index Answer → (first follow ahead 
 WorkedOut book r first follow ahead =
     MatchResult r (AllServed book first follow ahead)
     (λ a.
-        Refuses book a
-        × (first ≡ replicate most_nonterminals 0)
-        × (follow ≡ replicate most_nonterminals 0)
-        × (ahead ≡ replicate most_productions 0))
+    Refuses book a
+    × (first ≡ replicate most_nonterminals 0)
+    × (follow ≡ replicate most_nonterminals 0)
+    × (ahead ≡ replicate most_productions 0))
 
 -- what working out leaves: an index or a refusal, and the three families
 abbrev pub WorkedOutResult : Type 0

@@ -63,13 +63,7 @@ fn follow_step(book: &[u8], place: u16, from: u8, first: &[u64], follow: &mut [u
 }
 
 // Each record once, in order, from its position on, and whether that changed nothing.
-fn follow_pass(
-    book: &[u8],
-    index: &Index,
-    first: &[u64],
-    from: &[u8],
-    follow: &mut [u64],
-) -> bool
+fn follow_pass(book: &[u8], index: &Index, first: &[u64], from: &[u8], follow: &mut [u64]) -> bool
     requires { WalkableFrom book.now index.now.places index.now.outline.productions from.now }
     ensures { Made (passed (follow_steps book.now index.now.places first.now
         from.now) index.now.outline.productions) follow.old follow.new result }
@@ -84,12 +78,7 @@ fn follow_pass(
 
 // FOLLOW of each nonterminal, from sets without members and the end mark behind the start symbol: each record once, and
 // then their tails in passes until one changes nothing.
-pub(crate) fn follows(
-    book: &[u8],
-    index: &Index,
-    first: &[u64],
-    follow: &mut [u64; 64],
-)
+pub(crate) fn follows(book: &[u8], index: &Index, first: &[u64], follow: &mut [u64; 64])
     requires { Walkable book.now index.now.places index.now.outline.productions × (index.now.outline.productions ≤ most_productions)
         × (follow.old ≡ replicate most_nonterminals 0) }
     ensures { FollowFound book.now index.now.places index.now.outline.productions index.now.outline.start

@@ -23,11 +23,7 @@ mod follow;
 mod tails;
 
 // FIRST and FOLLOW of each nonterminal; with a refusal neither family has a member.
-fn find_sets(
-    book: &[u8],
-    first: &mut [u64; 64],
-    follow: &mut [u64; 64],
-) -> Result<Index, Answer>
+fn find_sets(book: &[u8], first: &mut [u64; 64], follow: &mut [u64; 64]) -> Result<Index, Answer>
     requires { follow.old ≡ replicate most_nonterminals 0 }
     ensures { SetsFound book.now result first.new follow.new }
 {

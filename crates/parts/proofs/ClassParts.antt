@@ -1,18 +1,15 @@
 -- A class is read element by element: its first element, one more, and its end.
-use mathlib.Core.Path.{◌≡◌, refl, sym, ◌∙◌}
-use mathlib.Core.Logic.{◌↔◌, ◌⊎◌, inl, inr, ⊎_elim}
-use mathlib.Core.Bool.{true, false, false≢true}
+use mathlib.Core.Path.{◌≡◌, ◌∙◌}
+use mathlib.Core.Logic.{◌↔◌, ◌≢◌, ◌⊎◌, inl, inr, ⊎_elim}
 use mathlib.Core.List.{List, [], ◌∷◌, ◌++◌}
-use Prim.Native.Nat.{ℕ, ◌+◌, ◌≤◌, ◌<◌}
+use Prim.Native.Nat.{ℕ, ◌+◌, ◌≤◌}
 use native.Mathlib.Numerals.{add-one}
-use native.Mathlib.Decide.{ℕ_discrete}
 use native.Mathlib.Omega.{arith}
-use lib.ListN.{length, get_or}
+use lib.ListN.{get_or}
 use Rattle.pattern.specs.Pattern.{Range, Class, InClass, here, there}
 use Rattle.pattern.specs.Marks.{close_class}
 use Rattle.parts.specs.declared.classes.Span.{Span}
-use Rattle.parts.specs.declared.classes.Place.{Place}
-use Rattle.parts.specs.Classes.{one_if, no_element, no_end, SpanRead, Spread, ElementMeant, ElementRead, ElementFollows, ClassMeant, ClassRead, elements_pending, class_pending}
+use Rattle.parts.specs.Classes.{no_end, NoElement, SpanPassed, Spread, ElementMeant, NoClass, ClassMeant, elements_pending, class_pending}
 use Rattle.parts.proofs.Marks.{mark_inside}
 use Rattle.parts.proofs.Growth.{rows_then, rows_alike}
 use Rattle.parts.proofs.ClassReading.{class_closes}
@@ -36,122 +33,75 @@ in_more c r = (to c, from c)
 
 module _ {text : List ℕ} {at position : ℕ} {readers : List ℕ} where
   pub element_read : {span : Span} {after : List ℕ}
-      → SpanRead text at span
-      → (span.good ≡ true → Spread span.low span.high position readers after)
-      → ElementRead text at position readers (record { good = span.good; at = span.at }) after
-  element_read {span} read spread =
+      → SpanPassed text at span
+      → Spread span.low span.high position readers after
+      → ElementMeant text at position readers span.at after
+  element_read {span} s spread =
       record {
-        moved = read.moved;
-        inside = read.inside;
-        meant = λ good.
-            record {
-              element = record { low = span.low; high = span.high };
-              passed = read.passed good;
-              reads = spread good;
-            };
-        stopped = read.stopped;
+        place = s.place;
+        element = record { low = span.low; high = span.high };
+        passed = s.passed;
+        reads = spread;
       }
 
-  pub class_first : {r : Place} {after : List ℕ}
-      → ElementRead text at position readers r after
-      → ClassRead text at elements_pending position readers r after
-  class_first {r} {after} read =
+  pub class_first : {next : ℕ} {after : List ℕ}
+      → ElementMeant text at position readers next after
+      → ClassMeant text at elements_pending position readers next after
+  class_first m =
       record {
-        moved = read.moved;
-        inside = read.inside;
-        meant = λ good. first (read.meant good);
-        stopped = λ bad room around a. read.stopped bad room around a [] (no_element refl);
+        place = m.place;
+        head = m.element;
+        tail = [];
+        passed = λ room around a. m.passed room around a [];
+        reads = λ h. rows_alike (λ b p. (λ w. (here w.0.0 w.0.1, w.1), λ w. (alone w.0, w.1))) (m.reads h);
       }
     where
-      first : ElementMeant text at position readers r.at after → ClassMeant text at elements_pending position readers r.at after
-      first m =
-          record {
-            head = m.element;
-            tail = [];
-            passed = λ room around a. m.passed room around a [];
-            reads = λ h. rows_alike (λ b p. (λ w. (here w.0.0 w.0.1, w.1), λ w. (alone w.0, w.1))) (m.reads h);
-          }
-        where
-          alone : {b : ℕ} → InClass (m.element ∷ []) b → (m.element.low ≤ b) × (b ≤ m.element.high)
-          alone (here l h) = (l, h)
-          alone (there i) = elim i [ ]
+      alone : {b : ℕ} → InClass (m.element ∷ []) b → (m.element.low ≤ b) × (b ≤ m.element.high)
+      alone (here l h) = (l, h)
+      alone (there i) = elim i [ ]
 
-  module _ {r : Place} {now : List ℕ} (so_far : ClassRead text at elements_pending position readers r now) where
-    pub class_more : {next : Place} {after : List ℕ}
-        → ElementFollows text r.good r.at
-        → ElementRead text r.at position now next after
-        → ClassRead text at elements_pending position readers next after
-    class_more {next} {after} follows read =
+  module _ {so_far : ℕ} {now : List ℕ} (m : ClassMeant text at elements_pending position readers so_far now) where
+    pub class_more : {next : ℕ} {after : List ℕ}
+        → ElementMeant text so_far position now next after
+        → ClassMeant text at elements_pending position readers next after
+    class_more e =
         record {
-          moved = omega (arith, so_far.moved, read.moved);
-          inside = omega (arith, so_far.moved, so_far.inside, read.inside);
-          meant = λ good. more (read.meant good);
-          stopped = λ bad room around a.
-              m.passed room around a ∙ read.stopped bad room around a (m.head ∷ m.tail) (no_end follows.no_close);
+          place = record { moved = omega (arith, m.place, e.place); inside = e.place.inside };
+          head = m.head;
+          tail = m.tail ++ (e.element ∷ []);
+          passed = λ room around a. m.passed room around a ∙ e.passed room around a (m.head ∷ m.tail);
+          reads = λ h. rows_alike alike (rows_then (m.reads h) (e.reads h));
         }
       where
-        m : ClassMeant text at elements_pending position readers r.at now
-        m = so_far.meant follows.read
+        c : Class
+        c = m.head ∷ m.tail
 
-        more : ElementMeant text r.at position now next.at after
-            → ClassMeant text at elements_pending position readers next.at after
-        more e =
-            record {
-              head = m.head;
-              tail = m.tail ++ (e.element ∷ []);
-              passed = λ room around a. m.passed room around a ∙ e.passed room around a (m.head ∷ m.tail);
-              reads = λ h. rows_alike alike (rows_then (m.reads h) (e.reads h));
-            }
-          where
-            c : Class
-            c = m.head ∷ m.tail
+        alike : (b p : ℕ)
+            → ((InClass c b × (p ≡ position))
+            ⊎ (((e.element.low ≤ b) × (b ≤ e.element.high)) × (p ≡ position)))
+            ↔ (InClass (c ++ (e.element ∷ [])) b × (p ≡ position))
+        alike b p = (
+          ⊎_elim (λ w. ((in_more c e.element).0 (inl w.0), w.1)) (λ w. ((in_more c e.element).0 (inr w.0), w.1)),
+          λ w. ⊎_elim (λ i. inl (i, w.1)) (λ i. inr (i, w.1)) ((in_more c e.element).1 w.0),
+        )
 
-            alike : (b p : ℕ)
-                → ((InClass c b × (p ≡ position))
-                ⊎ (((e.element.low ≤ b) × (b ≤ e.element.high)) × (p ≡ position)))
-                ↔ (InClass (c ++ (e.element ∷ [])) b × (p ≡ position))
-            alike b p = (
-              ⊎_elim (λ w. ((in_more c e.element).0 (inl w.0), w.1)) (λ w. ((in_more c e.element).0 (inr w.0), w.1)),
-              λ w. ⊎_elim (λ i. inl (i, w.1)) (λ i. inr (i, w.1)) ((in_more c e.element).1 w.0),
-            )
-
-    -- the class ends where no further element follows
-    closing : r.good ≡ true → (ElementFollows text r.good r.at → ⊥) → get_or text r.at 0 ≡ close_class
-    closing good none = go (ℕ_discrete (get_or text r.at 0) close_class)
-      where
-        go : Dec (get_or text r.at 0 ≡ close_class) → get_or text r.at 0 ≡ close_class
-        go (yes close) = close
-        go (no other) = absurd (none (record { read = good; no_close = other }))
-
-    pub class_inside : r.good ≡ true → (ElementFollows text r.good r.at → ⊥) → r.at < length text
-    class_inside good none = mark_inside text r.at (closing good none)
-
-    pub class_end : r.good ≡ true
-        → (ElementFollows text r.good r.at → ⊥)
-        → ClassRead text at class_pending position readers (record { good = true; at = r.at + 1 }) now
-    unfolding one_if
-    class_end good none =
-        let m = so_far.meant good in
+    pub class_stops : {place : ℕ} → get_or text so_far 0 ≢ close_class → NoElement text so_far place → NoClass text at place
+    class_stops unclosed none_there =
         record {
-          moved = omega (arith, so_far.moved);
-          inside = omega (arith, class_inside good none);
-          meant = λ is.
-              record {
-                head = m.head;
-                tail = m.tail;
-                passed = λ room around a.
-                    m.passed room around a
-                    ∙ rw add-one (class_closes text room around a r.at m.tail m.head (closing good none));
-                reads = m.reads;
-              };
-          stopped = λ bad. absurd (false≢true (sym bad));
+          moved = omega (arith, m.place, none_there.moved);
+          inside = omega (arith, m.place, none_there.inside);
+          stopped = λ room around a.
+              m.passed room around a ∙ none_there.stopped room around a (m.head ∷ m.tail) (no_end unclosed);
         }
 
-    pub class_bad : r.good ≡ false → ClassRead text at class_pending position readers r now
-    class_bad bad =
+    pub class_end : get_or text so_far 0 ≡ close_class
+        → ClassMeant text at class_pending position readers (so_far + 1) now
+    class_end close =
         record {
-          moved = so_far.moved;
-          inside = so_far.inside;
-          meant = λ good. absurd (false≢true (sym bad ∙ good));
-          stopped = so_far.stopped;
+          place = record { moved = omega (arith, m.place); inside = omega (arith, mark_inside text so_far close) };
+          head = m.head;
+          tail = m.tail;
+          passed = λ room around a.
+              m.passed room around a ∙ rw add-one (class_closes text room around a so_far m.tail m.head close);
+          reads = m.reads;
         }

@@ -1,7 +1,7 @@
 -- What the reader of one byte says in a class: of its letters and ranges, of its end, and of what can be neither.
 use mathlib.Core.Path.{◌≡◌, refl, sym, ap, ◌∙◌}
 use mathlib.Core.Logic.{◌≢◌}
-use mathlib.Core.Bool.{true, false}
+use mathlib.Core.Bool.{true}
 use mathlib.Core.List.{List, [], ◌∷◌, ◌++◌}
 use mathlib.Core.Option.{some, none}
 use Prim.Native.Nat.{ℕ, suc, ◌≤◌, ◌<◌, pred}
@@ -16,7 +16,9 @@ use Rattle.pattern.specs.Kinds.{Kind, kind_in, kind_of}
 use Rattle.pattern.specs.Reader.{Begun, Pending, outside, in_class, in_range, standing, behind_backslash, settled, elements, class_read, range_read, marked, moved, move, ended, refused, read_from, says}
 use Rattle.pattern.proofs.Promise.{says_moves, says_stops, says_short, says_kind, says_no_kind, plain_kind}
 use Rattle.pattern.proofs.Promise.{KindIs, plain_is, dash_is, backslash_is, close_class_is, open_class_is, open_group_is, close_group_is, bar_is, sign_is, kind_is, impossible}
-use Rattle.parts.specs.Letters.{LetterIs, letter_plain, letter_escaped, letter_mark, letter_missing, letter_cut_off}
+use Rattle.std.specs.Prelude.{Ok, Err}
+use Rattle.parts.specs.declared.letters.Letter.{Letter}
+use Rattle.parts.specs.Letters.{LetterRead, letter_plain, letter_escaped, letter_mark, letter_missing, letter_cut_off}
 use Rattle.parts.specs.Classes.{MayGoOn, no_element, no_end}
 use Rattle.parts.proofs.Marks.{mark_inside}
 use Rattle.parts.proofs.Outside.{backslash_kind}
@@ -96,10 +98,10 @@ module _ (text : List ℕ) (room : ℕ) (around : List Begun) (a : Begun) (at : 
     class_closes r here =
         says_kind text room around a (in_class (r ∷ c) none) at (mark_inside text at here) (ap kind_of here) refl
 
-    pub class_letter_passes : {next byte : ℕ}
-        → LetterIs text at special_in_class true next byte
+    pub class_letter_passes : {l : Letter}
+        → LetterRead text at special_in_class (Ok l)
         → says text (standing room around a (in_class c none)) at
-        ≡ says text (standing room around a (in_class c (some byte))) next
+        ≡ says text (standing room around a (in_class c (some l.byte))) l.at
     unfolding moved elements move
     class_letter_passes (letter_plain inside plain) =
         says_kind text room around a (in_class c none) at inside (plain_kind (get_or text at 0) plain) refl
@@ -107,10 +109,10 @@ module _ (text : List ℕ) (room : ℕ) (around : List Begun) (a : Begun) (at : 
         escape_opens (in_class c none) here
         ∙ says_moves text (behind_backslash room around a (in_class c none)) (suc at) inside refl
 
-    pub class_letter_stops : {next byte : ℕ}
+    pub class_letter_stops : {place : ℕ}
         → MayGoOn text at c
-        → LetterIs text at special_in_class false next byte
-        → says text (standing room around a (in_class c none)) at ≡ refused next
+        → LetterRead text at special_in_class (Err place)
+        → says text (standing room around a (in_class c none)) at ≡ refused place
     unfolding ended
     class_letter_stops goes (letter_mark inside mark escape) =
         says_no_kind text room around a (in_class c none) at inside refl
@@ -131,11 +133,11 @@ module _ (text : List ℕ) (room : ℕ) (around : List Begun) (a : Begun) (at : 
       dash_passes here =
           says_kind text room around a (in_class c (some low)) at (mark_inside text at here) (ap kind_of here) refl
 
-      pub range_passes : {next byte : ℕ}
-          → low ≤ byte
-          → LetterIs text at special_in_class true next byte
+      pub range_passes : {l : Letter}
+          → low ≤ l.byte
+          → LetterRead text at special_in_class (Ok l)
           → says text (standing room around a (in_range c low)) at
-          ≡ says text (standing room around a (in_class (c ++ (range low byte ∷ [])) none)) next
+          ≡ says text (standing room around a (in_class (c ++ (range low l.byte ∷ [])) none)) l.at
       unfolding moved move
       range_passes rises (letter_plain inside plain) =
           says_kind text room around a (in_range c low) at inside (plain_kind (get_or text at 0) plain)
@@ -146,10 +148,10 @@ module _ (text : List ℕ) (room : ℕ) (around : List Begun) (a : Begun) (at : 
           (range_rises room around a c rises)
 
       -- a range that falls stops at its upper end's own byte
-      pub range_breaks : {next byte : ℕ}
-          → byte < low
-          → LetterIs text at special_in_class true next byte
-          → says text (standing room around a (in_range c low)) at ≡ refused (pred next)
+      pub range_breaks : {l : Letter}
+          → l.byte < low
+          → LetterRead text at special_in_class (Ok l)
+          → says text (standing room around a (in_range c low)) at ≡ refused (pred l.at)
       unfolding moved move
       range_breaks falls (letter_plain inside plain) =
           says_no_kind text room around a (in_range c low) at inside (plain_kind (get_or text at 0) plain)
@@ -159,9 +161,9 @@ module _ (text : List ℕ) (room : ℕ) (around : List Begun) (a : Begun) (at : 
           ∙ says_stops text (behind_backslash room around a (in_range c low)) (suc at) inside
           (range_falls room around a c falls)
 
-      pub range_stops : {next byte : ℕ}
-          → LetterIs text at special_in_class false next byte
-          → says text (standing room around a (in_range c low)) at ≡ refused next
+      pub range_stops : {place : ℕ}
+          → LetterRead text at special_in_class (Err place)
+          → says text (standing room around a (in_range c low)) at ≡ refused place
       unfolding ended
       range_stops (letter_mark inside mark escape) =
           says_no_kind text room around a (in_range c low) at inside refl

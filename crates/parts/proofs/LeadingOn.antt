@@ -1,73 +1,23 @@
 -- Leading on word by word, and in a word from its lowest member on.
-use mathlib.Core.Path.{◌≡◌, refl, sym, ap, ◌∙◌}
+use mathlib.Core.Path.{◌≡◌, sym, ap, ◌∙◌}
 use mathlib.Core.Logic.{◌↔◌, ◌≢◌, ◌⊎◌, inl, inr}
-use mathlib.Core.Bool.{Bool, true, false, xor, false≢true}
+use mathlib.Core.Bool.{true, false, false≢true}
 use mathlib.Core.List.{List}
-use Prim.Native.Nat.{ℕ, zero, suc, ◌+◌, ◌-◌, ◌*◌, ◌/◌, ◌%◌, ◌^◌, ◌≤◌, ◌<◌}
-use native.Mathlib.Nat.{div-one}
+use Prim.Native.Nat.{ℕ, ◌+◌, ◌-◌, ◌*◌, ◌/◌, ◌%◌, ◌≤◌, ◌<◌}
 use native.Mathlib.Decide.{dec_lt, ℕ_discrete}
 use native.Mathlib.Omega.{arith}
-use lib.Bits.{bit_xor}
-use lib.Count.{count_trailing_zeros, under}
 use lib.ListN.{get_or}
-use borrow.Author.Tests.{eq-eqb, ne_eqb}
 use Rattle.sets.specs.Sets.{member, Subset}
 use Rattle.sets.specs.Words.{word_width, AreWords}
-use Rattle.sets.proofs.Members.{member_next, member_none, member_xor, member_power}
-use Rattle.sets.proofs.Promise.{subset_lt, fits_members, places_are}
+use Rattle.sets.proofs.Members.{member_none}
+use Rattle.sets.proofs.Promise.{fits_members, places_are}
 use Rattle.points.specs.Points.{Unite}
-use Rattle.points.proofs.Promise.{points_fit, member_points}
+use Rattle.points.proofs.Promise.{points_fit, member_points, without, without_there, without_other}
 use Rattle.answers.specs.Limits.{position_words, point_words}
 use Rattle.parts.specs.Rows.{Rows}
 use Rattle.parts.specs.Parts.{positions_in}
 use Rattle.parts.specs.Leading.{Leads, LeadsWord, points_in, LedWord, Led}
 use Rattle.parts.proofs.Growth.{rows_none, rows_then, rows_alike, rows_unite}
-
--- the zeros below a word's lowest member are its place
-pub lowest_member : (d x : ℕ) → 0 < x → x < 2 ^ d → member (count_trailing_zeros d x) x ≡ true
-unfolding count_trailing_zeros member
-lowest_member zero x some fits = absurd (omega arith)
-lowest_member (suc d) x some fits = go (lowest_member d (x / 2)) (x % 2) refl
-  where
-    go : (0 < x / 2 → x / 2 < 2 ^ d → member (count_trailing_zeros d (x / 2)) (x / 2) ≡ true)
-        → (r : ℕ)
-        → x % 2 ≡ r
-        → member (under (x % 2) (count_trailing_zeros d (x / 2))) x ≡ true
-    go rest zero e =
-        let higher : member (count_trailing_zeros d (x / 2)) (x / 2) ≡ true = rest (omega arith) (omega arith) in
-        rw e (member_next (count_trailing_zeros d (x / 2)) x ∙ higher)
-    go rest (suc r) e =
-        let odd : x % 2 ≡ 1 = omega arith in
-        rw (e, div-one, odd)
-
--- a word without one of its members
-unfoldable pub without : ℕ → ℕ → ℕ
-without place word = bit_xor word (2 ^ place)
-
-module _ (word place : ℕ) (there : member place word ≡ true) where
-  without_there : member place (without place word) ≡ false
-  unfolding without xor
-  without_there = rw (member_xor, member_power, there, eq-eqb place place refl)
-
-  without_other : (k : ℕ) → k ≢ place → member k (without place word) ≡ member k word
-  unfolding without xor
-  without_other k other = rw (member_xor, member_power, ne_eqb k place other) (same (member k word))
-    where
-      same : (b : Bool) → xor b false ≡ b
-      same true = refl
-      same false = refl
-
-  pub without_keeps : Subset (without place word) word
-  without_keeps k m = go (ℕ_discrete k place)
-    where
-      go : Dec (k ≡ place) → member k word ≡ true
-      go (yes e) = rw e there
-      go (no other) = sym (without_other k other) ∙ m
-
-  pub without_falls : without place word < word
-  without_falls =
-      subset_lt (without place word) word without_keeps
-      (λ same. false≢true (sym without_there ∙ (ap (member place) same ∙ there)))
 
 -- the members of a word that are not among the rest lead on
 pub record Gone (base word rest next p q : ℕ) : Type 0 where

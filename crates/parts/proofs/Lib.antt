@@ -6,7 +6,6 @@ pub mod Growth
 pub mod Spans
 pub mod Spreading
 pub mod ClassParts
-pub mod Falling
 pub mod LeadingOn
 pub mod PositionSets
 pub mod Singles

@@ -1,7 +1,7 @@
 -- What the reader of one byte says where an item has to start: of a letter, and of what is none.
 use mathlib.Core.Path.{◌≡◌, refl, ap, ◌∙◌}
 use mathlib.Core.Logic.{◌≢◌}
-use mathlib.Core.Bool.{true, false}
+use mathlib.Core.Bool.{true}
 use mathlib.Core.List.{List, [], ◌∷◌}
 use mathlib.Core.Option.{some, none}
 use Prim.Native.Nat.{ℕ, suc, ◌<◌}
@@ -14,7 +14,9 @@ use Rattle.pattern.specs.Written.{range}
 use Rattle.pattern.specs.Kinds.{is_backslash, kind_in, kind_of}
 use Rattle.pattern.specs.Reader.{Begun, outside, standing, behind_backslash, settled, alternation_of, closed, divided, byte_read, marked, moved, move, ended, refused, says}
 use Rattle.pattern.proofs.Promise.{says_moves, says_stops, says_short, says_kind, says_no_kind, move_plain, move_special}
-use Rattle.parts.specs.Letters.{LetterIs, letter_plain, letter_escaped, letter_mark, letter_missing, letter_cut_off}
+use Rattle.std.specs.Prelude.{Ok, Err}
+use Rattle.parts.specs.declared.letters.Letter.{Letter}
+use Rattle.parts.specs.Letters.{LetterRead, letter_plain, letter_escaped, letter_mark, letter_missing, letter_cut_off}
 use Rattle.parts.specs.Reading.{MayStart, nothing_before, item_follows}
 use Rattle.parts.proofs.Marks.{not_among, mark_inside}
 
@@ -46,10 +48,10 @@ module _ (text : List ℕ) (room : ℕ) (around : List Begun) (a : Begun) (at : 
   escape_opens here =
       says_kind text room around a (outside none) at (mark_inside text at here) (backslash_kind (get_or text at 0) here) refl
 
-  pub letter_passes : {next byte : ℕ}
-      → LetterIs text at special true next byte
+  pub letter_passes : {l : Letter}
+      → LetterRead text at special (Ok l)
       → says text (standing room around a (outside none)) at
-      ≡ says text (standing room around a (outside (some (one (range byte byte ∷ []))))) next
+      ≡ says text (standing room around a (outside (some (one (range l.byte l.byte ∷ []))))) l.at
   unfolding byte_read settled move moved
   letter_passes (letter_plain inside plain) =
       says_moves text (standing room around a (outside none)) at inside
@@ -95,12 +97,12 @@ module _ (text : List ℕ) (room : ℕ) (around : List Begun) (a : Begun) (at : 
           (not_among (get_or text at 0) (open_group ∷ close_group ∷ open_class ∷ bar ∷ backslash ∷ [])
           (group, (close, (class, (between, (escape, tt)))))))
 
-  pub letter_stops : {next byte : ℕ}
+  pub letter_stops : {place : ℕ}
       → get_or text at 0 ≢ open_group
       → get_or text at 0 ≢ open_class
-      → LetterIs text at special false next byte
+      → LetterRead text at special (Err place)
       → MayStart text at a
-      → says text (standing room around a (outside none)) at ≡ refused next
+      → says text (standing room around a (outside none)) at ≡ refused place
   unfolding ended
   letter_stops group class (letter_mark inside mark escape) start =
       mark_stops start inside mark group class escape

@@ -1,31 +1,25 @@
 -- What a sign, the end of a group, two parts in turn and either of two make of a part. Working definitions.
-use Rattle.std.specs.Prelude.{◌≡◌, Bool, true, false, cond, ◌&&◌, ◌||◌, ◌≢◌, List, ℕ, ◌+◌, ◌≤◌, ◌<◌, get_or}
+use Rattle.std.specs.Prelude.{◌≡◌, Bool, true, false, cond, ◌&&◌, ◌||◌, ◌≢◌, List, ℕ, ◌+◌, ◌≤◌, ◌<◌, get_or, Result, Ok, Err}
 use Rattle.sets.specs.Sets.{Exactly, united}
 use Rattle.sets.specs.Words.{places}
 use Rattle.answers.specs.Limits.{most_positions, position_words, point_words}
 use Rattle.pattern.specs.Pattern.{Class, one}
-use Rattle.pattern.specs.Marks.{bar, open_group, close_group, star_sign, plus_sign, question_mark, among}
+use Rattle.pattern.specs.Marks.{open_group, close_group, star_sign, plus_sign, question_mark, among}
 use Rattle.pattern.specs.Kinds.{signs}
 use Rattle.parts.specs.declared.Part.{Part}
 use Rattle.parts.specs.Rows.{Rows}
 use Rattle.parts.specs.Parts.{positions_in, Told}
 use Rattle.parts.specs.Leading.{Leads}
-use Rattle.parts.specs.Reading.{GoesOn, ItemRead}
-
--- refused at a place
-pub record Refused (at : ℕ) (r : Part) : Type 0 where
-  pub bad : r.good ≡ false
-  pub place : r.at ≡ at
+use Rattle.parts.specs.Reading.{ItemRead}
 
 -- one position more: a byte or a class, where no group opens
-pub record SingleRead (text : List ℕ) (at n : ℕ) (readers : List ℕ) (r : Part) (after : List ℕ) : Type 0 where
+pub record SingleRead (text : List ℕ) (at n : ℕ) (readers : List ℕ) (r : Result Part ℕ) (after : List ℕ) : Type 0 where
   pub item : get_or text at 0 ≢ open_group
       → (room : ℕ) (follow : List ℕ)
       → ItemRead text room at n readers follow r after follow
 
 -- a part of one position, whatever its class is
-pub record Lone (good : Bool) (at count : ℕ) (r : Part) : Type 0 where
-  pub same : r.good ≡ good
+pub record Lone (at count : ℕ) (r : Part) : Type 0 where
   pub place : r.at ≡ at
   pub told : (c : Class) → Told count (one c) r
 
@@ -48,7 +42,6 @@ Through passes own other r =
 abbrev pub behind : Part → Bool → Part
 behind item empty =
     record {
-      good = item.good;
       at = item.at + 1;
       count = item.count;
       empty = empty;
@@ -56,67 +49,37 @@ behind item empty =
       last = item.last;
     }
 
--- a sign behind a part that was read
+-- a sign behind a part
 pub data SignRead (text : List ℕ) (item : Part) (follow : List ℕ) : Part → List ℕ → Type 0 where
-  sign_unread : item.good ≡ false → SignRead text item follow item follow
-  no_sign : item.good ≡ true → among (get_or text item.at 0) signs ≡ false → SignRead text item follow item follow
-  question_read : item.good ≡ true
-      → get_or text item.at 0 ≡ question_mark
-      → SignRead text item follow (behind item true) follow
+  no_sign : among (get_or text item.at 0) signs ≡ false → SignRead text item follow item follow
+  question_read : get_or text item.at 0 ≡ question_mark → SignRead text item follow (behind item true) follow
   plus_read : {after : List ℕ}
-      → item.good ≡ true
       → get_or text item.at 0 ≡ plus_sign
       → LedOn item.count item.last item.first follow after
       → SignRead text item follow (behind item item.empty) after
   star_read : {after : List ℕ}
-      → item.good ≡ true
       → get_or text item.at 0 ≡ star_sign
       → LedOn item.count item.last item.first follow after
       → SignRead text item follow (behind item true) after
 
 -- the end of a group behind what was read in it
-pub data CloseRead (text : List ℕ) (inner : Part) : Part → Type 0 where
-  close_unread : inner.good ≡ false → CloseRead text inner inner
-  closed_there : inner.good ≡ true
-      → get_or text inner.at 0 ≡ close_group
-      → CloseRead text inner (behind inner inner.empty)
-  not_closed : {r : Part}
-      → inner.good ≡ true
-      → get_or text inner.at 0 ≢ close_group
-      → Refused inner.at r
-      → CloseRead text inner r
+pub data CloseRead (text : List ℕ) (inner : Part) : Result Part ℕ → Type 0 where
+  closed_there : get_or text inner.at 0 ≡ close_group → CloseRead text inner (Ok (behind inner inner.empty))
+  not_closed : get_or text inner.at 0 ≢ close_group → CloseRead text inner (Err inner.at)
 
--- two parts in turn: what the right one adds where it was read
-pub record Turns (left right : Part) (follow : List ℕ) (r : Part) (after : List ℕ) : Type 0 where
+-- two parts in turn
+pub record InTurn (left right : Part) (follow : List ℕ) (r : Part) (after : List ℕ) : Type 0 where
+  pub place : r.at ≡ right.at
   pub count : r.count ≡ right.count
   pub empty : r.empty ≡ left.empty && right.empty
   pub first : Through left.empty left.first right.first r.first
   pub last : Through right.empty right.last left.last r.last
   pub led : LedOn right.count left.last right.first follow after
 
-pub record InTurn (left right : Part) (follow : List ℕ) (r : Part) (after : List ℕ) : Type 0 where
-  pub same : r.good ≡ right.good
-  pub place : r.at ≡ right.at
-  pub turns : right.good ≡ true → Turns left right follow r after
-
 -- either of two parts
-pub record Splits (left right r : Part) : Type 0 where
+pub record EitherOf (left right r : Part) : Type 0 where
+  pub place : r.at ≡ right.at
   pub count : r.count ≡ right.count
   pub empty : r.empty ≡ left.empty || right.empty
   pub first : Through true left.first right.first r.first
   pub last : Through true left.last right.last r.last
-
-pub record EitherOf (left right r : Part) : Type 0 where
-  pub same : r.good ≡ right.good
-  pub place : r.at ≡ right.at
-  pub splits : right.good ≡ true → Splits left right r
-
--- a part was read, and the text goes on behind it
-pub record Continues (text : List ℕ) (good : Bool) (at : ℕ) : Type 0 where
-  pub read : good ≡ true
-  pub more : GoesOn text at
-
--- a part was read, and a bar stands behind it
-pub record Divides (text : List ℕ) (good : Bool) (at : ℕ) : Type 0 where
-  pub read : good ≡ true
-  pub here : get_or text at 0 ≡ bar

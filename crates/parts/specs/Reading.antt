@@ -1,14 +1,14 @@
 -- What reading a part of a pattern comes to, for any groups open around it: what the reader of one byte at a time says
 -- from the place before is what it says from the place after, with the meaning read in between, or the place is
 -- refused. Working definitions, which no public contract of a crate above cites.
-use Rattle.std.specs.Prelude.{◌≡◌, ◌≢◌, true, false, List, ℕ, ◌+◌, ◌≤◌, ◌<◌, max, length, get_or}
+use Rattle.std.specs.Prelude.{◌≡◌, ◌≢◌, List, ℕ, ◌<◌, length, get_or, Result, MatchResult}
 use Rattle.std.proofs.Math.Option.{Option, some, none}
 use Rattle.pattern.specs.Pattern.{Expression}
 use Rattle.pattern.specs.Marks.{bar, close_group}
 use Rattle.pattern.specs.Reader.{Begun, outside, standing, nothing_begun, with_item, alternation_of, refused, says}
 use Rattle.parts.specs.declared.Part.{Part}
 use Rattle.parts.specs.Parts.{Told, Tabled}
-use Rattle.parts.specs.Classes.{one_if}
+use Rattle.parts.specs.Places.{Behind, Unread}
 
 -- the text goes on with neither a bar nor the end of a group
 pub record GoesOn (text : List ℕ) (at : ℕ) : Type 0 where
@@ -67,50 +67,58 @@ module _ (text : List ℕ) (room at : ℕ) where
         → says text (standing room around nothing_begun (outside none)) at ≡ refused place
 
 -- a part was read: its meaning, what it tells and what it adds to the tables
-pub record Meant (Passed : ℕ → Expression → Type 0) (n : ℕ) (readers follow : List ℕ)
-    (r : Part) (readers_after follow_after : List ℕ) : Type 0 where
+pub record Meant (text : List ℕ) (at : ℕ) (Passed : ℕ → Expression → Type 0) (n : ℕ) (readers follow : List ℕ)
+    (p : Part) (readers_after follow_after : List ℕ) : Type 0 where
+  pub place : Behind text at p.at
   pub meaning : Expression
-  pub passed : Passed r.at meaning
-  pub told : Told n meaning r
+  pub passed : Passed p.at meaning
+  pub told : Told n meaning p
   pub tabled : Tabled n meaning readers follow readers_after follow_after
 
--- a part of the text from `at` on: read, or refused at its place, which lies further on if it was read
-pub record PartRead (text : List ℕ) (at : ℕ) (Passed : ℕ → Expression → Type 0) (Stopped : ℕ → Type 0)
-    (n : ℕ) (readers follow : List ℕ) (r : Part) (readers_after follow_after : List ℕ) : Type 0 where
-  pub moved : at + one_if r.good ≤ r.at
-  pub inside : r.at ≤ max at (length text)
-  pub meant : r.good ≡ true → Meant Passed n readers follow r readers_after follow_after
-  pub stopped : r.good ≡ false → Stopped r.at
+-- a part of the text from `at` on: read, or refused at its place
+abbrev pub PartRead : List ℕ → ℕ → (ℕ → Expression → Type 0) → (ℕ → Type 0)
+    → ℕ → List ℕ → List ℕ → Result Part ℕ → List ℕ → List ℕ → Type 0
+PartRead text at Passed Stopped n readers follow r readers_after follow_after =
+    MatchResult r (λ p. Meant text at Passed n readers follow p readers_after follow_after) (Unread text at Stopped)
 
-module _ (text : List ℕ) (room at n : ℕ) (readers follow : List ℕ) (r : Part) (readers_after follow_after : List ℕ) where
-  abbrev pub ItemRead : Type 0
-  ItemRead =
-      PartRead text at (ItemPassed text room at) (ItemStopped text room at) n readers follow r readers_after
-      follow_after
+module _ (text : List ℕ) (room at n : ℕ) (readers follow : List ℕ) where
+  module _ (r : Result Part ℕ) (readers_after follow_after : List ℕ) where
+    abbrev pub ItemRead : Type 0
+    ItemRead =
+        PartRead text at (ItemPassed text room at) (ItemStopped text room at) n readers follow r readers_after
+        follow_after
 
-  abbrev pub RepetitionRead : Type 0
-  RepetitionRead =
-      PartRead text at (RepetitionPassed text room at) (ItemStopped text room at) n readers follow r readers_after
-      follow_after
+    abbrev pub RepetitionRead : Type 0
+    RepetitionRead =
+        PartRead text at (RepetitionPassed text room at) (ItemStopped text room at) n readers follow r readers_after
+        follow_after
 
-  -- the repetitions of an alternative so far
-  abbrev pub RepetitionsRead : Type 0
-  RepetitionsRead =
-      PartRead text at (SequencePassed text room at) (SequenceStopped text room at) n readers follow r readers_after
-      follow_after
+  module _ (p : Part) (readers_after follow_after : List ℕ) where
+    -- the repetitions of an alternative so far
+    abbrev pub RepetitionsMeant : Type 0
+    RepetitionsMeant = Meant text at (SequencePassed text room at) n readers follow p readers_after follow_after
 
-  -- all of them: the text does not go on behind them
-  pub record SequenceRead : Type 0 where
-    pub part : RepetitionsRead
-    pub ends : r.good ≡ true → ¬ GoesOn text r.at
+    -- all of them: the text does not go on behind them
+    pub record SequenceMeant : Type 0 where
+      pub part : RepetitionsMeant
+      pub ends : ¬ GoesOn text p.at
 
-  -- the alternatives so far
-  pub record AlternativesRead : Type 0 where
-    pub part : PartRead text at (AlternationPassed text room at) (AlternationStopped text room at)
-        n readers follow r readers_after follow_after
-    pub ends : r.good ≡ true → ¬ GoesOn text r.at
+    -- the alternatives so far
+    pub record AlternativesMeant : Type 0 where
+      pub part : Meant text at (AlternationPassed text room at) n readers follow p readers_after follow_after
+      pub ends : ¬ GoesOn text p.at
 
-  -- all of them: no bar stands behind them
-  pub record AlternationRead : Type 0 where
-    pub alternatives : AlternativesRead
-    pub no_bar : r.good ≡ true → get_or text r.at 0 ≢ bar
+    -- all of them: no bar stands behind them
+    pub record AlternationMeant : Type 0 where
+      pub alternatives : AlternativesMeant
+      pub no_bar : get_or text p.at 0 ≢ bar
+
+  module _ (r : Result Part ℕ) (readers_after follow_after : List ℕ) where
+    abbrev pub SequenceRead : Type 0
+    SequenceRead =
+        MatchResult r (λ p. SequenceMeant p readers_after follow_after) (Unread text at (SequenceStopped text room at))
+
+    abbrev pub AlternationRead : Type 0
+    AlternationRead =
+        MatchResult r (λ p. AlternationMeant p readers_after follow_after)
+        (Unread text at (AlternationStopped text room at))

@@ -1,7 +1,9 @@
 // One byte of a pattern, plain or behind a backslash.
-ghost use Rattle.std.specs.Prelude.{◌≡◌, get_or};
+ghost use Rattle.std.specs.Prelude.{◌≡◌, ◌≤◌, ◌<◌, length, get_or, MatchResult};
 ghost use Rattle.pattern.specs.Marks.{special, special_in_class, among};
 ghost use Rattle.parts.specs.Letters.{LetterRead};
+
+use answers::buffers::cell_or;
 
 pub const OPEN_GROUP: u8 = 40;
 
@@ -23,10 +25,9 @@ pub const BACKSLASH: u8 = 92;
 
 pub const DASH: u8 = 45;
 
-// A byte that was read and the place behind it, or the place refused.
+// A byte that was read and the place behind it.
 #[derive(Clone, Copy)]
 pub struct Letter {
-    pub good: bool,
     pub at: usize,
     pub byte: u8,
 }
@@ -35,78 +36,59 @@ pub struct Letter {
 pub fn byte_at(pattern: &[u8], at: usize) -> u8
     ensures { result ≡ get_or pattern.now at 0 }
 {
-    if at < pattern.len() { pattern[at] } else { 0 }
+    cell_or(pattern, at, 0)
 }
 
 // Whether a byte is plain only behind a backslash.
 fn special(byte: u8) -> bool
     ensures { result ≡ among byte special }
 {
-    match byte {
+    matches!(
+        byte,
         OPEN_GROUP
-        | CLOSE_GROUP
-        | OPEN_CLASS
-        | CLOSE_CLASS
-        | BAR
-        | STAR
-        | PLUS
-        | QUESTION
-        | BACKSLASH => true,
-        _ => false,
-    }
+            | CLOSE_GROUP
+            | OPEN_CLASS
+            | CLOSE_CLASS
+            | BAR
+            | STAR
+            | PLUS
+            | QUESTION
+            | BACKSLASH
+    )
 }
 
-// Outside a class: a byte that may stand there as it is, or any behind a backslash.
-pub(crate) fn letter_at(pattern: &[u8], at: usize) -> Letter
+// The byte at a place, or the place itself where the text has ended.
+fn next_byte(pattern: &[u8], at: usize) -> Result<u8, usize>
+    ensures { MatchResult
+        result
+        (λ b. (at < length pattern.now) × (b ≡ get_or pattern.now at 0))
+        (λ place. (length pattern.now ≤ at) × (place ≡ at)) }
+{
+    pattern.get(at).copied().ok_or(at)
+}
+
+// Outside a class: a byte that may stand there as it is, or any behind a backslash; or the place refused.
+pub(crate) fn letter_at(pattern: &[u8], at: usize) -> Result<Letter, usize>
     ensures { LetterRead pattern.now at special result }
 {
-    if pattern.len() <= at {
-        return Letter {
-            good: false,
-            at,
-            byte: 0,
-        };
-    }
-    let byte = pattern[at];
+    let byte = next_byte(pattern, at)?;
     let next = at + 1;
     if byte == BACKSLASH {
-        if pattern.len() <= next {
-            return Letter {
-                good: false,
-                at: next,
-                byte: 0,
-            };
-        }
-        return Letter {
-            good: true,
-            at: next + 1,
-            byte: pattern[next],
-        };
+        let byte = next_byte(pattern, next)?;
+        return Ok(Letter { at: next + 1, byte });
     }
     if special(byte) {
-        return Letter {
-            good: false,
-            at,
-            byte: 0,
-        };
+        return Err(at);
     }
-    Letter {
-        good: true,
-        at: next,
-        byte,
-    }
+    Ok(Letter { at: next, byte })
 }
 
 // In a class, where the dash is no plain byte either.
-pub(crate) fn class_letter_at(pattern: &[u8], at: usize) -> Letter
+pub(crate) fn class_letter_at(pattern: &[u8], at: usize) -> Result<Letter, usize>
     ensures { LetterRead pattern.now at special_in_class result }
 {
     if byte_at(pattern, at) == DASH {
-        return Letter {
-            good: false,
-            at,
-            byte: 0,
-        };
+        return Err(at);
     }
     letter_at(pattern, at)
 }

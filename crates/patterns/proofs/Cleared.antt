@@ -2,10 +2,10 @@
 use mathlib.Core.Path.{◌≡◌, refl, sym, ◌∙◌}
 use mathlib.Core.Logic.{⊎_elim}
 use mathlib.Core.Bool.{false≢true}
-use mathlib.Core.List.{List, ◌++◌, append-nil}
+use mathlib.Core.List.{List, ◌++◌}
 use Prim.Native.Nat.{ℕ, zero, suc, ◌+◌, ◌-◌, ◌*◌, ◌^◌, ◌≤◌, ◌<◌}
 use native.Mathlib.Omega.{arith}
-use lib.ListN.{length, take, drop, get_or, replicate, length-replicate, length-take, drop_of_length-le, get_or-append}
+use lib.ListN.{length, take, drop, get_or, replicate, length-replicate, length-take, get_or-append}
 use lib.Seq.{get_or-take, get_or-drop, get_or-append-add}
 use Rattle.sets.specs.Sets.{Exactly}
 use Rattle.sets.specs.Words.{places, AreWords}
@@ -19,15 +19,6 @@ use Rattle.pattern.specs.Positions.{Start, Onward, ReadsIn}
 use Rattle.parts.specs.Rows.{Grown, row_at, Rows}
 use Rattle.patterns.specs.Calls.{point_at, readers_length, follow_length, TablesFit, TablesOf}
 use Rattle.patterns.specs.Gathering.{NextIn, after_position, at_the_start}
-
--- every word is 0
-pub cleared_all : (i : ℕ) (table : List ℕ)
-    → i ≤ length table
-    → length table ≤ i
-    → replicate i 0 ++ drop i table ≡ cleared table
-cleared_all i table h k =
-    let all : i ≡ length table = omega arith in
-    rw (drop_of_length-le table k, append-nil, all)
 
 zero_at : (n i : ℕ) → ◌≡◌ {A = ℕ} (get_or (replicate n 0) i 0) 0
 zero_at zero i = refl

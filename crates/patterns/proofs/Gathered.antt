@@ -1,34 +1,25 @@
 -- Patterns judged one after the other: none yet, one more, and what is told of all.
 use mathlib.Core.Path.{◌≡◌, refl, sym, ◌∙◌, subst}
-use mathlib.Core.Bool.{Bool, true, false, cond, false≢true}
 use mathlib.Core.List.{List, [], ◌∷◌, ◌++◌, append_assoc, append-nil}
 use Prim.Native.Nat.{ℕ, suc, ◌+◌, ◌-◌, ◌≤◌, ◌<◌, min}
-use native.Mathlib.Decide.{dec_lt}
 use native.Mathlib.Numerals.{add-one}
 use native.Mathlib.Omega.{arith}
-use lib.Dec.{ltb}
 use lib.ListN.{length, take, drop, get_or, length-append, drop_of_length-le}
-use borrow.Author.Tests.{lt-ltb, le-ltb}
-use Rattle.sets.specs.Calls.{Decides}
-use Rattle.answers.specs.Answers.{done, refusal}
+use Rattle.answers.specs.Answers.{refusal}
 use Rattle.answers.specs.Limits.{most_patterns, most_positions, position_words, point_words}
 use Rattle.answers.specs.Refusals.{limit}
 use Rattle.pattern.specs.Pattern.{Expression}
-use Rattle.pattern.specs.Written.{Good, patterns_of, FirstBad, AllGood}
+use Rattle.pattern.specs.Written.{BadAt, Good, patterns_of, FirstBad, AllGood}
 use Rattle.pattern.specs.Positions.{size, positions, Point, Start, start_position, start_end, ReadsIn}
 use Rattle.pattern.proofs.Promise.{positions_append, reads_in_more}
 use Rattle.pattern.proofs.Promise.{null_exact, onward_below, reads_below}
 use Rattle.parts.specs.declared.Part.{Part}
-use Rattle.parts.specs.Classes.{one_if}
 use Rattle.parts.specs.Rows.{Rows}
-use Rattle.parts.specs.Parts.{positions_in, Told, Tabled}
+use Rattle.parts.specs.Parts.{Told, Tabled}
 use Rattle.parts.proofs.Promise.{rows_none, rows_then, rows_alike}
-use Rattle.positions.specs.Whole.{PatternMeant, PatternRead}
-use Rattle.patterns.specs.declared.gathering.Judged.{Judged}
-use Rattle.patterns.specs.Calls.{Meanings, no_texts, bad_pattern, many_positions, point_at}
-use Rattle.patterns.specs.Gathering.{Finishes, Finished, NextIn, after_position, at_the_start, moved_on}
-use Rattle.patterns.specs.Gathering.{GoodSoFar, JudgedSoFar, Further, answer_of, AllJudged, GatherOutcome}
-use Rattle.patterns.specs.Gathering.{refuses, gathers}
+use Rattle.positions.specs.Whole.{PatternMeant}
+use Rattle.patterns.specs.Calls.{Meanings, no_texts, RefusesPatterns, many_positions, point_at}
+use Rattle.patterns.specs.Gathering.{Finished, NextIn, after_position, at_the_start, GoodSoFar, AllMeant, Gathered}
 use Rattle.patterns.proofs.Pointing.{next_more}
 use Rattle.patterns.proofs.Texts.{next_text, all_good_more, meanings_more, meanings_length, first_bad_there}
 
@@ -46,91 +37,55 @@ no_reads : (b p : ℕ) → ¬ ReadsIn [] p b
 unfolding positions
 no_reads b p r = omega (arith, reads_below r)
 
--- whether there is a further pattern, where none was bad
-pub further_below : (number total : ℕ) {good : Bool} → good ≡ true → Decides (ltb number total) (Further good number total)
-further_below number total {good} is = go (dec_lt number total)
-  where
-    go : Dec (number < total) → Decides (ltb number total) (Further good number total)
-    go (yes below) = rw (lt-ltb number total below) (record { read = is; below = below })
-    go (no past) = rw (le-ltb number total (omega arith)) (λ f. past f.below)
-
--- a good pattern is counted
-pub moved_number : (j : Judged) (end : ℕ) (part : Part)
-    → (moved_on j end part).number ≡ j.number + one_if (moved_on j end part).good
-unfolding one_if
-moved_number j end part = go part.good refl
-  where
-    go : (b : Bool) → part.good ≡ b → (moved_on j end part).number ≡ j.number + one_if (moved_on j end part).good
-    go true good = rw good
-    go false bad = rw bad (omega arith)
-
--- with one more of them, good or bad, there are fewer left to judge
-pub fewer_left : (total number : ℕ) {good : Bool} (then : Bool)
-    → good ≡ true
-    → number < total
-    → total - (number + one_if then) + one_if then < total - number + one_if good
-unfolding one_if
-fewer_left total number true is below = rw is (omega arith)
-fewer_left total number false is below = rw is (omega arith)
-
 -- the positions with one pattern more
 one_more : (rs : List Expression) (x : Expression) → positions (rs ++ (x ∷ [])) ≡ positions rs + size x
 unfolding positions
 one_more rs x = omega (arith, positions_append rs (x ∷ []))
 
 module _ {patterns lengths R F : List ℕ} where
-  pub judged_none :
-      JudgedSoFar patterns lengths R F (record { good = true; number = 0; start = 0; place = 0; count = 0 }) R F
+  pub judged_none : GoodSoFar patterns lengths R F 0 0 0 R F
   unfolding positions
   judged_none =
       record {
-        bound = omega arith;
-        good = λ is.
-            record {
-              gone = [];
-              meanings = [];
-              texts = refl;
-              number = refl;
-              start = omega arith;
-              means = no_texts;
-              good = record { good = λ j t e. let bad : ◌≡◌ {A = ℕ} 0 1 = cc in absurd (omega arith) };
-              count = refl;
-              reads = λ few. rows_none R no_reads;
-              follows = λ few. rows_none F no_next;
-            };
-        bad = λ is. absurd (false≢true (sym is));
+        gone = [];
+        meanings = [];
+        texts = refl;
+        gone_length = refl;
+        start_inside = omega arith;
+        means = no_texts;
+        good = record { good = λ j t e. let bad : ◌≡◌ {A = ℕ} 0 1 = cc in absurd (omega arith) };
+        counted = refl;
+        reads = λ few. rows_none R no_reads;
+        follows = λ few. rows_none F no_next;
       }
 
-  module _ {j : Judged} {R₁ F₁ : List ℕ} (g : GoodSoFar patterns lengths R F j R₁ F₁)
-      (below : j.number < length lengths) (few : length lengths ≤ most_patterns)
-      {end : ℕ} (ends : end ≡ j.start + min (get_or lengths j.number 0) (length patterns - j.start)) where
+  module _ {number start count : ℕ} {R₁ F₁ : List ℕ} (g : GoodSoFar patterns lengths R F number start count R₁ F₁)
+      (below : number < length lengths) {end : ℕ}
+      (ends : end ≡ start + min (get_or lengths number 0) (length patterns - start)) where
     -- the bytes of the next pattern, and the patterns behind it
     abbrev text : List ℕ
-    text = take (end - j.start) (drop j.start patterns)
+    text = take (end - start) (drop start patterns)
 
     abbrev behind : List (List ℕ)
-    behind = patterns_of (drop end patterns) (drop (suc j.number) lengths)
+    behind = patterns_of (drop end patterns) (drop (suc number) lengths)
 
     all_texts : patterns_of patterns lengths ≡ g.gone ++ (text ∷ behind)
-    all_texts = rw (← next_text patterns lengths j.start j.number end below ends) g.texts
+    all_texts = rw (← next_text patterns lengths start number end below ends) g.texts
 
     more_texts : patterns_of patterns lengths ≡ (g.gone ++ (text ∷ [])) ++ behind
     more_texts = rw append_assoc all_texts
 
     -- a bad pattern is the first bad one
-    bad_more : {part : Part} {R₂ F₂ : List ℕ}
-        → PatternRead text j.count R₁ F₁ part R₂ F₂
-        → part.good ≡ false
-        → FirstBad (patterns_of patterns lengths) part.at j.number
-    bad_more read bad = first_bad_there behind all_texts g.number g.good (read.bad bad)
+    pub bad_more : {place : ℕ} → BadAt text place → FirstBad (patterns_of patterns lengths) place number
+    bad_more bad = first_bad_there behind all_texts g.gone_length g.good bad
 
     -- a good one stands behind the others
-    module _ {part : Part} {R₂ F₂ : List ℕ} (m : PatternMeant text j.count R₁ F₁ part R₂ F₂) where
+    module _ {part : Part} {R₂ F₂ : List ℕ} (m : PatternMeant text count R₁ F₁ part R₂ F₂) where
       abbrev meanings_then : List Expression
       meanings_then = g.meanings ++ (m.meaning ∷ [])
 
-      from_there : positions meanings_then ≤ most_positions → j.count ≡ positions g.meanings
-      from_there fit = omega (arith, g.count, one_more g.meanings m.meaning)
+      from_there : positions meanings_then ≤ most_positions → count ≡ positions g.meanings
+      from_there fit = omega (arith, g.counted, one_more g.meanings m.meaning)
 
       told_there : positions meanings_then ≤ most_positions → Told (positions g.meanings) m.meaning part
       told_there fit = subst (λ (n : ℕ). Told n m.meaning part) (from_there fit) m.told
@@ -148,16 +103,16 @@ module _ {patterns lengths R F : List ℕ} where
           (rows_then (g.reads (omega arith)) ((tabled_there fit).reads size_fits))
 
       follows_then : {F₃ : List ℕ}
-          → Rows point_words F₂ F₃ (Finishes (positions_in part.last) (positions_in part.first) j.number)
+          → Finished part number F₂ F₃
           → positions meanings_then ≤ most_positions
           → Rows point_words F F₃ (NextIn meanings_then)
       follows_then finished fit =
           let size_fits : positions g.meanings + size m.meaning ≤ most_positions =
           omega (arith, one_more g.meanings m.meaning) in
           let t = told_there fit in
-          let number : j.number ≡ length g.meanings = sym g.number ∙ sym (meanings_length g.means) in
+          let there : number ≡ length g.meanings = sym g.gone_length ∙ sym (meanings_length g.means) in
           rows_alike (next_more g.meanings m.meaning size_fits m.not_null (t.last size_fits) (t.first size_fits))
-          (rows_then (g.follows (omega arith)) (rows_then ((tabled_there fit).follows size_fits) (rw number at finished)))
+          (rows_then (g.follows (omega arith)) (rows_then ((tabled_there fit).follows size_fits) (rw there at finished)))
 
       is_good : Good text
       is_good =
@@ -167,92 +122,47 @@ module _ {patterns lengths R F : List ℕ} where
             not_empty = λ matches. m.not_null (null_exact.1 matches);
           }
 
-      good_more : {F₃ : List ℕ}
-          → Rows point_words F₂ F₃ (Finishes (positions_in part.last) (positions_in part.first) j.number)
-          → GoodSoFar patterns lengths R F
-          (record { good = true; number = j.number + 1; start = end; place = 0; count = part.count }) R₂ F₃
+      pub good_more : {F₃ : List ℕ}
+          → Finished part number F₂ F₃
+          → GoodSoFar patterns lengths R F (number + 1) end part.count R₂ F₃
       good_more finished =
           record {
             gone = g.gone ++ (text ∷ []);
             meanings = meanings_then;
             texts = rw add-one more_texts;
-            number = omega (arith, length-append g.gone (text ∷ []), g.number);
-            start = omega (arith, g.start);
+            gone_length = omega (arith, length-append g.gone (text ∷ []), g.gone_length);
+            start_inside = omega (arith, g.start_inside);
             means = meanings_more g.means m.pattern;
             good = all_good_more g.good is_good;
-            count = omega (arith, m.told.count, g.count, one_more g.meanings m.meaning);
+            counted = omega (arith, m.told.count, g.counted, one_more g.meanings m.meaning);
             reads = reads_then;
             follows = follows_then finished;
           }
 
-  -- one pattern more
-  module _ {j : Judged} {R₁ F₁ : List ℕ} (so_far : JudgedSoFar patterns lengths R F j R₁ F₁)
-      (is : j.good ≡ true) (below : j.number < length lengths) (few : length lengths ≤ most_patterns)
-      {end : ℕ} (ends : end ≡ j.start + min (get_or lengths j.number 0) (length patterns - j.start))
-      {part : Part} {R₂ F₂ F₃ : List ℕ}
-      (read : PatternRead (take (end - j.start) (drop j.start patterns)) j.count R₁ F₁ part R₂ F₂)
-      (finished : Finished part j.number F₂ F₃) where
-    pub judged_more : JudgedSoFar patterns lengths R F (moved_on j end part) R₂ F₃
-    judged_more = go part.good refl
-      where
-        go : (b : Bool) → part.good ≡ b → JudgedSoFar patterns lengths R F (moved_on j end part) R₂ F₃
-        go true good =
-            rw good
-            (record {
-              bound = omega arith;
-              good = λ _. good_more (so_far.good is) below few ends (read.good good) (finished good (omega arith));
-              bad = λ bad. absurd (false≢true (sym bad));
-            })
-        go false bad =
-            rw bad
-            (record {
-              bound = omega arith;
-              good = λ good. absurd (false≢true good);
-              bad = λ _. bad_more (so_far.good is) below few ends read bad;
-            })
-
   -- all of them
-  module _ {j : Judged} {R₁ F₁ : List ℕ} (few : length lengths ≤ most_patterns)
-      (all : AllJudged patterns lengths R F j R₁ F₁) where
-    all_gone : (is : j.good ≡ true) → patterns_of patterns lengths ≡ (all.judged.good is).gone
+  module _ {count : ℕ} {R₁ F₁ : List ℕ} (few : length lengths ≤ most_patterns)
+      (all : AllMeant patterns lengths R F count R₁ F₁) where
+    all_gone : patterns_of patterns lengths ≡ all.judged.gone
     unfolding patterns_of
-    all_gone is =
-        let g = all.judged.good is in
-        let end : length lengths ≤ j.number = past (dec_lt j.number (length lengths)) in
-        g.texts ∙ rw (drop_of_length-le lengths {i = j.number} end, append-nil)
-      where
-        past : Dec (j.number < length lengths) → length lengths ≤ j.number
-        past (yes below) = absurd (all.ended (record { read = is; below = below }))
-        past (no end) = omega arith
+    all_gone =
+        all.judged.texts ∙ rw (drop_of_length-le lengths {i = length lengths} (omega arith), append-nil)
 
-    means_all : (is : j.good ≡ true)
-        → Meanings (patterns_of patterns lengths) (all.judged.good is).meanings
-    means_all is = rw (all_gone is) (all.judged.good is).means
+    means_all : Meanings (patterns_of patterns lengths) all.judged.meanings
+    means_all = rw all_gone all.judged.means
 
-    good_all : j.good ≡ true → AllGood (patterns_of patterns lengths)
-    good_all is = rw (all_gone is) (all.judged.good is).good
+    good_all : AllGood (patterns_of patterns lengths)
+    good_all = rw all_gone all.judged.good
 
-    -- what is told
-    told_good : j.good ≡ true → GatherOutcome patterns lengths R F R₁ F₁
-        (cond (ltb most_positions j.count) (refusal limit most_positions 0) (done 0))
-    told_good is = go (dec_lt most_positions j.count)
-      where
-        go : Dec (most_positions < j.count) → GatherOutcome patterns lengths R F R₁ F₁
-            (cond (ltb most_positions j.count) (refusal limit most_positions 0) (done 0))
-        go (yes past) =
-            let g = all.judged.good is in
-            rw (lt-ltb most_positions j.count past)
-            (refuses (many_positions few (means_all is) (good_all is) (omega (arith, g.count))))
-        go (no within) =
-            let g = all.judged.good is in
-            let fit : positions g.meanings ≤ most_positions = omega (arith, g.count) in
-            rw (le-ltb most_positions j.count (omega arith))
-            (gathers (record { few = few; means = means_all is; good = good_all is; fit = fit }) (g.reads fit) (g.follows fit))
+    pub too_many : most_positions < count → RefusesPatterns patterns lengths (refusal limit most_positions 0)
+    too_many past = many_positions few means_all good_all (omega (arith, all.judged.counted))
 
-    pub gathered : GatherOutcome patterns lengths R F R₁ F₁ (answer_of j.good j.place j.number j.count)
-    gathered = go j.good refl
-      where
-        go : (b : Bool) → j.good ≡ b
-            → GatherOutcome patterns lengths R F R₁ F₁ (answer_of j.good j.place j.number j.count)
-        go true is = rw is (told_good is)
-        go false bad = rw bad (refuses (bad_pattern few (all.judged.bad bad)))
+    pub gathered : count ≤ most_positions → Gathered patterns lengths R F R₁ F₁
+    gathered within =
+        let g = all.judged in
+        let fit : positions g.meanings ≤ most_positions = omega (arith, g.counted) in
+        record {
+          meanings = g.meanings;
+          accepted = record { few = few; means = means_all; good = good_all; fit = fit };
+          reads = g.reads fit;
+          follows = g.follows fit;
+        }

@@ -1,21 +1,19 @@
 -- Patterns read one after the other: how far they were judged, and what the tables have of them.
 -- Working definitions, which no public contract cites.
-use Rattle.std.specs.Prelude.{◌≡◌, Bool, true, false, cond, List, ◌++◌, ℕ, ◌+◌, ◌≤◌, ◌<◌, ltb, length, drop}
+use Rattle.std.specs.Prelude.{◌≡◌, true, List, ◌++◌, ℕ, ◌+◌, ◌≤◌, ◌<◌, length, drop, ⊤, Result, MatchResult}
 use Rattle.sets.specs.Sets.{member}
 use Rattle.answers.specs.declared.Answer.{Answer}
-use Rattle.answers.specs.Answers.{done, refusal}
-use Rattle.answers.specs.Limits.{most_patterns, most_positions, position_words, point_words}
-use Rattle.answers.specs.Refusals.{limit, pattern}
+use Rattle.answers.specs.Limits.{most_positions, position_words, point_words}
 use Rattle.pattern.specs.Pattern.{Expression}
 use Rattle.pattern.specs.Written.{patterns_of, FirstBad, AllGood}
 use Rattle.pattern.specs.Positions.{positions, Start, Onward, ReadsIn}
 use Rattle.parts.specs.declared.Part.{Part}
-use Rattle.parts.specs.Classes.{one_if}
 use Rattle.parts.specs.Rows.{Rows}
 use Rattle.parts.specs.Parts.{positions_in, capped}
-use Rattle.patterns.specs.declared.gathering.Judged.{Judged}
+use Rattle.patterns.specs.declared.gathering.BadPattern.{BadPattern}
 pub use Rattle.patterns.specs.Calls.{TablesFit}
-use Rattle.patterns.specs.Calls.{Meanings, Accepted, RefusesPatterns, point_at, TablesOf}
+use Rattle.patterns.specs.Calls.{Meanings, Accepted, RefusesPatterns, point_at}
+use Rattle.patterns.specs.Promised.{ReadServed}
 
 -- what a pattern adds: its end behind each position that can come last, and to the start what can come first
 pub data Finishes (last first number : ℕ) : ℕ → ℕ → Type 0 where
@@ -24,9 +22,7 @@ pub data Finishes (last first number : ℕ) : ℕ → ℕ → Type 0 where
 
 abbrev pub Finished : Part → ℕ → List ℕ → List ℕ → Type 0
 Finished part number follow after =
-    part.good ≡ true
-    → number < most_patterns
-    → Rows point_words follow after (Finishes (positions_in part.last) (positions_in part.first) number)
+    Rows point_words follow after (Finishes (positions_in part.last) (positions_in part.first) number)
 
 -- what each row of the second table has: for a position what can come after it, and behind the positions what can
 -- come first
@@ -34,84 +30,56 @@ pub data NextIn (rs : List Expression) : ℕ → ℕ → Type 0 where
   after_position : {p q : ℕ} → p < most_positions → Onward rs p (point_at q) → NextIn rs p q
   at_the_start : {q : ℕ} → Start rs (point_at q) → NextIn rs most_positions q
 
--- with a good pattern to the next one, or to a bad one's place
-abbrev pub moved_on : Judged → ℕ → Part → Judged
-moved_on j end part =
-    cond part.good
-    (record { good = true; number = j.number + 1; start = end; place = 0; count = part.count })
-    (record { good = false; number = j.number; start = j.start; place = part.at; count = j.count })
-
--- the patterns before the next one are good
-pub record GoodSoFar (patterns lengths readers follow : List ℕ)
-    (j : Judged) (readers_after follow_after : List ℕ) : Type 0 where
+-- the patterns before number `number`, whose bytes begin at `start`, are good and have `count` positions
+pub record GoodSoFar (patterns lengths readers follow : List ℕ) (number start count : ℕ)
+    (readers_after follow_after : List ℕ) : Type 0 where
   pub gone : List (List ℕ)
   pub meanings : List Expression
-  pub texts : patterns_of patterns lengths ≡ gone ++ patterns_of (drop j.start patterns) (drop j.number lengths)
-  pub number : length gone ≡ j.number
-  pub start : j.start ≤ length patterns
+  pub texts : patterns_of patterns lengths ≡ gone ++ patterns_of (drop start patterns) (drop number lengths)
+  pub gone_length : length gone ≡ number
+  pub start_inside : start ≤ length patterns
   pub means : Meanings gone meanings
   pub good : AllGood gone
-  pub count : j.count ≡ capped (positions meanings)
+  pub counted : count ≡ capped (positions meanings)
   pub reads : positions meanings ≤ most_positions
       → Rows position_words readers readers_after (λ b p. ReadsIn meanings p b)
   pub follows : positions meanings ≤ most_positions → Rows point_words follow follow_after (NextIn meanings)
 
--- they are, or one of them is the first bad one
-pub record JudgedSoFar (patterns lengths readers follow : List ℕ)
-    (j : Judged) (readers_after follow_after : List ℕ) : Type 0 where
-  pub bound : j.number ≤ length lengths
-  pub good : j.good ≡ true → GoodSoFar patterns lengths readers follow j readers_after follow_after
-  pub bad : j.good ≡ false → FirstBad (patterns_of patterns lengths) j.place j.number
+-- all patterns are good and have so many positions
+pub record AllMeant (patterns lengths readers follow : List ℕ) (count : ℕ)
+    (readers_after follow_after : List ℕ) : Type 0 where
+  pub end : ℕ
+  pub judged : GoodSoFar patterns lengths readers follow (length lengths) end count readers_after follow_after
 
--- there is a further pattern to judge
-pub record Further (good : Bool) (number total : ℕ) : Type 0 where
-  pub read : good ≡ true
-  pub below : number < total
+-- they are, or one is the first bad one
+abbrev pub AllJudged : (patterns lengths readers follow : List ℕ) → Result ℕ BadPattern
+    → (readers_after follow_after : List ℕ) → Type 0
+AllJudged patterns lengths readers follow r readers_after follow_after =
+    MatchResult r (λ count. AllMeant patterns lengths readers follow count readers_after follow_after)
+    (λ bad. FirstBad (patterns_of patterns lengths) bad.place bad.number)
 
--- with one pattern more, good or bad
-pub record Advanced (patterns lengths : List ℕ) (j : Judged) (readers follow : List ℕ)
-    (r : Judged) (readers_after follow_after : List ℕ) : Type 0 where
-  pub moved : r.number ≡ j.number + one_if r.good
-  pub judged : (R F : List ℕ)
-      → j.good ≡ true
-      → length lengths ≤ most_patterns
-      → JudgedSoFar patterns lengths R F j readers follow
-      → JudgedSoFar patterns lengths R F r readers_after follow_after
+-- the patterns are accepted, and the tables have what they add
+pub record Gathered (patterns lengths readers follow readers_after follow_after : List ℕ) : Type 0 where
+  pub meanings : List Expression
+  pub accepted : Accepted patterns lengths meanings
+  pub reads : Rows position_words readers readers_after (λ b p. ReadsIn meanings p b)
+  pub follows : Rows point_words follow follow_after (NextIn meanings)
 
--- all patterns are good, or one is the first bad one
-pub record AllJudged (patterns lengths readers follow : List ℕ)
-    (j : Judged) (readers_after follow_after : List ℕ) : Type 0 where
-  pub judged : JudgedSoFar patterns lengths readers follow j readers_after follow_after
-  pub ended : ¬ Further j.good j.number (length lengths)
+-- they are, or refused
+abbrev pub GatherOutcome : (patterns lengths readers follow readers_after follow_after : List ℕ)
+    → Result ⊤ Answer → Type 0
+GatherOutcome patterns lengths readers follow readers_after follow_after r =
+    MatchResult r (λ _. Gathered patterns lengths readers follow readers_after follow_after)
+    (RefusesPatterns patterns lengths)
 
--- what is told of them
-abbrev pub answer_of : Bool → ℕ → ℕ → ℕ → Answer
-answer_of good place number count =
-    cond good
-    (cond (ltb most_positions count) (refusal limit most_positions 0) (done 0))
-    (refusal pattern place number)
-
--- all patterns: a refusal, or the tables with what they add
-pub data GatherOutcome (patterns lengths readers follow readers_after follow_after : List ℕ) : Answer → Type 0 where
-  refuses : {a : Answer}
-      → RefusesPatterns patterns lengths a
-      → GatherOutcome patterns lengths readers follow readers_after follow_after a
-  gathers : {rs : List Expression}
-      → Accepted patterns lengths rs
-      → Rows position_words readers readers_after (λ b p. ReadsIn rs p b)
-      → Rows point_words follow follow_after (NextIn rs)
-      → GatherOutcome patterns lengths readers follow readers_after follow_after (done 0)
+-- tables of the same lengths, for patterns that are refused
+pub record FillRefused (patterns lengths readers follow : List ℕ) (a : Answer) (xs ys : List ℕ) : Type 0 where
+  pub refuses : RefusesPatterns patterns lengths a
+  pub readers_sized : length xs ≡ length readers
+  pub follow_sized : length ys ≡ length follow
 
 -- tables that are long enough, cleared and filled
-pub data FillOutcome (patterns lengths readers follow : List ℕ) : Answer → List ℕ → List ℕ → Type 0 where
-  fill_refused : {a : Answer} {xs ys : List ℕ}
-      → RefusesPatterns patterns lengths a
-      → length xs ≡ length readers
-      → length ys ≡ length follow
-      → FillOutcome patterns lengths readers follow a xs ys
-  filled : {rs : List Expression} {xs ys : List ℕ}
-      → Accepted patterns lengths rs
-      → length xs ≡ length readers
-      → length ys ≡ length follow
-      → TablesOf rs xs ys
-      → FillOutcome patterns lengths readers follow (done 0) xs ys
+abbrev pub FillOutcome : (patterns lengths readers follow : List ℕ) → Result ⊤ Answer → List ℕ → List ℕ → Type 0
+FillOutcome patterns lengths readers follow r xs ys =
+    MatchResult r (λ _. ReadServed patterns lengths readers follow xs ys)
+    (λ a. FillRefused patterns lengths readers follow a xs ys)

@@ -5,22 +5,27 @@ ghost use Rattle.patterns.specs.Calls.{ReadOutcome, JudgePatterns};
 ghost use Rattle.patterns.specs.Gathering.{TablesFit, FillOutcome};
 
 use crate::gathering::gather;
-use crate::tables::{FOLLOW_LENGTH, READERS_LENGTH, clear, keep_if_done};
-use answers::refusals::ROOM;
-use answers::{Answer, refusal};
+use crate::tables::{FOLLOW_LENGTH, READERS_LENGTH};
+use answers::refusals::Refusal;
+use answers::{Answer, done, refusal};
 
 mod gathering;
 pub mod tables;
 
 // Tables that are long enough, cleared and then filled.
-fn fill(patterns: &[u8], lengths: &[u64], readers: &mut [u64], follow: &mut [u64]) -> Answer
+fn fill(
+    patterns: &[u8],
+    lengths: &[u64],
+    readers: &mut [u64],
+    follow: &mut [u64],
+) -> Result<(), Answer>
     requires { TablesFit readers.old follow.old }
     ensures { FillOutcome patterns.now lengths.now
         readers.old follow.old
         result readers.new follow.new }
 {
-    clear(readers);
-    clear(follow);
+    readers.fill(0);
+    follow.fill(0);
     gather(
         patterns,
         lengths,
@@ -35,16 +40,17 @@ pub fn read(patterns: &[u8], lengths: &[u64], readers: &mut [u64], follow: &mut 
         readers.old follow.old
         result readers.new follow.new }
 {
-    if readers.len() < READERS_LENGTH {
-        return refusal(ROOM, 0, 0);
+    if readers.len() < READERS_LENGTH || follow.len() < FOLLOW_LENGTH {
+        return refusal(Refusal::Room, 0, 0);
     }
-    if follow.len() < FOLLOW_LENGTH {
-        return refusal(ROOM, 0, 0);
+    match fill(patterns, lengths, readers, follow) {
+        Ok(()) => done(0),
+        Err(answer) => {
+            readers.fill(0);
+            follow.fill(0);
+            answer
+        }
     }
-    let answer = fill(patterns, lengths, readers, follow);
-    keep_if_done(answer.number, readers);
-    keep_if_done(answer.number, follow);
-    answer
 }
 
 // The same answer with no tables.
@@ -53,5 +59,8 @@ pub fn judge(patterns: &[u8], lengths: &[u64]) -> Answer
 {
     let mut readers = [0u64; 1];
     let mut follow = [0u64; 1];
-    gather(patterns, lengths, &mut readers, &mut follow)
+    match gather(patterns, lengths, &mut readers, &mut follow) {
+        Ok(()) => done(0),
+        Err(answer) => answer,
+    }
 }

@@ -10,5 +10,5 @@ pub use Rattle.points.proofs.Outcomes.{unite_length, unite_words, unite_elsewher
 pub use Rattle.points.proofs.Outcomes.{unite_unites, unite_members, unite_exactly}
 pub use Rattle.points.proofs.Unique.{has_unique, put_unique, unite_unique, same_unique, none_unique}
 pub use Rattle.points.proofs.Unique.{lowest_unique}
-pub use Rattle.points.proofs.Zeros.{lowest_some, without_there, without_other, without_keeps, without_falls}
+pub use Rattle.points.proofs.Zeros.{lowest_none, without_there, without_other, without_keeps, without_falls}
 unfoldable pub use Rattle.points.proofs.Zeros.{without}

@@ -1,11 +1,11 @@
 -- No contract of the crate allows a second outcome.
-use mathlib.Core.Path.{◌≡◌, sym, ◌∙◌}
-use mathlib.Core.Bool.{Bool, false≢true}
+use mathlib.Core.Path.{◌≡◌, refl, ap}
+use mathlib.Core.Bool.{Bool}
 use mathlib.Core.List.{List}
-use Prim.Native.Nat.{ℕ, ◌<◌}
-use native.Mathlib.Decide.{dec_lt}
-use native.Mathlib.Omega.{arith}
+use Prim.Native.Nat.{ℕ}
+use Rattle.std.specs.Prelude.{Option, Some, None as NoneOf}
 use Rattle.sets.proofs.Promise.{value_unique, decides_unique}
+use Rattle.answers.proofs.Promise.{lowest_unique as lowest_in_unique, lowest_or_count}
 use Rattle.points.specs.Points.{points_at, Has, Put, Unite, Same, None, Lowest}
 
 pub has_unique : (slice : List ℕ) (at n place : ℕ) {r r' : Bool}
@@ -38,14 +38,9 @@ pub none_unique : (slice : List ℕ) (at n : ℕ) (r r' : Bool)
     → r ≡ r'
 none_unique slice at n = decides_unique (points_at slice at n ≡ 0)
 
--- of two lowest members neither is lower
-not_lower : {word r r' : ℕ} → Lowest word r → Lowest word r' → r < r' → ⊥
-not_lower {word} {r} h h' lower = false≢true (sym (h'.below r lower) ∙ h.there (omega (arith, h'.within)))
-
-pub lowest_unique : {word r r' : ℕ} → Lowest word r → Lowest word r' → r ≡ r'
-lowest_unique {word} {r} {r'} h h' = go (dec_lt r r') (dec_lt r' r)
-  where
-    go : Dec (r < r') → Dec (r' < r) → r ≡ r'
-    go (yes lower) d = absurd (not_lower h h' lower)
-    go (no k) (yes lower) = absurd (not_lower h' h lower)
-    go (no k) (no l) = omega arith
+pub lowest_unique : (word : ℕ) {r r' : Option ℕ} → Lowest word r → Lowest word r' → r ≡ r'
+lowest_unique word {r = NoneOf} {r' = NoneOf} h h' = refl
+lowest_unique word {r = NoneOf} {r' = Some j} h h' = absurd (h j h'.inside h'.holds)
+lowest_unique word {r = Some i} {r' = NoneOf} h h' = absurd (h' i h.inside h.holds)
+lowest_unique word {r = Some i} {r' = Some j} h h' =
+    ap Some (lowest_in_unique (lowest_or_count (Some i) h) (lowest_or_count (Some j) h'))

@@ -1,9 +1,10 @@
 -- A set of n words that starts at word `at` of a slice, and what each function of the crate answers. Document 02, W3.
-use Rattle.std.specs.Prelude.{◌≡◌, Bool, true, false, List, [], ◌∷◌, ℕ, zero, suc, ◌≤◌, ◌<◌, get_or}
+use Rattle.std.specs.Prelude.{◌≡◌, Bool, true, List, [], ◌∷◌, ℕ, zero, suc, get_or, Option}
 use Rattle.std.proofs.lemmas.List.Edits.{sets as written}
 use Rattle.sets.specs.Sets.{member, united, added}
 use Rattle.sets.specs.Calls.{Decides}
 use Rattle.sets.specs.Words.{word_width, AreWords, value_of, words_of}
+use Rattle.answers.specs.Lowest.{LowestIn}
 
 -- the n words of a slice from `at` on; a word past the end is 0
 unfoldable pub words_at : List ℕ → ℕ → ℕ → List ℕ
@@ -39,8 +40,6 @@ Same slice at other from n r = Decides r (points_at slice at n ≡ points_at oth
 abbrev pub None : List ℕ → ℕ → ℕ → Bool → Type 0
 None slice at n r = Decides r (points_at slice at n ≡ 0)
 
--- r is the lowest member of the word, or past its places if there is none
-pub record Lowest (word r : ℕ) : Type 0 where
-  pub within : r ≤ word_width
-  pub there : r < word_width → member r word ≡ true
-  pub below : (k : ℕ) → k < r → member k word ≡ false
+-- the lowest member of the word, or nothing where it has none
+abbrev pub Lowest : ℕ → Option ℕ → Type 0
+Lowest word r = LowestIn (λ k. member k word ≡ true) word_width r

@@ -12,11 +12,7 @@ pub const WORD_WIDTH: usize = 64;
 fn held(length: usize, at: usize, words: usize) -> usize
     ensures { result ≡ min words (length - at) }
 {
-    if length <= at {
-        return 0;
-    }
-    let rest = length - at;
-    if words < rest { words } else { rest }
+    words.min(length.saturating_sub(at))
 }
 
 // Word i from `at` on.
@@ -24,19 +20,14 @@ fn word(sets: &[u64], at: usize, i: usize) -> u64
     requires { at + i < length sets.now }
     ensures { result ≡ get_or sets.now (at + i) 0 }
 {
-    let place = at + i;
-    sets[place]
+    sets[at + i]
 }
 
 pub fn has(sets: &[u64], at: usize, words: usize, place: usize) -> bool
     ensures { Has sets.now at words place result }
 {
     let i = place / WORD_WIDTH;
-    if i < held(sets.len(), at, words) {
-        (word(sets, at, i) >> (place % WORD_WIDTH)) % 2 == 1
-    } else {
-        false
-    }
+    i < held(sets.len(), at, words) && (word(sets, at, i) >> (place % WORD_WIDTH)) % 2 == 1
 }
 
 // A place that the set does not have, or whose word lies past the end, adds nothing.
@@ -45,8 +36,7 @@ pub fn put(sets: &mut [u64], at: usize, words: usize, place: usize)
 {
     let i = place / WORD_WIDTH;
     if i < held(sets.len(), at, words) {
-        let target = at + i;
-        sets[target] = sets[target] | (1u64 << (place % WORD_WIDTH));
+        sets[at + i] |= 1u64 << (place % WORD_WIDTH);
     }
 }
 
@@ -55,11 +45,8 @@ pub fn unite(sets: &mut [u64], at: usize, words: usize, other: &[u64], from: usi
     ensures { Unite sets.old at words other.now from sets.new }
 {
     let end = held(other.len(), from, held(sets.len(), at, words));
-    let mut i = 0;
-    while i < end {
-        let target = at + i;
-        sets[target] = sets[target] | word(other, from, i);
-        i += 1;
+    for i in 0..end {
+        sets[at + i] |= word(other, from, i);
     }
 }
 
@@ -67,12 +54,10 @@ pub fn none(sets: &[u64], at: usize, words: usize) -> bool
     ensures { None sets.now at words result }
 {
     let count = held(sets.len(), at, words);
-    let mut i = 0;
-    while i < count {
+    for i in 0..count {
         if word(sets, at, i) != 0 {
             return false;
         }
-        i += 1;
     }
     true
 }
@@ -82,26 +67,21 @@ pub fn same(sets: &[u64], at: usize, other: &[u64], from: usize, words: usize) -
     ensures { Same sets.now at other.now from words result }
 {
     let count = held(other.len(), from, held(sets.len(), at, words));
-    let mut i = 0;
-    while i < count {
+    for i in 0..count {
         if word(sets, at, i) != word(other, from, i) {
             return false;
         }
-        i += 1;
     }
     none(sets, at + count, words - count) && none(other, from + count, words - count)
 }
 
-// Word i of a slice; past the end 0.
-pub fn word_at(words: &[u64], i: usize) -> u64
-    ensures { result ≡ get_or words.now i 0 }
-{
-    if i < words.len() { words[i] } else { 0 }
-}
-
-// The lowest member of a word, or 64.
-pub fn lowest(word: u64) -> usize
+// The lowest member of a word; 0 has none.
+pub fn lowest(word: u64) -> Option<usize>
     ensures { Lowest word result }
 {
-    u64::trailing_zeros(word) as usize
+    if word == 0 {
+        None
+    } else {
+        Some(word.trailing_zeros() as usize)
+    }
 }

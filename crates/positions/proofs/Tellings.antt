@@ -15,7 +15,7 @@ use Rattle.pattern.proofs.Promise.{null_of_cat, null_of_alt, null_of_plus, first
 use Rattle.parts.specs.declared.Part.{Part}
 use Rattle.parts.specs.Parts.{positions_in, Told, Tabled}
 use Rattle.parts.specs.Leading.{Leads}
-use Rattle.parts.specs.Joins.{LedOn, behind, Turns, Splits}
+use Rattle.parts.specs.Joins.{LedOn, behind, InTurn, EitherOf}
 use Rattle.parts.proofs.Promise.{rows_then, rows_alike}
 
 -- answers put together
@@ -54,7 +54,7 @@ module _ {n : ℕ} {x y : Expression} {left right : Part} (l : Told n x left) (s
   right_told : n + (size x + size y) ≤ most_positions → Told (n + size x) y right
   right_told few = subst (λ (m : ℕ). Told m y right) (from_there few) s
 
-  pub told_cat : {r : Part} {follow after : List ℕ} → Turns left right follow r after → Told n (cat x y) r
+  pub told_cat : {r : Part} {follow after : List ℕ} → InTurn left right follow r after → Told n (cat x y) r
   unfolding size
   told_cat {r} t =
       record {
@@ -75,7 +75,7 @@ module _ {n : ℕ} {x y : Expression} {left right : Part} (l : Told n x left) (s
         λ w. last_of_cat.1 (⊎_elim inl (λ v. inr (v.1, v.0)) w),
       )
 
-  pub told_alt : {r : Part} → Splits left right r → Told n (alt x y) r
+  pub told_alt : {r : Part} → EitherOf left right r → Told n (alt x y) r
   unfolding size
   told_alt t =
       record {

@@ -5,8 +5,8 @@ ghost use Rattle.parts.specs.Reading.{ItemRead, RepetitionRead, SequenceRead, Al
 
 use parts::Part;
 use parts::items::single;
-use parts::joins::{closed, divides, either, followed, goes_on, refused, signed};
-use parts::letters::{OPEN_GROUP, byte_at};
+use parts::joins::{closed, either, followed, goes_on, signed};
+use parts::letters::{BAR, OPEN_GROUP, byte_at};
 
 // Alternatives with bars between them. `depth` is how many groups may still open, `count` the positions so far.
 #[cycle(alternation_group_repetition_sequence)]
@@ -17,20 +17,17 @@ pub(crate) fn alternation(
     count: usize,
     readers: &mut [u64],
     follow: &mut [u64],
-) -> Part
+) -> Result<Part, usize>
     ensures { AlternationRead pattern.now depth at count
         readers.old follow.old
         result readers.new follow.new }
 {
-    let mut whole = sequence(pattern, at, depth, count, readers, follow);
-    while divides(pattern, whole.good, whole.at) {
-        let next = whole.at + 1;
-        let so_far = whole.count;
-        let right = sequence(pattern, next, depth, so_far, readers, follow);
-        let joined = either(whole, right);
-        whole = joined;
+    let mut whole = sequence(pattern, at, depth, count, readers, follow)?;
+    while byte_at(pattern, whole.at) == BAR {
+        let right = sequence(pattern, whole.at + 1, depth, whole.count, readers, follow)?;
+        whole = either(whole, right);
     }
-    whole
+    Ok(whole)
 }
 
 // Repetitions one behind the other, up to a bar, the end of a group or of the text.
@@ -42,19 +39,16 @@ fn sequence(
     count: usize,
     readers: &mut [u64],
     follow: &mut [u64],
-) -> Part
+) -> Result<Part, usize>
     ensures { SequenceRead pattern.now depth at count readers.old follow.old
         result readers.new follow.new }
 {
-    let mut whole = repetition(pattern, at, depth, count, readers, follow);
-    while goes_on(pattern, whole.good, whole.at) {
-        let next = whole.at;
-        let so_far = whole.count;
-        let right = repetition(pattern, next, depth, so_far, readers, follow);
-        let joined = followed(whole, right, follow);
-        whole = joined;
+    let mut whole = repetition(pattern, at, depth, count, readers, follow)?;
+    while goes_on(pattern, whole.at) {
+        let right = repetition(pattern, whole.at, depth, whole.count, readers, follow)?;
+        whole = followed(whole, right, follow);
     }
-    whole
+    Ok(whole)
 }
 
 // A group, byte or class, and the sign behind it, if there is one.
@@ -66,16 +60,16 @@ fn repetition(
     count: usize,
     readers: &mut [u64],
     follow: &mut [u64],
-) -> Part
+) -> Result<Part, usize>
     ensures { RepetitionRead pattern.now depth at count readers.old follow.old
         result readers.new follow.new }
 {
-    if byte_at(pattern, at) == OPEN_GROUP {
-        let item = group(pattern, at, depth, count, readers, follow);
-        return signed(pattern, item, follow);
-    }
-    let item = single(pattern, at, count, readers);
-    signed(pattern, item, follow)
+    let item = if byte_at(pattern, at) == OPEN_GROUP {
+        group(pattern, at, depth, count, readers, follow)?
+    } else {
+        single(pattern, at, count, readers)?
+    };
+    Ok(signed(pattern, item, follow))
 }
 
 // An alternation one group deeper, and the end of its group.
@@ -87,14 +81,14 @@ fn group(
     count: usize,
     readers: &mut [u64],
     follow: &mut [u64],
-) -> Part
+) -> Result<Part, usize>
     requires { get_or pattern.now at 0 ≡ open_group }
     ensures { ItemRead pattern.now depth at count readers.old follow.old
         result readers.new follow.new }
 {
     if depth == 0 {
-        return refused(at);
+        return Err(at);
     }
-    let inner = alternation(pattern, at + 1, depth - 1, count, readers, follow);
+    let inner = alternation(pattern, at + 1, depth - 1, count, readers, follow)?;
     closed(pattern, inner)
 }

@@ -12,22 +12,23 @@ pub const MOST_OPEN_GROUPS: usize = 8;
 fn whole(total: usize, part: Part) -> bool
     ensures { Decides result (WholePart total part) }
 {
-    if !part.good {
-        return false;
-    }
-    if part.at < total {
-        return false;
-    }
-    !part.empty
+    total <= part.at && !part.empty
 }
 
-// The pattern's part, good or bad at its place. `count` is how many positions stand before it.
-pub fn pattern(text: &[u8], count: usize, readers: &mut [u64], follow: &mut [u64]) -> Part
+// The pattern's part, or the place where the text is bad. `count` is how many positions stand before it.
+pub fn pattern(
+    text: &[u8],
+    count: usize,
+    readers: &mut [u64],
+    follow: &mut [u64],
+) -> Result<Part, usize>
     ensures { PatternRead text.now count readers.old follow.old
         result readers.new follow.new }
 {
-    let part = alternation(text, 0, MOST_OPEN_GROUPS, count, readers, follow);
-    let mut judged = part;
-    judged.good = whole(text.len(), part);
-    judged
+    let part = alternation(text, 0, MOST_OPEN_GROUPS, count, readers, follow)?;
+    if whole(text.len(), part) {
+        Ok(part)
+    } else {
+        Err(part.at)
+    }
 }

@@ -11,22 +11,22 @@ use Rattle.grammar.specs.Grammar.{Form, Production, Every, nothing, each}
 use Rattle.grammar.specs.House.{house}
 use Rattle.answers.specs.Answers.{done, refusal}
 use Rattle.answers.specs.Buffers.{over}
-use Rattle.answers.specs.Refusals.{room}
+use Rattle.answers.specs.Refusals.{number_of, room}
 use Rattle.text.specs.Text.{digit, last_digits, decimal}
 use Rattle.text.specs.Reading.{is_digit}
 use Rattle.reader.specs.Book.{reads, spells, marked, wanted, records, symbols, symbol_of, ending, byte_of, record_bytes, records_bytes, bytes_of, Limits}
 use Rattle.sheet.specs.Sheet.{Draft, symbol_text, symbols_text, line_text, lines_text, first_line, draft_text, draft_of, sheet_of, symbol_field, symbols_fields, line_fields, lines_fields, first_fields, announced, fields_of}
 use Rattle.sheet.specs.Calls.{no_room, served, WriteOutcome, written, ReadOutcome, malformed, faulty, missing, beyond, booked}
-use Rattle.sheet.specs.Form.{wants, behind, step, begin, go_on, letter, after, is_stuck, is_line}
+use Rattle.sheet.specs.Form.{wants, behind, step, begin, go_on, letter, lead, after}
 use Rattle.sheet.specs.Examples.{codes, lines, house_sheet, Row, refused_sheets}
 use Rattle.sheet.proofs.Place.{breaks_inside, breaks_off}
-use Rattle.sheet.proofs.Stepping.{stuck_not, line_not}
+use Rattle.sheet.proofs.Place.{goes_on, no_line}
 use Rattle.sheet.proofs.Faults.{in_range, fault_in, fault_found, none_found}
 use Rattle.sheet.proofs.Fields.{faultless_limits}
 
 -- the refusal of a row, whatever buffer is lent
 abbrev pub Refused : Row → Type 0
-Refused r = (buffer : List ℕ) → ReadOutcome r.text buffer (refusal r.number r.place 0) buffer
+Refused r = (buffer : List ℕ) → ReadOutcome r.text buffer (refusal (number_of r.why) r.place 0) buffer
 
 nothing_told : Draft
 nothing_told = record { tokens = 4; nonterminals = 4; start = 0; count = 6; productions = [] }
@@ -38,11 +38,11 @@ line_told : Form → List Production → Draft
 line_told right rest = record { tokens = 4; nonterminals = 4; start = 0; count = 1; productions = record { left = 0; right = right } ∷ rest }
 
 pub refused_sheets_lem : Every Refused refused_sheets
-unfolding refused_sheets lines after step behind wants is_digit is_stuck is_line nothing_told start_told line_told draft_text first_line lines_text line_text symbols_text symbol_text decimal last_digits digit fields_of first_fields announced lines_fields line_fields symbols_fields symbol_field fault_in in_range begin go_on letter
+unfolding refused_sheets lines after step behind wants is_digit lead nothing_told start_told line_told draft_text first_line lines_text line_text symbols_text symbol_text decimal last_digits digit fields_of first_fields announced lines_fields line_fields symbols_fields symbol_field fault_in in_range begin go_on letter
 refused_sheets_lem =
-    each (λ buffer. malformed (breaks_off [] (stuck_not refl) (line_not refl)))
-    (each (λ buffer. malformed (breaks_inside (lines (codes "04 4 0 6" ∷ [])) 1 (lit< tt) (stuck_not refl) refl))
-    (each (λ buffer. malformed (breaks_off (codes "4 4 0 6") (stuck_not refl) (line_not refl)))
+    each (λ buffer. malformed (breaks_off [] (goes_on refl) (no_line refl (λ e. cc))))
+    (each (λ buffer. malformed (breaks_inside (lines (codes "04 4 0 6" ∷ [])) 1 (lit< tt) (goes_on refl) refl))
+    (each (λ buffer. malformed (breaks_off (codes "4 4 0 6") (goes_on refl) (no_line refl (λ e. cc))))
     (each (λ buffer. faulty start_told refl (fault_found (fields_of start_told) refl))
     (each (λ buffer. faulty (line_told (replicate 16 (Token 0) ++ (Token 9 ∷ [])) []) refl (fault_found (fields_of (line_told (replicate 16 (Token 0) ++ (Token 9 ∷ [])) [])) refl))
     (each (λ buffer. faulty (line_told (Token 4 ∷ []) []) refl (fault_found (fields_of (line_told (Token 4 ∷ []) [])) refl))

@@ -7,6 +7,7 @@ use Prim.Native.Nat.{ℕ}
 use native.Mathlib.Omega.{arith}
 use borrow.Author.Tests.{eqb-true, eqb-false}
 use lib.Dec.{eqb}
+use Rattle.std.specs.Prelude.{Option, Some, None}
 use Rattle.grammar.specs.declared.Symbol.{Symbol}
 use Rattle.grammar.specs.declared.Symbol.TheVariants.{Token, Nonterminal}
 use Rattle.grammar.specs.Grammar.{Form, Production}
@@ -15,11 +16,11 @@ use Rattle.text.specs.Numeral.{DecimalDigit, Each, value, Numeral}
 use Rattle.text.specs.Reading.{is_digit}
 use Rattle.text.proofs.Promise.{decimal_unique, digit_is}
 use Rattle.sheet.specs.Sheet.{line_feed, space, colon, letter_n, letter_t, symbol_text, symbols_text, line_text, lines_text, first_line, draft_text, HasForm}
-use Rattle.sheet.specs.Form.{zero_digit, wants, behind, step, begin, go_on, letter, after}
+use Rattle.sheet.specs.Form.{zero_digit, wants, behind, step, begin, go_on, letter, lead, after}
 use Rattle.sheet.specs.declared.form.Slot.{Slot}
 use Rattle.sheet.specs.declared.form.Slot.TheVariants.{Tokens, Nonterminals, Start, Count, Left, Right}
 use Rattle.sheet.specs.declared.form.Phase.{Phase}
-use Rattle.sheet.specs.declared.form.Phase.TheVariants.{First, More, Behind, Line, Colon, Letter, Stuck}
+use Rattle.sheet.specs.declared.form.Phase.TheVariants.{First, More, Behind, Line, Colon, Letter}
 
 -- a byte, and then K
 record Marked (mark : ℕ) (K : List ℕ → Type 0) (text : List ℕ) : Type 0 where
@@ -81,26 +82,26 @@ Follows Left = Marked space (Marked colon Side)
 Follows Right = Side
 
 -- the texts that complete a phase
-unfoldable Goes : Phase → List ℕ → Type 0
-Goes (First slot) = Number (Follows slot)
-Goes (More slot) = Digits (Follows slot)
-Goes (Behind slot) = Follows slot
-Goes Line = Lines
-Goes Colon = Marked colon Side
-Goes Letter = Lettered
-Goes Stuck = λ text. ⊥
+unfoldable Goes : Option Phase → List ℕ → Type 0
+Goes (Some (First slot)) = Number (Follows slot)
+Goes (Some (More slot)) = Digits (Follows slot)
+Goes (Some (Behind slot)) = Follows slot
+Goes (Some Line) = Lines
+Goes (Some Colon) = Marked colon Side
+Goes (Some Letter) = Lettered
+Goes None = λ text. ⊥
 
 -- what is chosen holds for one of two reasons
 chosen : {A B : Type 0} (P : A → Type 0) (x : Bool) {a b : A} → (x ≡ true → P a → B) → (x ≡ false → P b → B) → P (cond x a b) → B
 chosen P true f g p = f refl p
 chosen P false f g p = g refl p
 
-wants_back : (b wanted : ℕ) (next : Phase) (text : List ℕ) → Goes (wants b wanted next) text → (b ≡ wanted) × Goes next text
+wants_back : (b wanted : ℕ) (next : Phase) (text : List ℕ) → Goes (wants b wanted next) text → (b ≡ wanted) × Goes (Some next) text
 unfolding wants Goes
 wants_back b wanted next text g =
     chosen (λ phase. Goes phase text) (eqb b wanted) (λ e k. (eqb-true b wanted e, k)) (λ e k. absurd k) g
 
-marked_back : (b wanted : ℕ) (next : Phase) (text : List ℕ) → Goes (wants b wanted next) text → Marked wanted (Goes next) (b ∷ text)
+marked_back : (b wanted : ℕ) (next : Phase) (text : List ℕ) → Goes (wants b wanted next) text → Marked wanted (Goes (Some next)) (b ∷ text)
 marked_back b wanted next text g =
     let (e, k) = wants_back b wanted next text g in
     record { rest = text; is = ap (λ (c : ℕ). c ∷ text) e; goes = k }
@@ -199,21 +200,21 @@ line_back b text g =
       is = ap (λ (c : ℕ). c ∷ text) e ∙ ap (λ (rest : List ℕ). letter_n ∷ rest) shown ∙ simp append_assoc;
     }
 
-back : (phase : Phase) (b : ℕ) (text : List ℕ) → Goes (step phase b) text → Goes phase (b ∷ text)
-unfolding step Goes Follows begin go_on letter
-back (First slot) b text g = first_back slot b text g
-back (More slot) b text g = more_back slot b text g
-back (Behind slot) b text g = behind_back slot b text g
-back Line b text g = line_back b text g
-back Colon b text g = marked_back b colon (Behind Right) text g
-back Letter b text g = letter_back b text g
-back Stuck b text g = g
+back : (phase : Option Phase) (b : ℕ) (text : List ℕ) → Goes (lead phase b) text → Goes phase (b ∷ text)
+unfolding lead step Goes Follows begin go_on letter
+back (Some (First slot)) b text g = first_back slot b text g
+back (Some (More slot)) b text g = more_back slot b text g
+back (Some (Behind slot)) b text g = behind_back slot b text g
+back (Some Line) b text g = line_back b text g
+back (Some Colon) b text g = marked_back b colon (Behind Right) text g
+back (Some Letter) b text g = letter_back b text g
+back None b text g = g
 
 -- what leads to the start of a line completes the phase
-completes : (phase : Phase) (text : List ℕ) → after phase text ≡ Line → Goes phase text
-unfolding after Goes lines_text
+completes : (phase : Option Phase) (text : List ℕ) → after phase text ≡ Some Line → Goes phase text
+unfolding after Goes lines_text lead
 completes phase [] e = subst (λ p. Goes p []) (sym e) (record { productions = []; is = refl })
-completes phase (b ∷ text) e = back phase b text (completes (step phase b) text e)
+completes phase (b ∷ text) e = back phase b text (completes (lead phase b) text e)
 
 first_line_lem : {text : List ℕ} → Number AfterTokens text → HasForm text
 unfolding draft_text first_line
@@ -229,6 +230,6 @@ first_line_lem {text} one =
     }
 
 -- a text that leads from the first number to the start of a line has the form
-pub reads_form : (text : List ℕ) → after (First Tokens) text ≡ Line → HasForm text
+pub reads_form : (text : List ℕ) → after (Some (First Tokens)) text ≡ Some Line → HasForm text
 unfolding Goes Follows
-reads_form text e = first_line_lem (completes (First Tokens) text e)
+reads_form text e = first_line_lem (completes (Some (First Tokens)) text e)

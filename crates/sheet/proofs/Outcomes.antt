@@ -9,7 +9,8 @@ use lib.Seq.{take_all}
 use Rattle.grammar.specs.Grammar.{Grammar}
 use Rattle.answers.specs.declared.Answer.{Answer}
 use Rattle.answers.specs.Answers.{refusal}
-use Rattle.answers.specs.Refusals.{short, extra, form}
+use Rattle.answers.specs.Refusals.{number_of, short, extra, form}
+use Rattle.answers.specs.declared.refusals.Refusal.{Refusal}
 use Rattle.reader.specs.Book.{bytes_of}
 use Rattle.reader.proofs.Promise.{refused_not_reads}
 use Rattle.sheet.specs.Sheet.{Draft, draft_text, draft_of, sheet_of, HasForm, Begins, BreaksAt, first_line, lines_text, announced, fields_of, FirstFault, Faultless}
@@ -27,10 +28,10 @@ copied_unique (served enough) (served plenty) = (refl, refl)
 
 pub write_outcome_unique : {book buffer : List ℕ} {a b : Answer} {c d : List ℕ}
     → WriteOutcome book buffer a c → WriteOutcome book buffer b d → (a ≡ b) × (c ≡ d)
-write_outcome_unique (misread {number = n} {place = p} e) (misread {number = m} {place = q} f) =
-    let numbers : n ≡ m = cc in
+write_outcome_unique (misread {why = n} {place = p} e) (misread {why = m} {place = q} f) =
+    let kinds : n ≡ m = cc in
     let places : p ≡ q = cc in
-    (ap₂ (λ (n p : ℕ). refusal n p 0) numbers places, refl)
+    (ap₂ (λ (why : Refusal) (p : ℕ). refusal (number_of why) p 0) kinds places, refl)
 write_outcome_unique (misread e) (written f copied) = absurd (refused_not_reads e f)
 write_outcome_unique (written e copied) (misread f) = absurd (refused_not_reads f e)
 write_outcome_unique {buffer = buffer} {b = b} {d = d} (written {g = g} e copied) (written {g = h} f again) =
@@ -50,7 +51,7 @@ form_unbroken {text} {k} has breaks = by (dec_lt k (length text))
 
 -- what reading answers to a text of this draft
 data Answered (d : Draft) (buffer : List ℕ) : Answer → List ℕ → Type 0 where
-  at_fault : {number place : ℕ} → FirstFault (fields_of d) number place → Answered d buffer (refusal number place 0) buffer
+  at_fault : {why : Refusal} {place : ℕ} → FirstFault (fields_of d) why place → Answered d buffer (refusal (number_of why) place 0) buffer
   lacking : Faultless (fields_of d) → length d.productions < d.count → Answered d buffer (refusal short (length (draft_text d)) 0) buffer
   too_long : Faultless (fields_of d) → d.count < length d.productions
       → Answered d buffer (refusal extra (length (first_line d ++ lines_text (announced d))) 0) buffer
@@ -66,7 +67,7 @@ grammar_same g h e f =
     ap (λ (d : Draft). record { tokens = d.tokens; nonterminals = d.nonterminals; start = d.start; productions = d.productions }) (sym f ∙ e)
 
 answered_unique : {d : Draft} {buffer : List ℕ} {a b : Answer} {c e : List ℕ} → Answered d buffer a c → Answered d buffer b e → (a ≡ b) × (c ≡ e)
-answered_unique (at_fault f) (at_fault g) = let (numbers, places) = fault_unique f g in (ap₂ (λ (n p : ℕ). refusal n p 0) numbers places, refl)
+answered_unique (at_fault f) (at_fault g) = let (kinds, places) = fault_unique f g in (ap₂ (λ (why : Refusal) (p : ℕ). refusal (number_of why) p 0) kinds places, refl)
 answered_unique (at_fault f) (lacking fine few) = absurd (fault_not_faultless f fine)
 answered_unique (at_fault f) (too_long fine many) = absurd (fault_not_faultless f fine)
 answered_unique (at_fault f) (whole g fine same copied) = absurd (fault_not_faultless f fine)

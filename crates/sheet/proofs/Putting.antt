@@ -9,37 +9,32 @@ use Rattle.answers.specs.Limits.{most_symbols}
 use Rattle.text.specs.declared.Number.{Number}
 use Rattle.text.specs.Text.{Put}
 use Rattle.text.proofs.Promise.{put_then, put_room, put_front, Completes, completes_start, completes_more, completes_all}
-use Rattle.sheet.specs.Judging.{past, is_space, another, symbol_number, left_number, right_place}
+use Rattle.sheet.specs.Judging.{past, is_space, symbol_number, left_number, right_place}
 use Rattle.sheet.specs.Booking.{byte_from, byte_in, number_byte, right_in, right_end, record_in, line_after, records_in, head_bytes, book_in, Copies}
 use Rattle.sheet.specs.declared.judging.Head.{Head}
 use Rattle.sheet.specs.declared.booking.Places.{Places}
-use Rattle.sheet.proofs.Turning.{another_space, another_room}
 
 module _ (text : List ℕ) where
-  right_next : (room at : ℕ) → another text room at ≡ true
+  right_next : (room at : ℕ) → 0 < room → is_space text at ≡ true
       → right_in text room at ≡ byte_in text at ∷ right_in text (room - 1) (symbol_number text at).next
   unfolding right_in
-  right_next zero at more = absurd (omega (arith, another_room text zero at more))
-  right_next (suc room) at more =
-      let less : suc room - 1 ≡ room = omega arith in
-      rw (sym (another_space text room at) ∙ more, less)
+  right_next zero at some more = absurd (omega arith)
+  right_next (suc room) at some more = let less : suc room - 1 ≡ room = omega arith in rw (more, less)
 
-  end_next : (room at : ℕ) → another text room at ≡ true → right_end text room at ≡ right_end text (room - 1) (symbol_number text at).next
+  end_next : (room at : ℕ) → 0 < room → is_space text at ≡ true → right_end text room at ≡ right_end text (room - 1) (symbol_number text at).next
   unfolding right_end
-  end_next zero at more = absurd (omega (arith, another_room text zero at more))
-  end_next (suc room) at more =
-      let less : suc room - 1 ≡ room = omega arith in
-      rw (sym (another_space text room at) ∙ more, less)
+  end_next zero at some more = absurd (omega arith)
+  end_next (suc room) at some more = let less : suc room - 1 ≡ room = omega arith in rw (more, less)
 
-  right_none : (room at : ℕ) → another text room at ≡ false → right_in text room at ≡ []
+  right_none : (room at : ℕ) → (0 < room → is_space text at ≡ false) → right_in text room at ≡ []
   unfolding right_in
   right_none zero at none = refl
-  right_none (suc room) at none = rw (sym (another_space text room at) ∙ none)
+  right_none (suc room) at none = rw (none (omega arith))
 
-  end_none : (room at : ℕ) → another text room at ≡ false → right_end text room at ≡ at
+  end_none : (room at : ℕ) → (0 < room → is_space text at ≡ false) → right_end text room at ≡ at
   unfolding right_end
   end_none zero at none = refl
-  end_none (suc room) at none = rw (sym (another_space text room at) ∙ none)
+  end_none (suc room) at none = rw (none (omega arith))
 
   right_length : (room at : ℕ) → length (right_in text room at) ≤ room
   unfolding right_in
@@ -62,26 +57,27 @@ listing_start text before from =
 
 pub listing_turn : {text before between further : List ℕ} {from room at middle later b : ℕ} {number : Number}
     → Listing text before from room at between middle
-    → another text room at ≡ true
+    → 0 < room
+    → is_space text at ≡ true
     → number ≡ symbol_number text at
     → b ≡ byte_from text at number.value
     → Put between middle (b ∷ []) further later
     → Listing text before from (room - 1) number.next further later
 unfolding byte_in
-listing_turn {text} {before} {between} {further} {from} {room} {at} {middle} {later} listing more told same put =
+listing_turn {text} {before} {between} {further} {from} {room} {at} {middle} {later} listing some more told same put =
     let whole : List ℕ = right_in text most_symbols from in
     let left : List ℕ = right_in text (room - 1) (symbol_number text at).next in
     let split : Completes before 0 whole between middle (byte_in text at ∷ left) =
-    subst (λ (rest : List ℕ). Completes before 0 whole between middle rest) (right_next text room at more) listing.completes in
+    subst (λ (rest : List ℕ). Completes before 0 whole between middle rest) (right_next text room at some more) listing.completes in
     rw told
     (record {
       completes = completes_more (byte_in text at ∷ []) left split (rw (same, told) at put);
-      end = sym (end_next text room at more) ∙ listing.end;
+      end = sym (end_next text room at some more) ∙ listing.end;
     })
 
 pub listing_end : {text before between : List ℕ} {from room at middle : ℕ}
     → Listing text before from room at between middle
-    → another text room at ≡ false
+    → (0 < room → is_space text at ≡ false)
     → Copies before 0 (right_in text most_symbols from) (right_end text most_symbols from) between (record { sheet = at; book = middle })
 listing_end {text} {before} {between} {from} {room} {at} {middle} listing none =
     let whole : List ℕ = right_in text most_symbols from in record {

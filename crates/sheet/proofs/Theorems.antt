@@ -4,14 +4,17 @@ use mathlib.Core.Logic.{◌↔◌, ◌⊎◌}
 use mathlib.Core.List.{List}
 use Prim.Native.Nat.{ℕ, ◌≤◌}
 use lib.ListN.{length, take}
+use Rattle.std.specs.Prelude.{Some, None}
 use Rattle.grammar.specs.Grammar.{Grammar, Every}
 use Rattle.grammar.specs.House.{house}
 use Rattle.answers.specs.declared.Answer.{Answer}
 use Rattle.answers.specs.Answers.{done, refusal}
 use Rattle.answers.specs.Buffers.{over}
 use Rattle.answers.specs.Limits.{longest_book}
-use Rattle.answers.specs.Refusals.{limit, symbol, room}
+use Rattle.answers.specs.Refusals.{room}
 use Rattle.answers.specs.Refusals as refusals
+use Rattle.answers.specs.declared.refusals.Refusal.{Refusal}
+use Rattle.answers.specs.declared.refusals.Refusal.TheVariants as kinds
 use Rattle.reader.specs.Book.{bytes_of, Limits}
 use Rattle.sheet.specs.Sheet.{Draft, draft_text, draft_of, sheet_of, HasForm, Begins, BreaksAt, Field, fields_of}
 use Rattle.sheet.specs.Sheet.{FirstFault, Faultless, longest_sheet}
@@ -19,7 +22,7 @@ use Rattle.sheet.specs.Calls.{WriteOutcome, ReadOutcome}
 use Rattle.sheet.specs.Form.{after}
 use Rattle.sheet.specs.Examples.{house_sheet, refused_sheets}
 use Rattle.sheet.specs.declared.form.Slot.TheVariants.{Tokens}
-use Rattle.sheet.specs.declared.form.Phase.TheVariants.{First, Line, Stuck}
+use Rattle.sheet.specs.declared.form.Phase.TheVariants.{First, Line}
 use Rattle.sheet.proofs.Drafts as drafts
 use Rattle.sheet.proofs.Examples as examples
 use Rattle.sheet.proofs.Examples.{Refused}
@@ -43,11 +46,11 @@ pub sheet_unique : (g h : Grammar)
 sheet_unique = drafts.sheet_unique
 
 -- a text has the form exactly if its bytes lead from the first number to the start of a line
-pub form_exact : (text : List ℕ) → HasForm text ↔ (after (First Tokens) text ≡ Line)
+pub form_exact : (text : List ℕ) → HasForm text ↔ (after (Some (First Tokens)) text ≡ Some Line)
 form_exact = place.form_exact
 
 -- and it begins a sheet exactly as long as they lead on
-pub begins_exact : (text : List ℕ) → Begins text ↔ (¬ (after (First Tokens) text ≡ Stuck))
+pub begins_exact : (text : List ℕ) → Begins text ↔ (¬ (after (Some (First Tokens)) text ≡ None))
 begins_exact = place.begins_exact
 
 -- the place of refusal 13 is one
@@ -64,16 +67,16 @@ pub form_unbroken : {text : List ℕ} {k : ℕ}
 form_unbroken = outcomes.form_unbroken
 
 -- the first value out of its range has one number and one place
-pub fault_unique : {fs : List Field} {n m p q : ℕ}
+pub fault_unique : {fs : List Field} {n m : Refusal} {p q : ℕ}
     → FirstFault fs n p
     → FirstFault fs m q
     → (n ≡ m) × (p ≡ q)
 fault_unique = faults.fault_unique
 
 -- and the number is 4 or 5
-pub fault_kinds : (d : Draft) {n p : ℕ}
+pub fault_kinds : (d : Draft) {n : Refusal} {p : ℕ}
     → FirstFault (fields_of d) n p
-    → (n ≡ limit) ⊎ (n ≡ symbol)
+    → (n ≡ kinds.Limit) ⊎ (n ≡ kinds.Symbol)
 fault_kinds = trips.fault_kinds
 
 -- a grammar's own sheet has the form

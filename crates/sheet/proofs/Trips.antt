@@ -1,6 +1,6 @@
 -- Over and back: what a sheet or book that is served tells, and that the way back gives the same bytes.
 use mathlib.Core.Path.{◌≡◌, refl, sym, ap, ◌∙◌, subst}
-use mathlib.Core.Logic.{◌↔◌, ◌⊎◌, inl, inr, ⊎_elim}
+use mathlib.Core.Logic.{◌↔◌, ◌⊎◌, inl, inr}
 use mathlib.Core.List.{List, [], ◌∷◌}
 use Prim.Native.Nat.{ℕ, zero, suc, ◌+◌, ◌≤◌}
 use native.Mathlib.Omega.{arith}
@@ -13,11 +13,12 @@ use Rattle.answers.specs.declared.Answer.{Answer}
 use Rattle.answers.specs.Answers.{done, refusal}
 use Rattle.answers.specs.Buffers.{over}
 use Rattle.answers.specs.Limits.{most_symbols, longest_book}
-use Rattle.answers.specs.Refusals.{limit, symbol}
+use Rattle.answers.specs.Refusals.{number_of}
+use Rattle.answers.specs.declared.refusals.Refusal.{Refusal}
+use Rattle.answers.specs.declared.refusals.Refusal.TheVariants as refusals
 use Rattle.text.specs.Text.{decimal}
-use Rattle.reader.specs.Faults.{Fault, bad_mark, extra_byte, over_limit, not_a_symbol}
 use Rattle.reader.specs.Book.{reads, spells, bytes_of, Limits}
-use Rattle.reader.proofs.Promise.{read_written, written_read, read_limits, longest_book_lem, refused_kinds}
+use Rattle.reader.proofs.Promise.{read_written, written_read, read_limits, longest_book_lem, refused_number}
 use Rattle.sheet.specs.Sheet.{Draft, sheet_of, symbol_text, line_text, Field, symbol_field, symbols_fields, line_fields, lines_fields, first_line, first_fields, announced, fields_of, FirstFault, here, later, longest_sheet}
 use Rattle.sheet.specs.Calls.{Copied, no_room, served, WriteOutcome, misread, written, ReadOutcome, malformed, faulty, missing, beyond, booked}
 use Rattle.sheet.proofs.Outcomes.{write_outcome_unique, read_outcome_unique}
@@ -25,7 +26,7 @@ use Rattle.sheet.proofs.Longest.{longest_sheet_lem}
 
 -- values are refused with 4 or 5
 abbrev Kind : Field → Type 0
-Kind f = (f.refusal ≡ limit) ⊎ (f.refusal ≡ symbol)
+Kind f = (f.why ≡ refusals.Limit) ⊎ (f.why ≡ refusals.Symbol)
 
 symbols_kinds : (T N room at : ℕ) (form : Form) → Every Kind (symbols_fields T N room at form)
 unfolding symbols_fields symbol_field
@@ -48,13 +49,17 @@ fields_kinds d =
     each (inl refl)
     (each (inl refl) (each (inl refl) (each (inl refl) (lines_kinds d.tokens d.nonterminals (length (first_line d)) (announced d)))))
 
-fault_kind : {fs : List Field} {n p : ℕ} → Every Kind fs → FirstFault fs n p → (n ≡ limit) ⊎ (n ≡ symbol)
+fault_kind : {fs : List Field} {n : Refusal} {p : ℕ} → Every Kind fs → FirstFault fs n p → (n ≡ refusals.Limit) ⊎ (n ≡ refusals.Symbol)
 fault_kind nothing fault = elim fault [ ]
 fault_kind (each kind kinds) (here bad) = kind
 fault_kind (each kind kinds) (later fine rest) = fault_kind kinds rest
 
-pub fault_kinds : (d : Draft) {n p : ℕ} → FirstFault (fields_of d) n p → (n ≡ limit) ⊎ (n ≡ symbol)
+pub fault_kinds : (d : Draft) {n : Refusal} {p : ℕ} → FirstFault (fields_of d) n p → (n ≡ refusals.Limit) ⊎ (n ≡ refusals.Symbol)
 fault_kinds d = fault_kind (fields_kinds d)
+
+kind_number : {why : Refusal} → (why ≡ refusals.Limit) ⊎ (why ≡ refusals.Symbol) → 4 ≤ number_of why
+kind_number (inl limit) = rw limit (omega arith)
+kind_number (inr symbol) = rw symbol (omega arith)
 
 -- what was copied stands in front
 record Stands (bytes buffer : List ℕ) (steps : ℕ) (after : List ℕ) : Type 0 where
@@ -81,7 +86,7 @@ read_served : {sheet buffer : List ℕ} {a : Answer} {after : List ℕ} → Read
     → ServedSheet sheet buffer a.steps after
 unfolding refusal
 read_served (malformed breaks) e = absurd (omega arith)
-read_served (faulty d told first) e = absurd (⊎_elim (λ k. omega (arith, k)) (λ k. omega (arith, k)) (fault_kinds d first))
+read_served (faulty d told first) e = absurd (omega (arith, kind_number (fault_kinds d first)))
 read_served (missing d told fine few) e = absurd (omega arith)
 read_served (beyond d told fine many) e = absurd (omega arith)
 read_served (booked g told limits copied) e = record { grammar = g; told = told; limits = limits; stands = copied_stands copied e }
@@ -92,16 +97,10 @@ record ServedBook (book buffer : List ℕ) (steps : ℕ) (after : List ℕ) : Ty
   read : spells book ≡ reads grammar
   stands : Stands (sheet_of grammar) buffer steps after
 
-fault_counts : {n : ℕ} → Fault n → 1 ≤ n
-fault_counts bad_mark = omega arith
-fault_counts extra_byte = omega arith
-fault_counts over_limit = omega arith
-fault_counts not_a_symbol = omega arith
-
 write_served : {book buffer : List ℕ} {a : Answer} {after : List ℕ} → WriteOutcome book buffer a after → a.number ≡ 0
     → ServedBook book buffer a.steps after
 unfolding refusal
-write_served {book} (misread {number = n} {place = k} e) none = absurd (⊎_elim (λ h. omega arith) (λ f. omega (arith, fault_counts f)) (refused_kinds book e).kind)
+write_served {book} (misread e) none = absurd (omega (arith, (refused_number book e).0))
 write_served (written {g = g} e copied) none = record { grammar = g; read = e; stands = copied_stands copied none }
 
 -- the bytes written are no more than those of the longest book and of the longest sheet

@@ -1,62 +1,50 @@
 -- The laws by which the loops of `judging` meet their contracts: judging what is left comes to what judging the whole comes to.
-use mathlib.Core.Path.{◌≡◌, refl, sym, ◌∙◌}
-use mathlib.Core.Bool.{true, false, false≢true}
+use mathlib.Core.Path.{◌≡◌, sym, ◌∙◌}
+use mathlib.Core.Bool.{true, false}
 use mathlib.Core.List.{List}
-use Prim.Native.Nat.{ℕ, zero, suc, ◌-◌, ◌≤◌, ◌<◌}
+use Prim.Native.Nat.{ℕ, suc, ◌+◌, ◌-◌, ◌≤◌, ◌<◌}
 use native.Mathlib.Omega.{arith}
-use borrow.Author.Tests.{lt-ltb}
-use Rattle.reader.specs.declared.Verdict.{Verdict}
-use Rattle.reader.specs.declared.Verdict.TheVariants.{Next, Bad}
-use Rattle.sheet.specs.Judging.{past, and_then, is_space, another, symbol_judged, closed, symbols_judged, next_judged, lines_judged}
+use Rattle.std.specs.Prelude.{Ok, Err}
+use Rattle.reader.specs.declared.Fault.{Fault}
+use Rattle.reader.specs.Verdicts.{Verdict, and_then}
+use Rattle.sheet.specs.Judging.{past, is_space, symbol_judged, closed, symbols_judged, next_judged, lines_judged}
 
-module _ (text : List ℕ) where
-  pub another_space : (room at : ℕ) → another text (suc room) at ≡ is_space text at
-  unfolding another
-  another_space room at = rw (lt-ltb 0 (suc room) (omega arith))
+-- with one more of so many to go
+one_left : (i size : ℕ) → i < size → size - i ≡ suc (size - (i + 1))
+one_left i size more = omega arith
 
-  pub another_room : (room at : ℕ) → another text room at ≡ true → 0 < room
-  unfolding another
-  another_room zero at e = absurd (false≢true e)
-  another_room (suc room) at e = omega arith
+none_left : (i size : ℕ) → size ≤ i → size - i ≡ 0
+none_left i size past = omega arith
 
-  module _ (T N : ℕ) {v : Verdict} where
-    pub symbols_go : (room at : ℕ) {next : ℕ} → another text room at ≡ true → v ≡ symbol_judged text T N at → v ≡ Next next
-        → symbols_judged text T N room at ≡ symbols_judged text T N (room - 1) next
-    unfolding symbols_judged and_then
-    symbols_go zero at more e told = absurd (omega (arith, another_room zero at more))
-    symbols_go (suc room) at {next} more e told =
-        let here : is_space text at ≡ true = sym (another_space room at) ∙ more in
-        let less : suc room - 1 ≡ room = omega arith in
-        rw (here, less, sym e ∙ told)
+module _ (text : List ℕ) (T N i size : ℕ) where
+  module _ (at : ℕ) (more : i < size) {v : Verdict} where
+    module _ (space_here : is_space text at ≡ true) (told : v ≡ symbol_judged text T N at) where
+      pub symbols_go : {next : ℕ} → v ≡ Ok next → symbols_judged text T N (size - i) at ≡ symbols_judged text T N (size - (i + 1)) next
+      unfolding symbols_judged and_then
+      symbols_go e = rw (one_left i size more, space_here, sym told ∙ e)
 
-    pub symbols_stop : (room at : ℕ) {number place : ℕ} → another text room at ≡ true → v ≡ symbol_judged text T N at → v ≡ Bad number place
-        → v ≡ symbols_judged text T N room at
-    unfolding symbols_judged and_then
-    symbols_stop zero at more e told = absurd (omega (arith, another_room zero at more))
-    symbols_stop (suc room) at more e told =
-        let here : is_space text at ≡ true = sym (another_space room at) ∙ more in
-        told ∙ rw (here, sym e ∙ told)
+      pub symbols_stop : {fault : Fault} → v ≡ Err fault → symbols_judged text T N (size - i) at ≡ Err fault
+      unfolding symbols_judged and_then
+      symbols_stop e = rw (one_left i size more, space_here, sym told ∙ e)
 
-    pub lines_go : (count at : ℕ) {end : ℕ} → 0 < count → v ≡ next_judged text T N at → v ≡ Next end
-        → lines_judged text T N count at ≡ lines_judged text T N (count - 1) (past text end)
-    unfolding lines_judged and_then
-    lines_go zero at some e told = absurd (omega arith)
-    lines_go (suc count) at some e told = let less : suc count - 1 ≡ count = omega arith in rw (less, sym e ∙ told)
+    module _ (told : v ≡ next_judged text T N at) where
+      pub lines_go : {end : ℕ} → v ≡ Ok end → lines_judged text T N (size - i) at ≡ lines_judged text T N (size - (i + 1)) (past text end)
+      unfolding lines_judged and_then
+      lines_go e = rw (one_left i size more, sym told ∙ e)
 
-    pub lines_stop : (count at : ℕ) {number place : ℕ} → 0 < count → v ≡ next_judged text T N at → v ≡ Bad number place
-        → v ≡ lines_judged text T N count at
-    unfolding lines_judged and_then
-    lines_stop zero at some e told = absurd (omega arith)
-    lines_stop (suc count) at some e told = told ∙ rw (sym e ∙ told)
+      pub lines_stop : {fault : Fault} → v ≡ Err fault → lines_judged text T N (size - i) at ≡ Err fault
+      unfolding lines_judged and_then
+      lines_stop e = rw (one_left i size more, sym told ∙ e)
 
-  pub symbols_closed : (T N room at : ℕ) → another text room at ≡ false → symbols_judged text T N room at ≡ closed text at
-  unfolding symbols_judged closed
-  symbols_closed T N zero at none = refl
-  symbols_closed T N (suc room) at none =
-      let here : is_space text at ≡ false = sym (another_space room at) ∙ none in
-      rw here
+  module _ (at : ℕ) where
+    pub symbols_over : i < size → is_space text at ≡ false → symbols_judged text T N (size - i) at ≡ Ok at
+    unfolding symbols_judged
+    symbols_over more none = rw (one_left i size more, none)
 
-  pub lines_over : (T N count at : ℕ) → count ≤ 0 → lines_judged text T N count at ≡ Next at
-  unfolding lines_judged
-  lines_over T N zero at none = refl
-  lines_over T N (suc count) at none = absurd (omega arith)
+    pub symbols_closed : size ≤ i → symbols_judged text T N (size - i) at ≡ closed text at
+    unfolding symbols_judged
+    symbols_closed past = rw (none_left i size past)
+
+    pub lines_over : size ≤ i → lines_judged text T N (size - i) at ≡ Ok at
+    unfolding lines_judged
+    lines_over past = rw (none_left i size past)

@@ -8,6 +8,7 @@ use Rattle.grammar.specs.declared.Symbol.TheVariants.{Token, Nonterminal}
 use Rattle.grammar.specs.Grammar.{Form, Production, Every, nothing, each}
 use Rattle.grammar.proofs.Every.{every_append, every_map}
 use Rattle.answers.specs.Limits.{most_symbols}
+use Rattle.answers.specs.declared.refusals.Refusal.{Refusal}
 use Rattle.text.specs.Text.{decimal}
 use Rattle.sheet.specs.Sheet.{Draft, symbol_text, symbols_text, line_text, lines_text, first_line, draft_text}
 use Rattle.sheet.specs.Sheet.{Field, symbol_field, symbols_fields, line_fields, lines_fields, first_fields, announced, fields_of, FirstFault, here, later}
@@ -109,10 +110,10 @@ fields_by d =
     (by_more (omega (arith, whole, announced_fewer d)) (first_by d))
     (by_more (omega (arith, whole, announced_fewer d)) (lines_by d.tokens d.nonterminals (length (first_line d)) (announced d)))
 
-fault_by : {end : ℕ} {fs : List Field} {n p : ℕ} → Every (By end) fs → FirstFault fs n p → p ≤ end
+fault_by : {end : ℕ} {fs : List Field} {n : Refusal} {p : ℕ} → Every (By end) fs → FirstFault fs n p → p ≤ end
 fault_by nothing fault = elim fault [ ]
 fault_by (each h all) (here bad) = h
 fault_by (each h all) (later fine rest) = fault_by all rest
 
-pub fault_within : (d : Draft) {n p : ℕ} → FirstFault (fields_of d) n p → p ≤ length (draft_text d)
+pub fault_within : (d : Draft) {n : Refusal} {p : ℕ} → FirstFault (fields_of d) n p → p ≤ length (draft_text d)
 fault_within d = fault_by (fields_by d)

@@ -5,7 +5,8 @@ use Rattle.grammar.specs.Grammar.{Grammar}
 use Rattle.answers.specs.declared.Answer.{Answer}
 use Rattle.answers.specs.Answers.{done, refusal}
 use Rattle.answers.specs.Buffers.{over}
-use Rattle.answers.specs.Refusals.{short, extra, room, form}
+use Rattle.answers.specs.Refusals.{number_of, short, extra, room, form}
+use Rattle.answers.specs.declared.refusals.Refusal.{Refusal}
 use Rattle.reader.specs.Book.{refused, reads, spells, bytes_of, Limits}
 use Rattle.sheet.specs.Sheet.{Draft, draft_text, sheet_of, first_line, lines_text, BreaksAt}
 use Rattle.sheet.specs.Sheet.{announced, fields_of, FirstFault, Faultless}
@@ -17,9 +18,9 @@ pub data Copied (bytes buffer : List ℕ) : Answer → List ℕ → Type 0 where
 
 -- a book gives 1 to 5; then its sheet, or 7
 pub data WriteOutcome (book buffer : List ℕ) : Answer → List ℕ → Type 0 where
-  misread : {number place : ℕ}
-      → spells book ≡ refused number place
-      → WriteOutcome book buffer (refusal number place 0) buffer
+  misread : {why : Refusal} {place : ℕ}
+      → spells book ≡ refused why place
+      → WriteOutcome book buffer (refusal (number_of why) place 0) buffer
   written : {g : Grammar} {answer : Answer} {after : List ℕ}
       → spells book ≡ reads g
       → Copied (sheet_of g) buffer answer after
@@ -28,10 +29,10 @@ pub data WriteOutcome (book buffer : List ℕ) : Answer → List ℕ → Type 0 
 -- a sheet gives 13; then 4 or 5; then 1 or 3; then its book, or 7
 pub data ReadOutcome (sheet buffer : List ℕ) : Answer → List ℕ → Type 0 where
   malformed : {k : ℕ} → BreaksAt sheet k → ReadOutcome sheet buffer (refusal form k 0) buffer
-  faulty : (d : Draft) {number place : ℕ}
+  faulty : (d : Draft) {why : Refusal} {place : ℕ}
       → sheet ≡ draft_text d
-      → FirstFault (fields_of d) number place
-      → ReadOutcome sheet buffer (refusal number place 0) buffer
+      → FirstFault (fields_of d) why place
+      → ReadOutcome sheet buffer (refusal (number_of why) place 0) buffer
   missing : (d : Draft)
       → sheet ≡ draft_text d
       → Faultless (fields_of d)

@@ -3,7 +3,8 @@ use Rattle.std.specs.Prelude.{List, [], ◌∷◌, ◌++◌, ℕ}
 use Prim.Native.Char.{code}
 use Prim.Native.String.{String}
 use Prim.Native.String as string
-use Rattle.answers.specs.Refusals.{short, extra, limit, symbol, form}
+use Rattle.answers.specs.declared.refusals.Refusal.{Refusal}
+use Rattle.answers.specs.declared.refusals.Refusal.TheVariants as refusals
 
 -- the codes of a text's characters
 abbrev pub codes : String → List ℕ
@@ -27,23 +28,23 @@ house_sheet =
     ∷ codes "n3 :"
     ∷ [])
 
--- a sheet, and its refusal's number and place
+-- a sheet, its refusal and the refusal's place
 pub record Row : Type 0 where
   pub text : List ℕ
-  pub number : ℕ
+  pub why : Refusal
   pub place : ℕ
 
-abbrev row : List ℕ → (number place : ℕ) → Row
-row text number place = record { text = text; number = number; place = place }
+abbrev row : List ℕ → Refusal → (place : ℕ) → Row
+row text why place = record { text = text; why = why; place = place }
 
 unfoldable pub refused_sheets : List Row
 refused_sheets =
-    row [] form 0
-    ∷ row (lines (codes "04 4 0 6" ∷ [])) form 1
-    ∷ row (codes "4 4 0 6") form 7
-    ∷ row (lines (codes "4 4 4 6" ∷ [])) limit 4
-    ∷ row (lines (codes "4 4 0 1" ∷ codes "n0 : t0 t0 t0 t0 t0 t0 t0 t0 t0 t0 t0 t0 t0 t0 t0 t0 t9" ∷ [])) limit 61
-    ∷ row (lines (codes "4 4 0 1" ∷ codes "n0 : t4" ∷ [])) symbol 14
-    ∷ row (lines (codes "4 4 0 6" ∷ [])) short 8
-    ∷ row (lines (codes "4 4 0 1" ∷ codes "n0 :" ∷ codes "n9 :" ∷ [])) extra 13
+    row [] refusals.Form 0
+    ∷ row (lines (codes "04 4 0 6" ∷ [])) refusals.Form 1
+    ∷ row (codes "4 4 0 6") refusals.Form 7
+    ∷ row (lines (codes "4 4 4 6" ∷ [])) refusals.Limit 4
+    ∷ row (lines (codes "4 4 0 1" ∷ codes "n0 : t0 t0 t0 t0 t0 t0 t0 t0 t0 t0 t0 t0 t0 t0 t0 t0 t9" ∷ [])) refusals.Limit 61
+    ∷ row (lines (codes "4 4 0 1" ∷ codes "n0 : t4" ∷ [])) refusals.Symbol 14
+    ∷ row (lines (codes "4 4 0 6" ∷ [])) refusals.Short 8
+    ∷ row (lines (codes "4 4 0 1" ∷ codes "n0 :" ∷ codes "n9 :" ∷ [])) refusals.Extra 13
     ∷ []

@@ -1,12 +1,12 @@
 -- The values of a sheet judged from the front, by place, whatever the bytes are.
 -- Only contracts inside the crate cite what stands here.
-use Rattle.std.specs.Prelude.{Bool, ◌&&◌, cond, List, ℕ, zero, suc, ◌+◌, min, eqb, leb, ltb, length, get_or}
+use Rattle.std.specs.Prelude.{Bool, ◌&&◌, cond, List, ℕ, zero, suc, ◌+◌, min, eqb, leb, ltb, length, get_or, Ok}
 use Rattle.answers.specs.Limits.{most_tokens, most_nonterminals, most_productions, most_symbols}
-use Rattle.answers.specs.Refusals.{short, extra, limit, symbol}
+use Rattle.answers.specs.declared.refusals.Refusal.{Refusal}
+use Rattle.answers.specs.declared.refusals.Refusal.TheVariants as refusals
 use Rattle.text.specs.declared.Number.{Number}
 use Rattle.text.specs.Reading.{number_at}
-use Rattle.reader.specs.declared.Verdict.{Verdict}
-use Rattle.reader.specs.declared.Verdict.TheVariants.{Next, Bad}
+use Rattle.reader.specs.Verdicts.{Verdict, bad, and_then}
 use Rattle.sheet.specs.Sheet.{space, letter_t}
 use Rattle.sheet.specs.declared.judging.Head.{Head}
 
@@ -23,35 +23,26 @@ head_in text =
     let count = number_at text (past text start.next) in
     record { tokens = tokens; nonterminals = nonterminals; start = start; count = count }
 
--- judging goes on from a next place, and a refusal stays
-unfoldable pub and_then : Verdict → (ℕ → Verdict) → Verdict
-and_then (Next at) next = next at
-and_then (Bad number place) next = Bad number place
-
 -- the first of two that refuses, else the second
 unfoldable pub both : Verdict → Verdict → Verdict
 both v w = and_then v λ _. w
 
 -- a number within its range, and the place behind it; else the refusal at its own place
-unfoldable pub checked : Number → (low high refusal at : ℕ) → Verdict
-checked number low high refusal at =
-    cond (leb low number.value && ltb number.value high) (Next number.next) (Bad refusal at)
+unfoldable pub checked : Number → (low high : ℕ) → Refusal → (place : ℕ) → Verdict
+checked number low high why place =
+    cond (leb low number.value && ltb number.value high) (Ok number.next) (bad why place)
 
 -- T, N, a start below N, P
 unfoldable pub head_judged : List ℕ → Head → Verdict
 head_judged text head =
-    both (checked head.tokens 1 (suc most_tokens) limit 0)
-    (both (checked head.nonterminals 1 (suc most_nonterminals) limit (past text head.tokens.next))
-    (both (checked head.start 0 head.nonterminals.value limit (past text head.nonterminals.next))
-    (checked head.count 1 (suc most_productions) limit (past text head.start.next))))
+    both (checked head.tokens 1 (suc most_tokens) refusals.Limit 0)
+    (both (checked head.nonterminals 1 (suc most_nonterminals) refusals.Limit (past text head.tokens.next))
+    (both (checked head.start 0 head.nonterminals.value refusals.Limit (past text head.nonterminals.next))
+    (checked head.count 1 (suc most_productions) refusals.Limit (past text head.start.next))))
 
 -- a symbol stands at a place: a space, a letter, a number
 unfoldable pub is_space : List ℕ → ℕ → Bool
 is_space text at = eqb (get_or text at 0) space
-
--- and there is room for it
-unfoldable pub another : List ℕ → (room at : ℕ) → Bool
-another text room at = ltb 0 room && is_space text at
 
 -- the number of the symbol at a place
 unfoldable pub symbol_number : List ℕ → ℕ → Number
@@ -63,11 +54,11 @@ highest text T N at = cond (eqb (get_or text (at + 1) 0) letter_t) T N
 
 unfoldable pub symbol_judged : List ℕ → (T N at : ℕ) → Verdict
 symbol_judged text T N at =
-    checked (symbol_number text at) 0 (highest text T N at) symbol (past text (past text at))
+    checked (symbol_number text at) 0 (highest text T N at) refusals.Symbol (past text (past text at))
 
 -- no symbol more
 unfoldable pub closed : List ℕ → ℕ → Verdict
-closed text at = cond (is_space text at) (Bad limit (past text at)) (Next at)
+closed text at = cond (is_space text at) (bad refusals.Limit (past text at)) (Ok at)
 
 -- at most so many symbols
 unfoldable pub symbols_judged : List ℕ → (T N room at : ℕ) → Verdict
@@ -75,7 +66,7 @@ symbols_judged text T N zero at = closed text at
 symbols_judged text T N (suc room) at =
     cond (is_space text at)
     (and_then (symbol_judged text T N at) (symbols_judged text T N room))
-    (Next at)
+    (Ok at)
 
 -- the number of a left side, behind its letter
 unfoldable pub left_number : List ℕ → ℕ → Number
@@ -88,22 +79,25 @@ right_place text at = past text (past text (left_number text at).next)
 -- a line: its left side and its symbols, up to the line feed
 unfoldable pub line_judged : List ℕ → (T N at : ℕ) → Verdict
 line_judged text T N at =
-    both (checked (left_number text at) 0 N symbol (past text at))
+    both (checked (left_number text at) 0 N refusals.Symbol (past text at))
     (symbols_judged text T N most_symbols (right_place text at))
 
 -- the line at a place, where there is one
 unfoldable pub next_judged : List ℕ → (T N at : ℕ) → Verdict
-next_judged text T N at = cond (ltb at (length text)) (line_judged text T N at) (Bad short (length text))
+next_judged text T N at = cond (ltb at (length text)) (line_judged text T N at) (bad refusals.Short (length text))
 
 -- so many lines
 unfoldable pub lines_judged : List ℕ → (T N count at : ℕ) → Verdict
-lines_judged text T N zero at = Next at
+lines_judged text T N zero at = Ok at
 lines_judged text T N (suc count) at =
     and_then (next_judged text T N at) λ end. lines_judged text T N count (past text end)
 
 -- nothing behind them
+unfoldable pub ended_at : List ℕ → ℕ → Verdict
+ended_at text at = cond (ltb at (length text)) (bad refusals.Extra at) (Ok at)
+
 unfoldable pub end_judged : List ℕ → Verdict → Verdict
-end_judged text v = and_then v λ at. cond (ltb at (length text)) (Bad extra at) (Next at)
+end_judged text v = and_then v (ended_at text)
 
 -- the first line, as many lines as it says, the end
 unfoldable pub sheet_judged : List ℕ → Head → Verdict

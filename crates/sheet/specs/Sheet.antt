@@ -7,7 +7,8 @@ use Rattle.grammar.specs.declared.Symbol.TheVariants.{Token, Nonterminal}
 use Rattle.grammar.specs.Grammar.{Form, Production, Grammar, Every}
 use Rattle.text.specs.Text.{decimal}
 use Rattle.answers.specs.Limits.{most_tokens, most_nonterminals, most_productions, most_symbols}
-use Rattle.answers.specs.Refusals.{limit, symbol}
+use Rattle.answers.specs.declared.refusals.Refusal.{Refusal}
+use Rattle.answers.specs.declared.refusals.Refusal.TheVariants as refusals
 
 abbrev pub line_feed : ℕ
 line_feed = 10
@@ -97,33 +98,33 @@ pub record Field : Type 0 where
   pub value : ℕ
   pub low : ℕ
   pub high : ℕ
-  pub refusal : ℕ
+  pub why : Refusal
   pub place : ℕ
 
 pub record InRange (f : Field) : Type 0 where
   pub above : f.low ≤ f.value
   pub below : f.value < f.high
 
-abbrev pub field : (value low high refusal place : ℕ) → Field
-field value low high refusal place =
-    record { value = value; low = low; high = high; refusal = refusal; place = place }
+abbrev pub field : (value low high : ℕ) → Refusal → (place : ℕ) → Field
+field value low high why place =
+    record { value = value; low = low; high = high; why = why; place = place }
 
 -- a token below T or a nonterminal below N, behind its space and its letter
 unfoldable pub symbol_field : (T N at : ℕ) → Symbol → Field
-symbol_field T N at (Token t) = field t 0 T symbol (at + 2)
-symbol_field T N at (Nonterminal n) = field n 0 N symbol (at + 2)
+symbol_field T N at (Token t) = field t 0 T refusals.Symbol (at + 2)
+symbol_field T N at (Nonterminal n) = field n 0 N refusals.Symbol (at + 2)
 
 -- at most so many symbols; one more has no range, and its place is that of its letter
 unfoldable pub symbols_fields : (T N room at : ℕ) → Form → List Field
 symbols_fields T N room at [] = []
-symbols_fields T N zero at (s ∷ form) = field 0 0 0 limit (at + 1) ∷ []
+symbols_fields T N zero at (s ∷ form) = field 0 0 0 refusals.Limit (at + 1) ∷ []
 symbols_fields T N (suc room) at (s ∷ form) =
     symbol_field T N at s ∷ symbols_fields T N room (at + length (symbol_text s)) form
 
 -- the left side behind its letter, and the symbols behind ` :`
 unfoldable pub line_fields : (T N at : ℕ) → Production → List Field
 line_fields T N at r =
-    field r.left 0 N symbol (at + 1)
+    field r.left 0 N refusals.Symbol (at + 1)
     ∷ symbols_fields T N most_symbols (at + 1 + length (decimal r.left) + 2) r.right
 
 unfoldable pub lines_fields : (T N at : ℕ) → List Production → List Field
@@ -136,10 +137,10 @@ first_fields d =
     let second = length (decimal d.tokens) + 1 in
     let third = second + length (decimal d.nonterminals) + 1 in
     let fourth = third + length (decimal d.start) + 1 in
-    field d.tokens 1 (suc most_tokens) limit 0
-    ∷ field d.nonterminals 1 (suc most_nonterminals) limit second
-    ∷ field d.start 0 d.nonterminals limit third
-    ∷ field d.count 1 (suc most_productions) limit fourth
+    field d.tokens 1 (suc most_tokens) refusals.Limit 0
+    ∷ field d.nonterminals 1 (suc most_nonterminals) refusals.Limit second
+    ∷ field d.start 0 d.nonterminals refusals.Limit third
+    ∷ field d.count 1 (suc most_productions) refusals.Limit fourth
     ∷ []
 
 -- the productions of the first P + 1 lines
@@ -151,12 +152,12 @@ unfoldable pub fields_of : Draft → List Field
 fields_of d = first_fields d ++ lines_fields d.tokens d.nonterminals (length (first_line d)) (announced d)
 
 -- the first of the fields that is out of its range, with its refusal and its place
-pub data FirstFault : List Field → ℕ → ℕ → Type 0 where
-  here : {f : Field} {fs : List Field} → ¬ InRange f → FirstFault (f ∷ fs) f.refusal f.place
-  later : {f : Field} {fs : List Field} {number place : ℕ}
+pub data FirstFault : List Field → Refusal → ℕ → Type 0 where
+  here : {f : Field} {fs : List Field} → ¬ InRange f → FirstFault (f ∷ fs) f.why f.place
+  later : {f : Field} {fs : List Field} {why : Refusal} {place : ℕ}
       → InRange f
-      → FirstFault fs number place
-      → FirstFault (f ∷ fs) number place
+      → FirstFault fs why place
+      → FirstFault (f ∷ fs) why place
 
 abbrev pub Faultless : List Field → Type 0
 Faultless = Every InRange

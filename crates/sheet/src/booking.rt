@@ -6,7 +6,7 @@ ghost use Rattle.sheet.specs.Booking.{Copies, right_in, right_end, record_in, li
 ghost use Rattle.sheet.specs.Booking.{head_bytes, book_in};
 ghost use Rattle.sheet.specs.Booking as booking;
 
-use crate::judging::{Head, another, left_number, past, right_place, symbol_number};
+use crate::judging::{Head, is_space, left_number, past, right_place, symbol_number};
 use answers::limits::MOST_SYMBOLS;
 use reader::fields::byte_at;
 use text::{Number, put, put_all};
@@ -40,12 +40,13 @@ fn put_right(out: &mut [u8], sheet: &[u8], at: usize) -> Places
 {
     let mut place = at;
     let mut next: usize = 0;
-    let mut room = MOST_SYMBOLS;
-    while another(sheet, room, place) {
+    for _ in 0..MOST_SYMBOLS {
+        if !is_space(sheet, place) {
+            break;
+        }
         let number = symbol_number(sheet, place);
         next = put(out, next, byte_from(sheet, place, number.value));
         place = number.next;
-        room -= 1;
     }
     Places {
         sheet: place,
@@ -84,12 +85,10 @@ fn put_lines(out: &mut [u8], at: usize, sheet: &[u8], place: usize, count: u64) 
 {
     let mut from = place;
     let mut next = at;
-    let mut left = count;
-    while 0 < left {
+    for _ in 0..count {
         let places = put_line(out, next, sheet, from);
         from = places.sheet;
         next = places.book;
-        left -= 1;
     }
     next
 }

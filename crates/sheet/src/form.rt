@@ -1,6 +1,6 @@
 // The form of a sheet, byte by byte: what may come next, and the first byte that breaks it.
-ghost use Rattle.std.specs.Prelude.{◌≡◌};
-ghost use Rattle.sheet.specs.Form.{FormedBy};
+ghost use Rattle.std.specs.Prelude.{◌≡◌, MatchResult};
+ghost use Rattle.sheet.specs.Sheet.{HasForm, BreaksAt};
 ghost use Rattle.sheet.specs.Form as form;
 
 use text::is_digit;
@@ -17,7 +17,7 @@ pub(crate) enum Slot {
 }
 
 // What may come next: a number's first digit, more digits, what follows a number, a further line, the colon, a
-// letter; or nothing at all.
+// letter.
 #[derive(Clone, Copy)]
 pub(crate) enum Phase {
     First(Slot),
@@ -26,25 +26,17 @@ pub(crate) enum Phase {
     Line,
     Colon,
     Letter,
-    Stuck,
-}
-
-// The first byte that breaks the form, or the length, and whether the text has the form.
-#[derive(Clone, Copy)]
-pub(crate) struct Formed {
-    pub at: usize,
-    pub whole: bool,
 }
 
 // Only the wanted byte leads on.
-fn wants(byte: u8, wanted: u8, next: Phase) -> Phase
+fn wants(byte: u8, wanted: u8, next: Phase) -> Option<Phase>
     ensures { result ≡ form.wants byte wanted next }
 {
-    if byte == wanted { next } else { Phase::Stuck }
+    (byte == wanted).then_some(next)
 }
 
 // Behind a number.
-fn behind(slot: Slot, byte: u8) -> Phase
+fn behind(slot: Slot, byte: u8) -> Option<Phase>
     ensures { result ≡ form.behind slot byte }
 {
     match slot {
@@ -55,7 +47,7 @@ fn behind(slot: Slot, byte: u8) -> Phase
         Slot::Left => wants(byte, b' ', Phase::Colon),
         Slot::Right => {
             if byte == b' ' {
-                Phase::Letter
+                Some(Phase::Letter)
             } else {
                 wants(byte, b'\n', Phase::Line)
             }
@@ -64,42 +56,42 @@ fn behind(slot: Slot, byte: u8) -> Phase
 }
 
 // At the first digit of a number: behind a 0 no digit can stand.
-fn begin(slot: Slot, byte: u8) -> Phase
+fn begin(slot: Slot, byte: u8) -> Option<Phase>
     ensures { result ≡ form.begin slot byte }
 {
     if byte == b'0' {
-        Phase::Behind(slot)
+        Some(Phase::Behind(slot))
     } else if is_digit(byte) {
-        Phase::More(slot)
+        Some(Phase::More(slot))
     } else {
-        Phase::Stuck
+        None
     }
 }
 
 // At a further digit of a number, or behind it.
-fn go_on(slot: Slot, byte: u8) -> Phase
+fn go_on(slot: Slot, byte: u8) -> Option<Phase>
     ensures { result ≡ form.go_on slot byte }
 {
     if is_digit(byte) {
-        Phase::More(slot)
+        Some(Phase::More(slot))
     } else {
         behind(slot, byte)
     }
 }
 
 // At the letter of a symbol.
-fn letter(byte: u8) -> Phase
+fn letter(byte: u8) -> Option<Phase>
     ensures { result ≡ form.letter byte }
 {
     if byte == b't' {
-        Phase::First(Slot::Right)
+        Some(Phase::First(Slot::Right))
     } else {
         wants(byte, b'n', Phase::First(Slot::Right))
     }
 }
 
-// Where a byte leads.
-fn step(phase: Phase, byte: u8) -> Phase
+// Where a byte leads, if anywhere.
+fn step(phase: Phase, byte: u8) -> Option<Phase>
     ensures { result ≡ form.step phase byte }
 {
     match phase {
@@ -109,56 +101,19 @@ fn step(phase: Phase, byte: u8) -> Phase
         Phase::Line => wants(byte, b'n', Phase::First(Slot::Left)),
         Phase::Colon => wants(byte, b':', Phase::Behind(Slot::Right)),
         Phase::Letter => letter(byte),
-        Phase::Stuck => Phase::Stuck,
     }
 }
 
-// Whether nothing leads on.
-fn is_stuck(phase: Phase) -> bool
-    ensures { result ≡ form.is_stuck phase }
-{
-    match phase {
-        Phase::First(_) => false,
-        Phase::More(_) => false,
-        Phase::Behind(_) => false,
-        Phase::Line => false,
-        Phase::Colon => false,
-        Phase::Letter => false,
-        Phase::Stuck => true,
-    }
-}
-
-// Whether a sheet may end here.
-fn is_line(phase: Phase) -> bool
-    ensures { result ≡ form.is_line phase }
-{
-    match phase {
-        Phase::First(_) => false,
-        Phase::More(_) => false,
-        Phase::Behind(_) => false,
-        Phase::Line => true,
-        Phase::Colon => false,
-        Phase::Letter => false,
-        Phase::Stuck => false,
-    }
-}
-
-// The first byte of the sheet that breaks the form, or its length.
-pub(crate) fn first_break(sheet: &[u8]) -> Formed
-    ensures { FormedBy sheet.now result }
+// The sheet has the form, or the first byte that breaks it, or its length where it breaks off.
+pub(crate) fn first_break(sheet: &[u8]) -> Result<(), usize>
+    ensures { MatchResult result (λ _. HasForm sheet.now) (BreaksAt sheet.now) }
 {
     let mut phase = Phase::First(Slot::Tokens);
-    let mut at: usize = 0;
-    while at < sheet.len() {
-        let next = step(phase, sheet[at]);
-        if is_stuck(next) {
-            return Formed { at, whole: false };
-        }
-        phase = next;
-        at += 1;
+    for (at, byte) in sheet.iter().enumerate() {
+        phase = step(phase, *byte).ok_or(at)?;
     }
-    Formed {
-        at,
-        whole: is_line(phase),
+    match phase {
+        Phase::Line => Ok(()),
+        _ => Err(sheet.len()),
     }
 }

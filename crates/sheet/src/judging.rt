@@ -4,8 +4,8 @@ ghost use Rattle.answers.specs.Limits.{most_symbols};
 ghost use Rattle.sheet.specs.Judging as judging;
 
 use answers::limits::{MOST_NONTERMINALS, MOST_PRODUCTIONS, MOST_SYMBOLS, MOST_TOKENS};
-use answers::refusals::{EXTRA, LIMIT, SHORT, SYMBOL};
-use reader::Verdict;
+use answers::refusals::Refusal;
+use reader::Fault;
 use reader::fields::byte_at;
 use text::{Number, read_number};
 
@@ -45,61 +45,50 @@ pub(crate) fn head_in(sheet: &[u8]) -> Head
     }
 }
 
-// The first of two verdicts that refuses, else the second.
-fn both(one: Verdict, other: Verdict) -> Verdict
-    ensures { result ≡ judging.both one other }
-{
-    match one {
-        Verdict::Next(_) => other,
-        Verdict::Bad(number, place) => Verdict::Bad(number, place),
-    }
-}
-
 // A number from `low` up to and without `high`, and the place behind it; else the refusal at its own place.
-fn checked(number: Number, low: u64, high: u64, refusal: u32, at: usize) -> Verdict
-    ensures { result ≡ judging.checked number low high refusal at }
+fn checked(number: Number, low: u64, high: u64, why: Refusal, place: usize) -> Result<usize, Fault>
+    ensures { result ≡ judging.checked number low high why place }
 {
-    if number.value < low {
-        Verdict::Bad(refusal, at)
-    } else if number.value < high {
-        Verdict::Next(number.next)
+    if low <= number.value && number.value < high {
+        Ok(number.next)
     } else {
-        Verdict::Bad(refusal, at)
+        Err(Fault { why, place })
     }
 }
 
 // T, N, a start below N, P.
-fn judge_head(sheet: &[u8], head: Head) -> Verdict
+fn judge_head(sheet: &[u8], head: Head) -> Result<usize, Fault>
     ensures { result ≡ judging.head_judged sheet.now head }
 {
-    let tokens = checked(head.tokens, 1, MOST_TOKENS as u64 + 1, LIMIT, 0);
+    let most_tokens = MOST_TOKENS as u64 + 1;
+    checked(head.tokens, 1, most_tokens, Refusal::Limit, 0)?;
     let second = past(sheet, head.tokens.next);
-    let nonterminals = checked(
+    let most_nonterminals = MOST_NONTERMINALS as u64 + 1;
+    checked(
         head.nonterminals,
         1,
-        MOST_NONTERMINALS as u64 + 1,
-        LIMIT,
+        most_nonterminals,
+        Refusal::Limit,
         second,
-    );
+    )?;
     let third = past(sheet, head.nonterminals.next);
-    let start = checked(head.start, 0, head.nonterminals.value, LIMIT, third);
+    checked(
+        head.start,
+        0,
+        head.nonterminals.value,
+        Refusal::Limit,
+        third,
+    )?;
     let fourth = past(sheet, head.start.next);
-    let count = checked(head.count, 1, MOST_PRODUCTIONS as u64 + 1, LIMIT, fourth);
-    both(tokens, both(nonterminals, both(start, count)))
+    let most_productions = MOST_PRODUCTIONS as u64 + 1;
+    checked(head.count, 1, most_productions, Refusal::Limit, fourth)
 }
 
 // Whether a symbol stands here.
-fn is_space(sheet: &[u8], at: usize) -> bool
+pub(crate) fn is_space(sheet: &[u8], at: usize) -> bool
     ensures { result ≡ judging.is_space sheet.now at }
 {
     byte_at(sheet, at, 0) == b' '
-}
-
-// Whether a symbol stands here and there is room for it.
-pub(crate) fn another(sheet: &[u8], room: u8, at: usize) -> bool
-    ensures { result ≡ judging.another sheet.now room at }
-{
-    0 < room && is_space(sheet, at)
 }
 
 // The number of the symbol at a place, behind its space and its letter.
@@ -110,42 +99,39 @@ pub(crate) fn symbol_number(sheet: &[u8], at: usize) -> Number
 }
 
 // A token below `t` or a nonterminal below `n`.
-fn judge_symbol(sheet: &[u8], at: usize, t: u64, n: u64) -> Verdict
+fn judge_symbol(sheet: &[u8], at: usize, t: u64, n: u64) -> Result<usize, Fault>
     ensures { result ≡ judging.symbol_judged sheet.now t n at }
 {
     let number = symbol_number(sheet, at);
     let place = past(sheet, past(sheet, at));
-    if byte_at(sheet, at, 1) == b't' {
-        checked(number, 0, t, SYMBOL, place)
-    } else {
-        checked(number, 0, n, SYMBOL, place)
-    }
+    let high = if byte_at(sheet, at, 1) == b't' { t } else { n };
+    checked(number, 0, high, Refusal::Symbol, place)
 }
 
 // A symbol more where there is none: the place is that of its letter.
-fn closed(sheet: &[u8], at: usize) -> Verdict
+fn closed(sheet: &[u8], at: usize) -> Result<usize, Fault>
     ensures { result ≡ judging.closed sheet.now at }
 {
     if is_space(sheet, at) {
-        Verdict::Bad(LIMIT, past(sheet, at))
+        Err(Fault {
+            why: Refusal::Limit,
+            place: past(sheet, at),
+        })
     } else {
-        Verdict::Next(at)
+        Ok(at)
     }
 }
 
 // The symbols from a place on, up to the line feed.
-fn judge_symbols(sheet: &[u8], at: usize, t: u64, n: u64) -> Verdict
+fn judge_symbols(sheet: &[u8], at: usize, t: u64, n: u64) -> Result<usize, Fault>
     ensures { result ≡ judging.symbols_judged sheet.now t n most_symbols at }
 {
     let mut place = at;
-    let mut room = MOST_SYMBOLS;
-    while another(sheet, room, place) {
-        let v = judge_symbol(sheet, place, t, n);
-        let Verdict::Next(next) = v else {
-            return v;
-        };
-        place = next;
-        room -= 1;
+    for _ in 0..MOST_SYMBOLS {
+        if !is_space(sheet, place) {
+            return Ok(place);
+        }
+        place = judge_symbol(sheet, place, t, n)?;
     }
     closed(sheet, place)
 }
@@ -165,69 +151,66 @@ pub(crate) fn right_place(sheet: &[u8], at: usize) -> usize
 }
 
 // The left side and the symbols of the line at a place, up to the line feed.
-fn judge_line(sheet: &[u8], at: usize, t: u64, n: u64) -> Verdict
+fn judge_line(sheet: &[u8], at: usize, t: u64, n: u64) -> Result<usize, Fault>
     ensures { result ≡ judging.line_judged sheet.now t n at }
 {
-    let left = checked(left_number(sheet, at), 0, n, SYMBOL, past(sheet, at));
-    both(left, judge_symbols(sheet, right_place(sheet, at), t, n))
+    checked(
+        left_number(sheet, at),
+        0,
+        n,
+        Refusal::Symbol,
+        past(sheet, at),
+    )?;
+    judge_symbols(sheet, right_place(sheet, at), t, n)
 }
 
 // The line at a place, where there is one.
-fn judge_next(sheet: &[u8], at: usize, t: u64, n: u64) -> Verdict
+fn judge_next(sheet: &[u8], at: usize, t: u64, n: u64) -> Result<usize, Fault>
     ensures { result ≡ judging.next_judged sheet.now t n at }
 {
     if at < sheet.len() {
         judge_line(sheet, at, t, n)
     } else {
-        Verdict::Bad(SHORT, sheet.len())
+        Err(Fault {
+            why: Refusal::Short,
+            place: sheet.len(),
+        })
     }
 }
 
 // So many lines from a place on.
-fn judge_lines(sheet: &[u8], at: usize, t: u64, n: u64, count: u64) -> Verdict
+fn judge_lines(sheet: &[u8], at: usize, t: u64, n: u64, count: u64) -> Result<usize, Fault>
     ensures { result ≡ judging.lines_judged sheet.now t n count at }
 {
     let mut place = at;
-    let mut left = count;
-    while 0 < left {
-        let v = judge_next(sheet, place, t, n);
-        let Verdict::Next(end) = v else {
-            return v;
-        };
-        place = past(sheet, end);
-        left -= 1;
+    for _ in 0..count {
+        place = past(sheet, judge_next(sheet, place, t, n)?);
     }
-    Verdict::Next(place)
+    Ok(place)
 }
 
 // Nothing behind them.
-fn judge_end(sheet: &[u8], v: Verdict) -> Verdict
-    ensures { result ≡ judging.end_judged sheet.now v }
+fn judge_end(sheet: &[u8], at: usize) -> Result<usize, Fault>
+    ensures { result ≡ judging.ended_at sheet.now at }
 {
-    match v {
-        Verdict::Next(at) => {
-            if at < sheet.len() {
-                Verdict::Bad(EXTRA, at)
-            } else {
-                Verdict::Next(at)
-            }
-        }
-        Verdict::Bad(number, place) => Verdict::Bad(number, place),
+    if at < sheet.len() {
+        Err(Fault {
+            why: Refusal::Extra,
+            place: at,
+        })
+    } else {
+        Ok(at)
     }
 }
 
-// The first line, as many lines as it says, the end; what stands behind a refusal does not count.
-pub(crate) fn judge(sheet: &[u8], head: Head) -> Verdict
+// The first line, as many lines as it says, the end.
+pub(crate) fn judge(sheet: &[u8], head: Head) -> Result<usize, Fault>
     ensures { result ≡ judging.sheet_judged sheet.now head }
 {
-    let first = judge_head(sheet, head);
+    judge_head(sheet, head)?;
     let from = past(sheet, head.count.next);
-    let listed = judge_lines(
-        sheet,
-        from,
-        head.tokens.value,
-        head.nonterminals.value,
-        head.count.value,
-    );
-    both(first, judge_end(sheet, listed))
+    let tokens = head.tokens.value;
+    let nonterminals = head.nonterminals.value;
+    let end = judge_lines(sheet, from, tokens, nonterminals, head.count.value)?;
+    judge_end(sheet, end)
 }

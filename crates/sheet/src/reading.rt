@@ -1,7 +1,6 @@
 // A sheet's book: the form looked at first, then the values, then the bytes put together in a local buffer, and copied
 // where there is room.
-ghost use Rattle.std.specs.Prelude.{◌≡◌, ℕ};
-ghost use Rattle.reader.specs.declared.Verdict.TheVariants.{Next};
+ghost use Rattle.std.specs.Prelude.{◌≡◌, ℕ, Ok};
 ghost use Rattle.sheet.specs.Sheet.{HasForm};
 ghost use Rattle.sheet.specs.Judging.{head_in, sheet_judged};
 ghost use Rattle.sheet.specs.Calls.{ReadOutcome};
@@ -11,13 +10,12 @@ use crate::form::first_break;
 use crate::judging::{head_in, judge};
 use crate::writing::copy;
 use answers::limits::LONGEST_BOOK;
-use answers::refusals::FORM;
+use answers::refusals::Refusal;
 use answers::{Answer, refusal};
-use reader::Verdict;
 
 // The book of a sheet whose values are in range and whose lines are as many as it says.
 fn read_good(sheet: &[u8], book: &mut [u8]) -> Answer
-    requires { HasForm sheet.now × ((end : ℕ) × (sheet_judged sheet.now (head_in sheet.now) ≡ Next end)) }
+    requires { HasForm sheet.now × ((end : ℕ) × (sheet_judged sheet.now (head_in sheet.now) ≡ Ok end)) }
     ensures { ReadOutcome sheet.now book.old result book.new }
 {
     let mut bytes = [0u8; LONGEST_BOOK];
@@ -30,10 +28,9 @@ fn read_formed(sheet: &[u8], book: &mut [u8]) -> Answer
     requires { HasForm sheet.now }
     ensures { ReadOutcome sheet.now book.old result book.new }
 {
-    let verdict = judge(sheet, head_in(sheet));
-    match verdict {
-        Verdict::Next(_) => read_good(sheet, book),
-        Verdict::Bad(number, place) => refusal(number, place as u64, 0),
+    match judge(sheet, head_in(sheet)) {
+        Ok(_) => read_good(sheet, book),
+        Err(fault) => refusal(fault.why, fault.place as u64, 0),
     }
 }
 
@@ -41,10 +38,8 @@ fn read_formed(sheet: &[u8], book: &mut [u8]) -> Answer
 pub fn read(sheet: &[u8], book: &mut [u8]) -> Answer
     ensures { ReadOutcome sheet.now book.old result book.new }
 {
-    let formed = first_break(sheet);
-    if formed.whole {
-        read_formed(sheet, book)
-    } else {
-        refusal(FORM, formed.at as u64, 0)
+    match first_break(sheet) {
+        Ok(()) => read_formed(sheet, book),
+        Err(at) => refusal(Refusal::Form, at as u64, 0),
     }
 }

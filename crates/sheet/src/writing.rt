@@ -9,14 +9,13 @@ ghost use Rattle.sheet.specs.Sheet.{symbol_text, symbols_text};
 ghost use Rattle.sheet.specs.Writing.{letter_of, number_of, record_text, records_text, head_text, book_text};
 ghost use Rattle.sheet.specs.Calls.{Copied, WriteOutcome};
 
-use answers::buffers::write_bytes;
-use answers::refusals::ROOM;
+use answers::buffers::write_front;
+use answers::refusals::Refusal;
 use answers::{Answer, done, refusal};
-use reader::Verdict;
 use reader::fields::{
     NONTERMINALS, PRODUCTIONS, START, SYMBOLS, TOKENS, byte_at, left_at, length_at,
 };
-use reader::walk::read;
+use reader::spelling::read;
 use text::{decimal, put};
 
 // No sheet of a book is longer.
@@ -67,13 +66,10 @@ fn put_symbol(out: &mut [u8], at: usize, byte: u8) -> usize
 fn put_right(out: &mut [u8], at: usize, book: &[u8], place: usize, count: u8) -> usize
     ensures { Put out.old at (symbols_text (form_in book.now (place + 4) count)) out.new result }
 {
-    let last = count as usize;
     let mut next = at;
-    let mut i: usize = 0;
-    while i < last {
+    for i in 0..count as usize {
         let byte = byte_at(book, place, SYMBOLS + i);
         next = put_symbol(out, next, byte);
-        i += 1;
     }
     next
 }
@@ -94,15 +90,12 @@ fn put_line(out: &mut [u8], at: usize, book: &[u8], place: usize) -> usize
 fn put_lines(out: &mut [u8], at: usize, book: &[u8], count: u8) -> usize
     ensures { Put out.old at (records_text book.now count 6) out.new result }
 {
-    let last = count as usize;
     let mut place: usize = 6;
     let mut next = at;
-    let mut p: usize = 0;
-    while p < last {
+    for _ in 0..count {
         next = put_line(out, next, book, place);
         let length = length_at(book, place) as usize;
-        place = place + 4 + length;
-        p += 1;
+        place = place + SYMBOLS + length;
     }
     next
 }
@@ -138,9 +131,9 @@ pub(crate) fn copy(bytes: &[u8], out: &mut [u8]) -> Answer
     ensures { Copied bytes.now out.old result out.new }
 {
     if out.len() < bytes.len() {
-        return refusal(ROOM, bytes.len() as u64, 0);
+        return refusal(Refusal::Room, bytes.len() as u64, 0);
     }
-    write_bytes(bytes, out);
+    write_front(bytes, out);
     done(bytes.len() as u64)
 }
 
@@ -158,9 +151,8 @@ fn write_read(book: &[u8], sheet: &mut [u8]) -> Answer
 pub fn write(book: &[u8], sheet: &mut [u8]) -> Answer
     ensures { WriteOutcome book.now sheet.old result sheet.new }
 {
-    let verdict = read(book);
-    match verdict {
-        Verdict::Next(_) => write_read(book, sheet),
-        Verdict::Bad(number, place) => refusal(number, place as u64, 0),
+    match read(book) {
+        Ok(_) => write_read(book, sheet),
+        Err(fault) => refusal(fault.why, fault.place as u64, 0),
     }
 }

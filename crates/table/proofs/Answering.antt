@@ -1,15 +1,14 @@
 -- From what the functions find to the outcomes that they promise: the checks on the buffers, the claims laid, and what is written.
-use mathlib.Core.Path.{◌≡◌, refl, ◌∙◌, subst}
-use mathlib.Core.Logic.{◌≢◌}
+use mathlib.Core.Path.{◌≡◌, ◌∙◌, subst}
 use mathlib.Core.List.{List}
 use Prim.Native.Nat.{ℕ, ◌+◌, ◌*◌, ◌^◌, ◌≤◌, ◌<◌}
 use native.Mathlib.Nat.{mul-le-mul, mul-le-mul_left, mul-le-mul_right}
 use native.Mathlib.Omega.{arith}
-use lib.ListN.{length, take, get_or}
+use lib.ListN.{length, take}
 use Rattle.std.specs.Prelude.{⊤, Result, MatchResult}
 use Rattle.grammar.specs.Grammar.{Grammar}
 use Rattle.answers.specs.declared.Answer.{Answer}
-use Rattle.answers.specs.Answers.{done, refusal}
+use Rattle.answers.specs.Answers.{done}
 use Rattle.answers.specs.Refusals as refusals
 use Rattle.answers.specs.Buffers.{written}
 use Rattle.answers.specs.Checks.{because, Lacking}
@@ -134,9 +133,9 @@ module _ {book : List ℕ} {index : Index} {begins ends ahead : List ℕ} (worke
       pub build_entered : {r : Result ⊤ Answer} {table' : List ℕ} → Entered given.grammar table r table'
           → MatchResult r
           (λ _. (first' follow' : List ℕ)
-              → first' ≡ written (take index.outline.nonterminals begins) first
-              → follow' ≡ written (take index.outline.nonterminals ends) follow
-              → BuildOutcome book first follow table (done 0) first' follow' table')
+          → first' ≡ written (take index.outline.nonterminals begins) first
+          → follow' ≡ written (take index.outline.nonterminals ends) follow
+          → BuildOutcome book first follow table (done 0) first' follow' table')
           (λ a. BuildOutcome book first follow table a first follow table')
       build_entered (clash conflict) = calls.conflict given.serves fit roomy conflict
       build_entered (entered built) = λ first' follow' p q.

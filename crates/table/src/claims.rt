@@ -82,7 +82,7 @@ fn claim_all(book: &[u8], index: &Index, ahead: &[u64], table: &mut [u8]) -> Opt
         index.now.outline.tokens table.old }
     ensures { Ledger
         (Laid (book_claims book.now index.now.places ahead.now index.now.outline.tokens)
-            index.now.outline.productions 0)
+        index.now.outline.productions 0)
         table.new result }
 {
     let tokens = index.outline.tokens;
@@ -119,7 +119,7 @@ fn tabulate<const N: usize>(
         index.now.outline.tokens cells }
     ensures { Tabulated
         (Laid (book_claims book.now index.now.places ahead.now index.now.outline.tokens)
-            index.now.outline.productions 0)
+        index.now.outline.productions 0)
         cells table.old result table.new }
 {
     let mut claimed = vacant::<N>();

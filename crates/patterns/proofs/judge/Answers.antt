@@ -1,6 +1,9 @@
 -- `patterns::judge` meets its contract.
-use Rattle.patterns.proofs.Outcomes.{judged}
+use Rattle.patterns.specs.Calls.{refused, accepted}
 use Rattle.patterns.proofs.judge.Goals as goal
 
-pub returns : goal.returns
-returns c = judged c.gather.ensures
+pub returns-in-Ok : goal.returns-in-Ok
+returns-in-Ok c = rw c.done.ensures (accepted c.in-Ok.ensures.accepted)
+
+pub returns-in-Err : goal.returns-in-Err
+returns-in-Err c = refused c.in-Err.ensures

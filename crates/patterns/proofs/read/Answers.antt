@@ -1,19 +1,23 @@
 -- `patterns::read` meets its contract.
+use mathlib.Core.Logic.{⊎_elim}
 use native.Mathlib.Omega.{arith}
-use Rattle.patterns.specs.Calls.{no_room}
-use Rattle.patterns.proofs.Outcomes.{read_outcome}
+use Rattle.patterns.specs.Calls.{no_room, refused, served}
 use Rattle.patterns.proofs.read.Goals as goal
 
 pub returns-then-readers-lt-READERS_LENGTH : goal.returns-then-readers-lt-READERS_LENGTH
-returns-then-readers-lt-READERS_LENGTH c = rw c.refusal.ensures (no_room (λ fit. omega (arith, fit.readers_fit)))
+returns-then-readers-lt-READERS_LENGTH c =
+    rw c.refusal.ensures (no_room (λ fit. ⊎_elim (λ h. omega arith) (λ h. omega arith) c.then-readers-lt-READERS_LENGTH.either))
 
-pub returns-then-follow-lt-FOLLOW_LENGTH : goal.returns-then-follow-lt-FOLLOW_LENGTH
-returns-then-follow-lt-FOLLOW_LENGTH c = rw c.refusal-then-follow-lt-FOLLOW_LENGTH.ensures (no_room (λ fit. omega (arith, fit.follow_fit)))
+pub returns-in-Ok : goal.returns-in-Ok
+returns-in-Ok c =
+    let s = c.in-Ok.ensures in
+    rw c.done.ensures
+    (served (record { readers_fit = c.if-readers-lt-READERS_LENGTH.false; follow_fit = c.if-follow-lt-FOLLOW_LENGTH.false })
+    s.accepted s.readers_sized s.follow_sized s.tables)
 
-pub fill-answer-requires : goal.fill-answer-requires
-fill-answer-requires c = record { readers_fit = omega arith; follow_fit = omega arith }
-
-pub returns : goal.returns
-returns c =
-    read_outcome (record { readers_fit = c.if-readers-lt-READERS_LENGTH.false; follow_fit = c.if-follow-lt-FOLLOW_LENGTH.false }) c.fill-answer.ensures
-    c.keep_if_done.ensures c.keep_if_done-2.ensures
+pub returns-in-Err : goal.returns-in-Err
+returns-in-Err c =
+    let s = c.in-Err.ensures in
+    rw (c.fill-in-Err.ensures.after (λ y e. e), c.fill-in-Err-2.ensures.after (λ y e. e), s.readers_sized, s.follow_sized)
+    (refused (record { readers_fit = c.if-readers-lt-READERS_LENGTH.false; follow_fit = c.if-follow-lt-FOLLOW_LENGTH.false })
+    s.refuses)

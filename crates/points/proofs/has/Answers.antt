@@ -1,8 +1,10 @@
 -- `points::has` meets its contract: the place is asked for in its word, and a word that the slice lacks has no member.
 use mathlib.Core.Path.{sym}
+use Prim.Native.Nat.{◌/◌}
 use native.Mathlib.Omega.{arith}
+use borrow.Author.Tests.{le-ltb}
 use Rattle.sets.specs.Sets.{member}
-use Rattle.sets.specs.Words.{AreWords}
+use Rattle.sets.specs.Words.{word_width, AreWords}
 use Rattle.points.proofs.Stored.{member_points, member_lacking}
 use Rattle.points.proofs.has.Goals as goal
 use Rattle.points.proofs.has.Goals.{After-held}
@@ -20,4 +22,5 @@ returns-then-i-held c =
 pub returns-else-i-held : goal.returns-else-i-held
 returns-else-i-held c =
     let args = c.args in
-    sym (member_lacking args.sets.now args.at args.words args.place (words (goal.at.returns-else-i-held c).After-held) (omega arith))
+    rw (le-ltb (args.place / word_width) c.held.result c.if-i-held.false)
+    (sym (member_lacking args.sets.now args.at args.words args.place (words (goal.at.returns-else-i-held c).After-held) (omega arith)))

@@ -1,14 +1,8 @@
 use mathlib.Core.Path.{sym, ◌∙◌}
 use native.Mathlib.Omega.{arith}
-use borrow.Author.Count.{below_none, below_more}
+use borrow.Author.Count.{below_more}
 use Rattle.points.proofs.Compared.{points_none, none_held}
 use Rattle.points.proofs.none.Goals as goal
-
-pub loop-i-init : goal.loop-i-init
-loop-i-init c = (omega arith, below_none _)
-
-pub word-requires : goal.word-requires
-word-requires c = omega arith
 
 pub returns-then-word-ne0 : goal.returns-then-word-ne0
 returns-then-word-ne0 c none =
@@ -17,17 +11,10 @@ returns-then-word-ne0 c none =
     (c.word.ensures
     ∙ (points_none args.sets.now args.at args.words).1 none c.loop-i.i (omega arith))
 
-pub overflow_add-i : goal.overflow_add-i
-overflow_add-i c = omega arith
-
-pub loop-i-smaller : goal.loop-i-smaller
-loop-i-smaller c = omega arith
-
 pub loop-i-preserved : goal.loop-i-preserved
-loop-i-preserved c =
-    (omega arith, below_more _ _ c.loop-i.invariant.1 (sym c.word.ensures ∙ c.if-word-ne0.false))
+loop-i-preserved c = below_more _ _ c.loop-i.invariant (sym c.word.ensures ∙ c.if-word-ne0.false)
 
 pub returns : goal.returns
 returns c =
     let args = c.args in
-    none_held args.sets.now args.at args.words c.loop-i.i (omega arith) c.loop-i.invariant.1
+    none_held args.sets.now args.at args.words c.loop-i.i (omega arith) c.loop-i.invariant

@@ -10,25 +10,7 @@ use Rattle.points.proofs.unite.Goals as goal
 use Rattle.points.proofs.unite.Goals.{After-held-end}
 
 pub loop-i-init : goal.loop-i-init
-loop-i-init c = (omega arith, refl, simp (add-zero, sub-zero))
-
-pub overflow_add-target : goal.overflow_add-target
-overflow_add-target c = omega arith
-
-pub bounds-sets-target : goal.bounds-sets-target
-bounds-sets-target c = omega arith
-
-pub word-requires : goal.word-requires
-word-requires c = omega arith
-
-pub bounds-sets-target-in-loop-i : goal.bounds-sets-target-in-loop-i
-bounds-sets-target-in-loop-i c = omega arith
-
-pub overflow_add-i : goal.overflow_add-i
-overflow_add-i c = omega arith
-
-pub loop-i-smaller : goal.loop-i-smaller
-loop-i-smaller c = omega arith
+loop-i-init c = (refl, simp (add-zero, sub-zero))
 
 pub loop-i-preserved : goal.loop-i-preserved
 unfolding united
@@ -36,14 +18,13 @@ loop-i-preserved c =
     let args = c.args in
     let sets = c.loop-i.sets in
     let i = c.loop-i.i in (
-      omega arith,
-      simp length-set c.loop-i.invariant.1,
+      simp length-set c.loop-i.invariant.0,
       rw c.word.ensures
-          (united_next sets args.at args.words i args.other.now args.from (omega arith) ∙ c.loop-i.invariant.2),
+          (united_next sets args.at args.words i args.other.now args.from (omega arith) ∙ c.loop-i.invariant.1),
     )
 
 pub shape_of-sets : goal.shape_of-sets
-shape_of-sets c = c.loop-i.invariant.1
+shape_of-sets c = c.loop-i.invariant.0
 
 pub returns : goal.returns
 returns c =
@@ -56,12 +37,12 @@ returns c =
     let words : AreWords before = record { fits = λ i. ((goal.at.returns c).After-held-end.type_inv.sets i).fits } in
     let other_words : AreWords other = record { fits = λ i. (c.type_inv.other i).fits } in
     let ended : min (min args.words (length loop.sets - args.at)) (length other - args.from) ≤ loop.i =
-    rw (loop.invariant.1, ← held.ensures, ← held2.ensures) c.loop-i-test.false in
+    rw (loop.invariant.0, ← held.ensures, ← held2.ensures) c.loop-i-test.false in
     record {
       words = words;
       other_words = other_words;
       content =
           sym (united_all loop.sets args.at args.words loop.i other args.from ended)
-          ∙ loop.invariant.2
+          ∙ loop.invariant.1
           ∙ united_whole before args.at args.words other args.from words other_words;
     }

@@ -4,7 +4,7 @@ use native.Mathlib.Nat.{mod-lt}
 use native.Mathlib.Omega.{arith}
 use Rattle.sets.specs.Calls.{set_at}
 use Rattle.table.specs.Claims.{left_of}
-use Rattle.checker.proofs.Rivalry.{claimant_there, next_claimant, conflict_told}
+use Rattle.checker.proofs.Rivalry.{conflict_told}
 use Rattle.checker.proofs.contests.conflict_at.Goals as goal
 
 pub overflow_cast-cell : goal.overflow_cast-cell

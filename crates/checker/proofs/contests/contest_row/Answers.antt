@@ -1,9 +1,6 @@
 -- Sets that are apart share no column; else the first that they share is that of the row's first cell.
-use native.Mathlib.Omega.{arith}
-use borrow.Author.Rules.{rules}
 use Rattle.sets.proofs.Promise.{decides_true}
-use Rattle.table.proofs.Promise.{row_fits}
-use Rattle.checker.proofs.Rivalry.{apart_shared, none_shared, first_column, past_column}
+use Rattle.checker.proofs.Rivalry.{apart_shared}
 use Rattle.checker.proofs.contests.contest_row.Goals as goal
 
 pub returns-then-apart : goal.returns-then-apart

@@ -18,8 +18,8 @@ loop-p-preserved c =
       omega (arith, c.add_claims.auto.claimed, c.loop-p.invariant.0),
       tallied_next c.loop-p.invariant.1 sided looks inside c.add_claims.ensures.united,
       rw c.or-contested.ensures
-      (contested_next c.loop-p.invariant.1 c.args.index.now.outline.tokens c.args.cells c.loop-p.contested c.add_claims.result sided looks c.loop-p.invariant.2
-      (rw c.unwrap_or-bound.ensures at c.add_claims.ensures.contested)),
+          (contested_next c.loop-p.invariant.1 c.args.index.now.outline.tokens c.args.cells c.loop-p.contested c.add_claims.result sided looks c.loop-p.invariant.2
+          (rw c.unwrap_or-bound.ensures at c.add_claims.ensures.contested)),
     )
 
 pub returns : goal.returns

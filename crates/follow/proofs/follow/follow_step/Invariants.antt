@@ -5,4 +5,3 @@ use Rattle.follow.proofs.follow.follow_step.Given as goal
 
 abbrev pub invariant-loop-j : goal.invariant-loop-j
 invariant-loop-j l = Walking l.book l.first l.place l.from (number l.initial.passed.ahead) l.initial.follow l.passed l.follow l.j
-

@@ -4,8 +4,4 @@ use Rattle.parts.proofs.PositionSets.{through_passed}
 use Rattle.parts.proofs.joins.through.Goals as goal
 
 pub returns-then-passes : goal.returns-then-passes
-returns-then-passes c =
-    rw c.if-passes.true (through_passed (search rules) c.unite.ensures)
-
-pub returns-else-passes : goal.returns-else-passes
-returns-else-passes c = rw c.if-passes.false
+returns-then-passes c = rw c.if-passes.true (through_passed (search rules) c.unite.ensures)

@@ -10,12 +10,12 @@ use Rattle.parts.specs.Leading.{points_in}
 use Rattle.parts.proofs.LeadingOn.{Gone}
 use Rattle.parts.proofs.leading.lead_word.Given as goal
 
-abbrev pub invariant-loop-rest : goal.invariant-loop-rest
-invariant-loop-rest l =
+abbrev pub invariant-loop-place : goal.invariant-loop-place
+invariant-loop-place l =
     (length l.follow ≡ length l.initial.follow)
     × (l.rest < 2 ^ word_width)
     × Subset l.rest l.word
     × Rows point_words l.initial.follow l.follow (Gone l.base l.word l.rest (points_in l.next))
 
-abbrev pub decreases-loop-rest : goal.decreases-loop-rest
-decreases-loop-rest l = l.rest
+abbrev pub decreases-loop-place : goal.decreases-loop-place
+decreases-loop-place l = l.rest

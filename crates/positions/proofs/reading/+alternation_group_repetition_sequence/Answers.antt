@@ -1,108 +1,82 @@
-use Rattle.std.proofs.Common.{◌≡◌, ◌-◌, suc, refl, sym, ◌∙◌, arith, add-one}
-use native.Mathlib.Nat.{le_refl}
-use Rattle.sets.proofs.Promise.{decides_true, decides_false}
-use Rattle.parts.specs.Joins.{Continues, Divides}
-use Rattle.parts.proofs.Promise.{left_falls}
+use Rattle.std.proofs.Common.{◌≡◌, ◌-◌, suc, sym, ◌∙◌, arith, add-one}
+use Rattle.std.proofs.lemmas.Result.{err_from_is_err_and}
+use Rattle.parts.specs.Reading.{ItemPassed, Meant}
 use Rattle.positions.proofs.Repetitions.{repetition_read}
-use Rattle.positions.proofs.Groups.{group_refused, group_read}
-use Rattle.positions.proofs.Sequences.{sequence_first, sequence_more, sequence_end, alternation_first, alternation_more, alternation_end}
+use Rattle.positions.proofs.Groups.{group_refused, group_unread, group_read}
+use Rattle.positions.proofs.Sequences.{sequence_first, sequence_more, alternation_first, alternation_more, alternation_stops, alternation_unread}
 use Rattle.positions.proofs.reading.+alternation_group_repetition_sequence.Goals as goal
+use Rattle.positions.proofs.reading.+alternation_group_repetition_sequence.Goals.{repetition-then-byte_at-eq-OPEN_GROUP+in_ok-item, repetition-else-byte_at-eq-OPEN_GROUP+in_ok-item-2}
 
-pub alternation-sequence-whole-requires : goal.alternation-sequence-whole-requires
-alternation-sequence-whole-requires t c = (omega arith, tt)
+pub alternation-returns-in_err-whole : goal.alternation-returns-in_err-whole
+alternation-returns-in_err-whole t c =
+    let p = err_from_is_err_and c.from_residual.result c.from_residual.ensures.1 in
+    rw (p.1, p.2) (alternation_unread c.in_err-whole.ensures)
 
-pub alternation-loop-next-init : goal.alternation-loop-next-init
-alternation-loop-next-init t c = (refl, refl, λ R F h. h)
+pub alternation-loop-readers-init : goal.alternation-loop-readers-init
+alternation-loop-readers-init t c =
+    (c.sequence.auto.readers, c.sequence.auto.follow, alternation_first c.in_ok-whole.ensures)
 
-pub alternation-sequence-right-requires : goal.alternation-sequence-right-requires
-alternation-sequence-right-requires t c = (omega arith, tt)
+pub alternation-returns-in_err-right : goal.alternation-returns-in_err-right
+alternation-returns-in_err-right t c =
+    let p = err_from_is_err_and c.from_residual-in_err-right.result c.from_residual-in_err-right.ensures.1 in
+    rw (p.1, p.2)
+    (alternation_stops c.loop-readers.invariant.2 (sym c.byte_at.ensures ∙ c.loop-readers-test.true)
+    (rw add-one at c.in_err-right.ensures))
 
-pub alternation-loop-next-smaller : goal.alternation-loop-next-smaller
-alternation-loop-next-smaller t c =
-    let whole = c.loop-next.whole in
-    let right = c.sequence-right in
-    let divided : Divides c.args.pattern.now whole.good whole.at =
-    decides_true (Divides c.args.pattern.now whole.good whole.at) c.divides.result c.divides.ensures c.loop-next-test.true in
-    rw (c.either-joined.ensures.same, c.either-joined.ensures.place)
-    (left_falls c.args.pattern.now right.result.good divided.read (omega arith) right.ensures.part.moved right.ensures.part.inside)
-
-pub alternation-loop-next-preserved : goal.alternation-loop-next-preserved
-alternation-loop-next-preserved t c =
-    let loop = c.loop-next in
-    let whole = loop.whole in
-    let right = c.sequence-right in
-    let divided : Divides c.args.pattern.now whole.good whole.at =
-    decides_true (Divides c.args.pattern.now whole.good whole.at) c.divides.result c.divides.ensures c.loop-next-test.true in (
-      right.auto.readers ∙ loop.invariant.0,
-      right.auto.follow ∙ loop.invariant.1,
-      λ R F h. alternation_more (loop.invariant.2 R F h) divided (rw add-one at right.ensures) c.either-joined.ensures,
+pub alternation-loop-readers-preserved : goal.alternation-loop-readers-preserved
+alternation-loop-readers-preserved t c =
+    let right = c.sequence-in-loop-readers in (
+      right.auto.readers ∙ c.loop-readers.invariant.0,
+      right.auto.follow ∙ c.loop-readers.invariant.1,
+      alternation_more c.loop-readers.invariant.2 (sym c.byte_at.ensures ∙ c.loop-readers-test.true)
+          (rw add-one at c.in_ok-right.ensures) c.either-whole.ensures,
     )
 
-pub alternation-returns : goal.alternation-returns
-alternation-returns t c =
-    let whole = c.loop-next.whole in
-    alternation_end
-    (c.loop-next.invariant.2 c.args.readers.now c.args.follow.now (alternation_first c.sequence-whole.ensures))
-    (decides_false (Divides c.args.pattern.now whole.good whole.at) c.divides.result c.divides.ensures c.loop-next-test.false)
-
 pub group-returns-then-depth-eq0 : goal.group-returns-then-depth-eq0
-group-returns-then-depth-eq0 t c = rw c.if-depth-eq0.true (group_refused c.requires c.refused.ensures)
+group-returns-then-depth-eq0 t c = rw c.if-depth-eq0.true (group_refused c.requires)
 
-pub group-alternation-inner-requires : goal.group-alternation-inner-requires
-group-alternation-inner-requires t c = (omega arith, tt)
+pub group-returns-in_err-inner : goal.group-returns-in_err-inner
+group-returns-in_err-inner t c =
+    let p = err_from_is_err_and c.from_residual.result c.from_residual.ensures.1 in
+    let deeper : c.args.depth ≡ suc (c.args.depth - 1) = omega arith in
+    rw (p.1, p.2, deeper) (group_unread c.requires (rw add-one at c.in_err-inner.ensures))
 
 pub group-returns : goal.group-returns
 group-returns t c =
     let deeper : c.args.depth ≡ suc (c.args.depth - 1) = omega arith in
-    rw deeper (group_read c.requires (rw add-one at c.alternation-inner.ensures) c.closed.ensures)
+    rw deeper (group_read c.requires (rw add-one at c.in_ok-inner.ensures) c.closed.ensures)
 
-pub repetition-group-item-requires : goal.repetition-group-item-requires
-repetition-group-item-requires t c = (omega arith, sym c.byte_at.ensures ∙ c.if-byte_at-eq-OPEN_GROUP.true)
-
-pub repetition-returns-then-byte_at-eq-OPEN_GROUP : goal.repetition-returns-then-byte_at-eq-OPEN_GROUP
-repetition-returns-then-byte_at-eq-OPEN_GROUP t c = repetition_read c.group-item.ensures c.signed.ensures
+pub repetition-returns-in_err-item-2 : goal.repetition-returns-in_err-item-2
+repetition-returns-in_err-item-2 t c =
+    let p = err_from_is_err_and c.from_residual-in_err-item-2.result c.from_residual-in_err-item-2.ensures.1 in
+    rw (p.1, p.2)
+    (c.in_err-item-2.ensures.item (λ e. c.if-byte_at-eq-OPEN_GROUP.false (c.byte_at.ensures ∙ e)) c.args.depth c.args.follow.now)
 
 pub repetition-returns : goal.repetition-returns
-repetition-returns t c =
-    repetition_read
-    (c.single-item.ensures.item (λ e. c.if-byte_at-eq-OPEN_GROUP.false (c.byte_at.ensures ∙ e)) c.args.depth c.args.follow.now)
-    c.signed-2.ensures
+repetition-returns t c = repetition_read read c.signed.ensures
+  where
+    read : Meant c.args.pattern.now c.args.at (ItemPassed c.args.pattern.now c.args.depth c.args.at) c.args.count
+        c.args.readers.now c.args.follow.now c.if-byte_at-eq-OPEN_GROUP.item c.if-byte_at-eq-OPEN_GROUP.readers
+        c.if-byte_at-eq-OPEN_GROUP.follow
+    read =
+        elim c.if-byte_at-eq-OPEN_GROUP.branch [
+          | repetition-then-byte_at-eq-OPEN_GROUP+in_ok-item w ↦
+              rw (w.item-is, w.readers-is, w.follow-is) w.in_ok-item.ensures
+          | repetition-else-byte_at-eq-OPEN_GROUP+in_ok-item-2 w ↦
+              rw (w.item-is, w.readers-is, w.follow-is)
+              (w.in_ok-item-2.ensures.item (λ e. w.if-byte_at-eq-OPEN_GROUP.false (c.byte_at.ensures ∙ e)) c.args.depth
+              c.args.follow.now)
+        ]
 
-pub sequence-repetition-whole-requires : goal.sequence-repetition-whole-requires
-sequence-repetition-whole-requires t c = (omega arith, tt)
+pub sequence-loop-readers-init : goal.sequence-loop-readers-init
+sequence-loop-readers-init t c =
+    (c.repetition.auto.readers, c.repetition.auto.follow, sequence_first c.in_ok-whole.ensures)
 
-pub sequence-loop-next-init : goal.sequence-loop-next-init
-sequence-loop-next-init t c = (refl, refl, λ R F h. h)
-
-pub sequence-repetition-right-requires : goal.sequence-repetition-right-requires
-sequence-repetition-right-requires t c = (omega arith, tt)
-
-pub sequence-loop-next-smaller : goal.sequence-loop-next-smaller
-sequence-loop-next-smaller t c =
-    let whole = c.loop-next.whole in
-    let right = c.repetition-right in
-    let joined = c.followed-joined in
-    let continued : Continues c.args.pattern.now whole.good whole.at =
-    decides_true (Continues c.args.pattern.now whole.good whole.at) c.goes_on.result c.goes_on.ensures c.loop-next-test.true in
-    rw (joined.ensures.same, joined.ensures.place)
-    (left_falls c.args.pattern.now right.result.good continued.read (le_refl whole.at) right.ensures.moved right.ensures.inside)
-
-pub sequence-loop-next-preserved : goal.sequence-loop-next-preserved
-sequence-loop-next-preserved t c =
-    let loop = c.loop-next in
-    let whole = loop.whole in
-    let right = c.repetition-right in
-    let joined = c.followed-joined in
-    let continued : Continues c.args.pattern.now whole.good whole.at =
-    decides_true (Continues c.args.pattern.now whole.good whole.at) c.goes_on.result c.goes_on.ensures c.loop-next-test.true in (
-      right.auto.readers ∙ loop.invariant.0,
-      joined.auto.follow ∙ (right.auto.follow ∙ loop.invariant.1),
-      λ R F h. sequence_more (loop.invariant.2 R F h) continued right.ensures joined.ensures,
+pub sequence-loop-readers-preserved : goal.sequence-loop-readers-preserved
+sequence-loop-readers-preserved t c =
+    let right = c.repetition-in-loop-readers in
+    let joined = c.followed-whole in (
+      right.auto.readers ∙ c.loop-readers.invariant.0,
+      joined.auto.follow ∙ (right.auto.follow ∙ c.loop-readers.invariant.1),
+      sequence_more c.loop-readers.invariant.2 c.in_ok-right.ensures joined.ensures,
     )
-
-pub sequence-returns : goal.sequence-returns
-sequence-returns t c =
-    let whole = c.loop-next.whole in
-    sequence_end
-    (c.loop-next.invariant.2 c.args.readers.now c.args.follow.now (sequence_first c.repetition-whole.ensures))
-    (decides_false (Continues c.args.pattern.now whole.good whole.at) c.goes_on.result c.goes_on.ensures c.loop-next-test.false)

@@ -1,9 +1,7 @@
 -- The cycle of calls {alternation, group, repetition, sequence}. Groups that may still open fall from call to call; among calls
--- at one depth, so does the sort of the part. Both loops' invariant: whatever the part before the loop started from, the part
--- up to here was read from there; the measure is twice the bytes left, plus one while the last part was read.
-use Rattle.std.proofs.Common.{◌≡◌, ◌+◌, ◌*◌, length, List, ℕ}
-use Rattle.parts.specs.Reading.{RepetitionsRead, AlternativesRead}
-use Rattle.parts.proofs.Promise.{left_of}
+-- at one depth, so does the sort of the part. Both loops' invariant: the part up to here was read; the measure is the bytes left.
+use Rattle.std.proofs.Common.{◌≡◌, ◌+◌, ◌-◌, ◌*◌, length}
+use Rattle.parts.specs.Reading.{RepetitionsMeant, AlternativesMeant}
 use Rattle.positions.proofs.reading.+alternation_group_repetition_sequence.Given as goal
 
 abbrev pub decreases-alternation : goal.decreases-alternation
@@ -18,24 +16,20 @@ decreases-repetition l = 4 * l.depth + 1
 abbrev pub decreases-sequence : goal.decreases-sequence
 decreases-sequence l = 4 * l.depth + 2
 
-abbrev pub invariant-alternation-loop-next : goal.invariant-alternation-loop-next
-invariant-alternation-loop-next l =
-    (length l.readers ≡ length l.initial.readers)
-    × (length l.follow ≡ length l.initial.follow)
-    × ((R F : List ℕ)
-    → AlternativesRead l.pattern l.depth l.at l.count R F l.initial.whole l.initial.readers l.initial.follow
-    → AlternativesRead l.pattern l.depth l.at l.count R F l.whole l.readers l.follow)
+abbrev pub invariant-alternation-loop-readers : goal.invariant-alternation-loop-readers
+invariant-alternation-loop-readers l =
+    (length l.readers ≡ length l.fn.readers)
+    × (length l.follow ≡ length l.fn.follow)
+    × AlternativesMeant l.pattern l.depth l.at l.count l.fn.readers l.fn.follow l.whole l.readers l.follow
 
-abbrev pub decreases-alternation-loop-next : goal.decreases-alternation-loop-next
-decreases-alternation-loop-next l = left_of l.pattern l.whole.good l.whole.at
+abbrev pub decreases-alternation-loop-readers : goal.decreases-alternation-loop-readers
+decreases-alternation-loop-readers l = length l.pattern - l.whole.at
 
-abbrev pub invariant-sequence-loop-next : goal.invariant-sequence-loop-next
-invariant-sequence-loop-next l =
-    (length l.readers ≡ length l.initial.readers)
-    × (length l.follow ≡ length l.initial.follow)
-    × ((R F : List ℕ)
-    → RepetitionsRead l.pattern l.depth l.at l.count R F l.initial.whole l.initial.readers l.initial.follow
-    → RepetitionsRead l.pattern l.depth l.at l.count R F l.whole l.readers l.follow)
+abbrev pub invariant-sequence-loop-readers : goal.invariant-sequence-loop-readers
+invariant-sequence-loop-readers l =
+    (length l.readers ≡ length l.fn.readers)
+    × (length l.follow ≡ length l.fn.follow)
+    × RepetitionsMeant l.pattern l.depth l.at l.count l.fn.readers l.fn.follow l.whole l.readers l.follow
 
-abbrev pub decreases-sequence-loop-next : goal.decreases-sequence-loop-next
-decreases-sequence-loop-next l = left_of l.pattern l.whole.good l.whole.at
+abbrev pub decreases-sequence-loop-readers : goal.decreases-sequence-loop-readers
+decreases-sequence-loop-readers l = length l.pattern - l.whole.at

@@ -1,28 +1,24 @@
-use mathlib.Core.Path.{sym, ◌∙◌}
+use mathlib.Core.Path.{◌≡◌, sym, ◌∙◌}
+use Prim.Native.Nat.{◌+◌, ◌-◌}
 use native.Mathlib.Omega.{arith}
-use Rattle.text.proofs.Promise.{put_length}
-use Rattle.sheet.proofs.Turning.{another_room}
+use Rattle.answers.specs.Limits.{most_symbols}
 use Rattle.sheet.proofs.Putting.{listing_start, listing_turn, listing_end}
 use Rattle.sheet.proofs.booking.put_right.Goals as goal
 
-pub loop-number-init : goal.loop-number-init
-loop-number-init c = listing_start _ _ _
+pub loop-init : goal.loop-init
+loop-init c = listing_start _ _ _
 
-pub overflow_sub-room : goal.overflow_sub-room
-overflow_sub-room c = omega (arith, (another_room _ _ _ (sym c.another.ensures ∙ c.loop-number-test.true)))
-
-pub loop-number-smaller : goal.loop-number-smaller
-loop-number-smaller c = omega (arith, (another_room _ _ _ (sym c.another.ensures ∙ c.loop-number-test.true)))
-
-pub loop-number-preserved : goal.loop-number-preserved
-loop-number-preserved c =
-    listing_turn c.loop-number.invariant (sym c.another.ensures ∙ c.loop-number-test.true)
+pub loop-preserved : goal.loop-preserved
+loop-preserved c =
+    let less : most_symbols - c.loop.counter - 1 ≡ most_symbols - (c.loop.counter + 1) = omega arith in
+    rw less at
+    (listing_turn c.loop.invariant (omega arith) (sym c.is_space.ensures ∙ c.if-not-is_space.false)
     c.symbol_number-number.ensures
     c.byte_from.ensures
-    c.put-next.ensures
+    c.put-next.ensures)
 
-pub returns : goal.returns
-returns c = listing_end c.loop-number.invariant (sym c.another.ensures ∙ c.loop-number-test.false)
+pub returns-after-loop : goal.returns-after-loop
+returns-after-loop c = listing_end c.loop.invariant (λ some. absurd (omega arith))
 
-pub shape_of-out : goal.shape_of-out
-shape_of-out c = put_length (returns c).put
+pub returns-then-not-is_space : goal.returns-then-not-is_space
+returns-then-not-is_space c = listing_end c.loop.invariant (λ _. sym c.is_space.ensures ∙ c.if-not-is_space.true)

@@ -1,5 +1,4 @@
 -- Each phase in turn.
-use mathlib.Core.Path.{refl}
 use Rattle.sheet.specs.Form.{step}
 use Rattle.sheet.proofs.Stepping.{step_same}
 use Rattle.sheet.proofs.form.step.Goals as goal
@@ -27,7 +26,3 @@ returns-in-Colon c = step_same c.args.byte c.in-Colon.is c.wants-in-Colon.ensure
 pub returns-in-Letter : goal.returns-in-Letter
 unfolding step
 returns-in-Letter c = step_same c.args.byte c.in-Letter.is c.letter.ensures
-
-pub returns-in-Stuck : goal.returns-in-Stuck
-unfolding step
-returns-in-Stuck c = step_same c.args.byte c.in-Stuck.is refl

@@ -1,16 +1,12 @@
--- The three cases of `end_judged`.
+-- The two cases of `ended_at`.
 use borrow.Author.Tests.{lt-ltb, le-ltb}
-use Rattle.sheet.specs.Judging.{end_judged, and_then}
+use Rattle.sheet.specs.Judging.{ended_at}
 use Rattle.sheet.proofs.judging.judge_end.Goals as goal
 
 pub returns-then-at-sheet : goal.returns-then-at-sheet
-unfolding end_judged and_then
-returns-then-at-sheet c = rw (c.in-Next.is, lt-ltb _ _ c.if-at-sheet.true)
+unfolding ended_at
+returns-then-at-sheet c = rw (lt-ltb _ _ c.if-at-sheet.true)
 
 pub returns-else-at-sheet : goal.returns-else-at-sheet
-unfolding end_judged and_then
-returns-else-at-sheet c = rw (c.in-Next.is, le-ltb _ _ c.if-at-sheet.false)
-
-pub returns-in-Bad : goal.returns-in-Bad
-unfolding end_judged and_then
-returns-in-Bad c = cc
+unfolding ended_at
+returns-else-at-sheet c = rw (le-ltb _ _ c.if-at-sheet.false)

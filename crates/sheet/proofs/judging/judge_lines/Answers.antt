@@ -1,20 +1,18 @@
-use mathlib.Core.Path.{refl, sym, ◌∙◌}
+use mathlib.Core.Path.{sym, ◌∙◌}
+use Rattle.std.proofs.lemmas.Result.{err_from_is_err_and}
 use Rattle.sheet.proofs.Turning.{lines_go, lines_stop, lines_over}
 use Rattle.sheet.proofs.judging.judge_lines.Goals as goal
 
-pub loop-left-init : goal.loop-left-init
-loop-left-init c = refl
+pub returns-in_err-judge_next : goal.returns-in_err-judge_next
+returns-in_err-judge_next c =
+    let p = err_from_is_err_and c.from_residual.result c.from_residual.ensures.1 in
+    rw (p.1, p.2)
+    (sym (lines_stop _ _ _ _ _ _ c.loop-test.true c.judge_next.ensures c.in_err-judge_next.was) ∙ c.loop.invariant)
 
-pub returns-in_default : goal.returns-in_default
-returns-in_default c =
-    lines_stop _ _ _ _ _ c.loop-left-test.true c.judge_next-v.ensures c.in_default.is
-    ∙ c.loop-left.invariant
-
-pub loop-left-preserved : goal.loop-left-preserved
-loop-left-preserved c =
+pub loop-preserved : goal.loop-preserved
+loop-preserved c =
     rw c.past-place.ensures
-    (sym (lines_go _ _ _ _ _ c.loop-left-test.true c.judge_next-v.ensures c.in-Next.is)
-    ∙ c.loop-left.invariant)
+    (sym (lines_go _ _ _ _ _ _ c.loop-test.true c.judge_next.ensures c.in_ok-judge_next.was) ∙ c.loop.invariant)
 
 pub returns : goal.returns
-returns c = sym (lines_over _ _ _ _ _ c.loop-left-test.false) ∙ c.loop-left.invariant
+returns c = sym (lines_over _ _ _ _ _ _ c.loop-test.false) ∙ c.loop.invariant

@@ -5,9 +5,9 @@ use Rattle.sheet.proofs.reading.read_formed.Goals as goal
 
 pub read_good-requires : goal.read_good-requires
 read_good-requires c =
-    (c.requires, (_, sym (rw c.head_in.ensures at c.judge-verdict.ensures) ∙ c.in-Next.is))
+    (c.requires, (_, sym (rw c.head_in.ensures at c.judge.ensures) ∙ c.in-Ok.is))
 
-pub returns-in-Bad : goal.returns-in-Bad
-returns-in-Bad c =
+pub returns-in-Err : goal.returns-in-Err
+returns-in-Err c =
     rw c.refusal.ensures
-    (judged_refused _ c.requires (rw c.head_in.ensures at c.judge-verdict.ensures) c.in-Bad.is)
+    (judged_refused _ c.requires (rw c.head_in.ensures at c.judge.ensures) c.in-Err.is)

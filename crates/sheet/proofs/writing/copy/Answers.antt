@@ -8,4 +8,4 @@ returns-then-out-bytes c = rw c.refusal.ensures (no_room c.if-out-bytes.true)
 
 pub returns : goal.returns
 returns c =
-    rw c.done.ensures (copied_written c.write_bytes.ensures c.if-out-bytes.false)
+    rw c.done.ensures (copied_written c.write_front.ensures c.if-out-bytes.false)

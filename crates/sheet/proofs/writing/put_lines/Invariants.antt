@@ -4,9 +4,6 @@ use Rattle.sheet.specs.Writing.{records_text}
 use Rattle.text.proofs.Promise.{Completes}
 use Rattle.sheet.proofs.writing.put_lines.Given as goal
 
-abbrev pub invariant-loop-p : goal.invariant-loop-p
-invariant-loop-p l =
-    (l.p ≤ l.count) × (l.place ≤ 6 + 259 * l.p) × Completes l.initial.out l.at (records_text l.book l.count 6) l.out l.next (records_text l.book (l.count - l.p) l.place)
-
-abbrev pub decreases-loop-p : goal.decreases-loop-p
-decreases-loop-p l = l.count - l.p
+abbrev pub invariant-loop : goal.invariant-loop
+invariant-loop l =
+    (l.place ≤ 6 + 259 * l.counter) × Completes l.initial.out l.at (records_text l.book l.count 6) l.out l.next (records_text l.book (l.count - l.counter) l.place)

@@ -4,9 +4,9 @@ use Rattle.sheet.specs.Calls.{misread}
 use Rattle.sheet.proofs.writing.write.Goals as goal
 
 pub write_read-requires : goal.write_read-requires
-write_read-requires c = verdict_reads _ c.read-verdict.ensures c.in-Next.is
+write_read-requires c = verdict_reads _ c.read.ensures c.in-Ok.is
 
-pub returns-in-Bad : goal.returns-in-Bad
-returns-in-Bad c =
+pub returns-in-Err : goal.returns-in-Err
+returns-in-Err c =
     rw c.refusal.ensures
-    (misread (verdict_refused _ c.read-verdict.ensures c.in-Bad.is))
+    (misread (verdict_refused _ c.read.ensures c.in-Err.is))
