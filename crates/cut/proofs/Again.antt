@@ -17,7 +17,7 @@ use Rattle.patterns.specs.Calls.{Accepted}
 use Rattle.patterns.proofs.Promise.{accepted_length}
 use Rattle.states.specs.Machine.{rows_of}
 use Rattle.states.proofs.Promise.{rows_length}
-use Rattle.pieces.specs.declared.Ending.{Ending}
+use Rattle.pieces.specs.Cut.{Ending}
 use Rattle.pieces.specs.Cut.{Piece, numbers_of, Cut, answer_of}
 use Rattle.pieces.specs.Rows.{Says, Closed}
 use Rattle.pieces.proofs.Promise as pieces

@@ -18,7 +18,7 @@ use Rattle.pattern.specs.Text.{Bytes, no_byte, and_byte}
 use Rattle.pattern.proofs.Promise.{state_exact, after_end_below}
 use Rattle.states.specs.Machine.{token_of, rows_of}
 use Rattle.states.proofs.Promise.{rows_token}
-use Rattle.pieces.specs.declared.Ending.{Ending}
+use Rattle.pieces.specs.Cut.{Ending}
 use Rattle.pieces.specs.Cut.{Piece, Cut}
 use Rattle.pieces.specs.Meanings.{Picks, Only, OfParts}
 use Rattle.pieces.specs.Rows.{Walk, here, on, Says}

@@ -10,8 +10,9 @@ use Rattle.answers.specs.Answers.{done, stop}
 use Rattle.answers.specs.Refusals.{no_token}
 use Rattle.pattern.specs.Pattern.{Pattern}
 use Rattle.states.specs.Machine.{rows_of}
-use Rattle.pieces.specs.declared.Ending.{Ending}
-use Rattle.pieces.specs.declared.Ending.TheVariants.{Whole, NoToken}
+use Rattle.std.specs.Prelude.{Ok, Err}
+use Rattle.pieces.specs.Cut.{Ending}
+use Rattle.pieces.specs.declared.Stuck.TheVariants.{NoToken}
 use Rattle.pieces.specs.Cut.{space, numbers_of, NoTokenAt, Cut, end_of_line, space_dropped, no_token_starts, answer_of}
 use Rattle.pieces.specs.Laid.{FirstByte}
 use Rattle.cut.specs.Calls.{CutOutcome, cut}
@@ -22,12 +23,12 @@ nothing_matches w = record { none = λ k n some_byte within m. none-ne-some m.me
 
 -- the cut stops at the first byte that is no space
 stops_at : {room : ℕ} (line : List ℕ) (start place : ℕ) → FirstByte line 0 start
-    → Cut (Pattern []) room place line [] (NoToken (place + start))
+    → Cut (Pattern []) room place line [] (Err (NoToken (place + start)))
 stops_at [] start place first = absurd (none-ne-some first.byte first.at)
 stops_at {room} (b ∷ line) zero place first =
     let here : b ≡ first.byte = some-injective b first.byte first.at in
     let at : place ≡ place + 0 = omega arith in
-    subst (λ (i : ℕ). Cut (Pattern []) room place (b ∷ line) [] (NoToken i)) at
+    subst (λ (i : ℕ). Cut (Pattern []) room place (b ∷ line) [] (Err (NoToken i))) at
     (no_token_starts (λ e. first.no_space (sym here ∙ e)) (nothing_matches (b ∷ line)))
 stops_at {room} (b ∷ line) (suc start) place first =
     let dropped : b ≡ space = some-injective b space (first.spaces 0 (omega arith) (omega arith)) in
@@ -40,11 +41,11 @@ stops_at {room} (b ∷ line) (suc start) place first =
       no_space = first.no_space;
     } in
     let at : suc place + start ≡ place + suc start = omega arith in
-    subst (λ (i : ℕ). Cut (Pattern []) room place (b ∷ line) [] (NoToken i)) at
-    (subst (λ (c : ℕ). Cut (Pattern []) room place (c ∷ line) [] (NoToken (suc place + start))) (sym dropped)
+    subst (λ (i : ℕ). Cut (Pattern []) room place (b ∷ line) [] (Err (NoToken i))) at
+    (subst (λ (c : ℕ). Cut (Pattern []) room place (c ∷ line) [] (Err (NoToken (suc place + start)))) (sym dropped)
     (space_dropped (stops_at line start (suc place) rest)))
 
-drops_all : {room : ℕ} (n place : ℕ) → Cut (Pattern []) room place (replicate n space) [] Whole
+drops_all : {room : ℕ} (n place : ℕ) → Cut (Pattern []) room place (replicate n space) [] (Ok tt)
 drops_all zero place = end_of_line
 drops_all (suc n) place = space_dropped (drops_all n (suc place))
 
@@ -60,7 +61,7 @@ module _ {patterns line machine tokens : List ℕ} where
   unfolding answer_of
   no_pattern {start} first =
       let at : 0 + start ≡ start = omega arith in
-      nothing_cut (subst (λ (i : ℕ). Cut (Pattern []) (length tokens) 0 line [] (NoToken i)) at (stops_at line start 0 first))
+      nothing_cut (subst (λ (i : ℕ). Cut (Pattern []) (length tokens) 0 line [] (Err (NoToken i))) at (stops_at line start 0 first))
 
 -- and a line of spaces is done
 pub only_spaces : {patterns machine tokens : List ℕ} (n : ℕ)

@@ -20,7 +20,7 @@ use Rattle.pattern.proofs.Promise.{house_sizes, nullable}
 use Rattle.patterns.specs.Examples.{house_bytes, house_lengths}
 use Rattle.patterns.proofs.Promise.{house_accepted}
 use Rattle.states.specs.Machine.{rows_of}
-use Rattle.pieces.specs.declared.Ending.TheVariants.{Whole}
+use Rattle.std.specs.Prelude.{Ok}
 use Rattle.pieces.specs.Cut.{space, Piece, piece, TokenAt, numbers_of, Cut, end_of_line, space_dropped, token_cut, answer_of}
 use Rattle.cut.specs.Patterns.{point_states}
 use Rattle.cut.specs.Calls.{CutOutcome, cut}
@@ -96,7 +96,7 @@ house_pieces =
     ∷ piece 1 26 (codes "Mary")
     ∷ []
 
-house_cut : (room : ℕ) → Cut (Pattern house_patterns) (suc (suc (suc (suc (suc (suc room)))))) 0 house_line house_pieces Whole
+house_cut : (room : ℕ) → Cut (Pattern house_patterns) (suc (suc (suc (suc (suc (suc room)))))) 0 house_line house_pieces (Ok tt)
 unfolding house_line house_pieces
 house_cut room =
     let (restore, rest) = both (test_at 0 0 7) _ house_tests in

@@ -16,8 +16,9 @@ use Rattle.pattern.specs.Pattern.{Expression, Pattern}
 use Rattle.pattern.proofs.Promise.{below_length}
 use Rattle.patterns.specs.Calls.{RefusesPatterns, many_patterns, bad_pattern, many_positions}
 use Rattle.patterns.proofs.Promise.{accepted_length}
-use Rattle.pieces.specs.declared.Ending.{Ending}
-use Rattle.pieces.specs.declared.Ending.TheVariants.{Whole, NoToken, NoRoom}
+use Rattle.std.specs.Prelude.{Ok, Err}
+use Rattle.pieces.specs.Cut.{Ending}
+use Rattle.pieces.specs.declared.Stuck.TheVariants.{NoToken, NoRoom}
 use Rattle.pieces.specs.Cut.{Piece, piece, numbers_of, Cut, end_of_line, space_dropped, token_cut, no_token_starts, no_room, answer_of}
 use Rattle.pieces.specs.Laid.{LaidOut, StandsIn, end_before}
 use Rattle.pieces.proofs.Promise.{cut_keeps_all, cut_ends, cut_matches, room_lacking}
@@ -27,9 +28,9 @@ use Rattle.cut.specs.Promised.{RefusedEarly, by_limit, by_pattern, by_states, by
 -- the answers along a line
 pub line_answer : (ending : Ending) (n : ℕ) → ReachedLine (answer_of ending n)
 unfolding answer_of done stop
-line_answer Whole n = whole refl
-line_answer (NoToken place) n = without_token refl
-line_answer (NoRoom place) n = without_room refl refl
+line_answer (Ok tt) n = whole refl
+line_answer (Err (NoToken place)) n = without_token refl
+line_answer (Err (NoRoom place)) n = without_room refl refl
 
 -- are none of the early refusals
 pub early_or_line : {a : Answer} → RefusedEarly a → ReachedLine a → ⊥
@@ -62,15 +63,15 @@ refuses_not_states (many_positions few means good past) e = omega arith
 
 steps_are : (ending : Ending) (n : ℕ) → (answer_of ending n).steps ≡ n
 unfolding answer_of done stop
-steps_are Whole n = refl
-steps_are (NoToken place) n = refl
-steps_are (NoRoom place) n = refl
+steps_are (Ok tt) n = refl
+steps_are (Err (NoToken place)) n = refl
+steps_are (Err (NoRoom place)) n = refl
 
-whole_ending : (ending : Ending) (n : ℕ) → (answer_of ending n).number ≡ served → ending ≡ Whole
+whole_ending : (ending : Ending) (n : ℕ) → (answer_of ending n).number ≡ served → ending ≡ Ok tt
 unfolding answer_of done stop
-whole_ending Whole n e = refl
-whole_ending (NoToken place) n e = absurd (omega arith)
-whole_ending (NoRoom place) n e = absurd (omega arith)
+whole_ending (Ok tt) n e = refl
+whole_ending (Err (NoToken place)) n e = absurd (omega arith)
+whole_ending (Err (NoRoom place)) n e = absurd (omega arith)
 
 -- a token's number is a pattern's
 number_below : {rs : List Expression} {room place : ℕ} {w : List ℕ} {pieces : List Piece} {ending : Ending}
@@ -167,8 +168,8 @@ module _ {patterns lengths line machine tokens : List ℕ} where
   outcome_keeps_all result e =
       let w = was_cut result (whole e) in
       let n = length w.pieces in
-      let ending : w.ending ≡ Whole = whole_ending w.ending n (sym (ap (λ (b : Answer). b.number) w.answered) ∙ e) in
-      let along : Cut (Pattern w.meanings) (length tokens) 0 line w.pieces Whole =
+      let ending : w.ending ≡ Ok tt = whole_ending w.ending n (sym (ap (λ (b : Answer). b.number) w.answered) ∙ e) in
+      let along : Cut (Pattern w.meanings) (length tokens) 0 line w.pieces (Ok tt) =
       subst (λ (q : Ending). Cut (Pattern w.meanings) (length tokens) 0 line w.pieces q) ending w.along in
       (w, cut_keeps_all along)
 
@@ -202,6 +203,6 @@ module _ {patterns lengths line machine tokens : List ℕ} where
       go : {rs : List Expression} {ps : List Piece} (q : Ending)
           → Cut (Pattern rs) (length tokens) 0 line ps q
           → (answer_of q (length pieces)).number ≢ room
-      go Whole c e = omega arith
-      go (NoToken place) c e = omega arith
-      go (NoRoom place) c e = omega (arith, room_lacking c)
+      go (Ok tt) c e = omega arith
+      go (Err (NoToken place)) c e = omega arith
+      go (Err (NoRoom place)) c e = omega (arith, room_lacking c)

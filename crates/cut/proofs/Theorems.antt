@@ -21,7 +21,7 @@ use Rattle.pattern.specs.House.{house_patterns}
 use Rattle.patterns.specs.Calls.{Accepted, TablesOf}
 use Rattle.patterns.specs.Examples.{house_bytes, house_lengths}
 use Rattle.states.specs.Machine.{tables, rows_of}
-use Rattle.pieces.specs.declared.Ending.{Ending}
+use Rattle.pieces.specs.Cut.{Ending}
 use Rattle.pieces.specs.Cut.{space, Piece, Cut}
 use Rattle.pieces.specs.Laid.{LaidOut, FirstByte, StandsIn, end_before}
 use Rattle.pieces.specs.Rows.{Walk, Says}

@@ -12,7 +12,7 @@ use Rattle.numbering.proofs.Promise.{found_unique, states_unique, too_many_exclu
 use Rattle.pattern.specs.Pattern.{Expression, Pattern}
 use Rattle.patterns.specs.Calls.{Accepted}
 use Rattle.patterns.proofs.Promise.{accepted_unique, refuses_unique, refused_not_accepted}
-use Rattle.pieces.specs.declared.Ending.{Ending}
+use Rattle.pieces.specs.Cut.{Ending}
 use Rattle.pieces.specs.Cut.{Piece, Cut}
 use Rattle.pieces.proofs.Promise.{cut_unique}
 use Rattle.cut.specs.Patterns.{point_states}

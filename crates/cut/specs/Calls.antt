@@ -12,7 +12,7 @@ use Rattle.numbering.specs.Numbering.{FoundAll, TooMany}
 use Rattle.pattern.specs.Pattern.{Expression, Pattern}
 use Rattle.patterns.specs.Calls.{Accepted, RefusesPatterns}
 use Rattle.states.specs.Machine.{rows_of}
-use Rattle.pieces.specs.declared.Ending.{Ending}
+use Rattle.pieces.specs.Cut.{Ending}
 use Rattle.pieces.specs.Cut.{Piece, numbers_of, Cut, answer_of}
 use Rattle.cut.specs.Patterns.{point_states}
 

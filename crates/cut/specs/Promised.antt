@@ -12,7 +12,7 @@ use Rattle.pattern.specs.Text.{Bytes}
 use Rattle.patterns.specs.Calls.{Accepted}
 use Rattle.states.specs.Machine.{rows_of}
 use Rattle.pieces.specs.Calls.{CutWithOutcome}
-use Rattle.pieces.specs.declared.Ending.{Ending}
+use Rattle.pieces.specs.Cut.{Ending}
 use Rattle.pieces.specs.Cut.{Piece, numbers_of, Cut, answer_of}
 use Rattle.cut.specs.Patterns.{point_states}
 use Rattle.cut.specs.Calls.{CutOutcome}

@@ -10,14 +10,15 @@ use answers::refusals::DONE;
 use patterns::read;
 use patterns::tables::{FOLLOW_LENGTH, READERS_LENGTH};
 use pieces::cutting::cut_with;
-use states::{MachineMade, make};
+use states::make;
 
-// The machine of the patterns: their tables are read and used here only. With no pattern there is no table to read.
-fn prepare(patterns: &[u8], lengths: &[u64], machine: &mut [u16]) -> MachineMade
+// How many states the patterns' machine has: their tables are read and used here only. With no pattern there is no
+// table to read.
+fn prepare(patterns: &[u8], lengths: &[u64], machine: &mut [u16]) -> Result<usize, Answer>
     ensures { Prepared patterns.now lengths.now machine.old
         result machine.new }
 {
-    if lengths.len() == 0 {
+    if lengths.is_empty() {
         let none = [0u64; 0];
         return make(&none, &none, machine);
     }
@@ -25,7 +26,7 @@ fn prepare(patterns: &[u8], lengths: &[u64], machine: &mut [u16]) -> MachineMade
     let mut follow = [0u64; FOLLOW_LENGTH];
     let answer = read(patterns, lengths, &mut readers, &mut follow);
     if answer.number != DONE {
-        return MachineMade { answer, states: 0 };
+        return Err(answer);
     }
     make(&readers, &follow, machine)
 }
@@ -42,11 +43,11 @@ pub fn cut(
         machine.old tokens.old
         result machine.new tokens.new }
 {
-    let made = prepare(patterns, lengths, machine);
-    if made.answer.number != DONE {
-        return made.answer;
-    }
-    let cells = made.states as usize * ROW_CELLS;
+    let states = match prepare(patterns, lengths, machine) {
+        Ok(states) => states,
+        Err(answer) => return answer,
+    };
+    let cells = states * ROW_CELLS;
     let mut ends = [0u64; 0];
     cut_with(&machine[..cells], line, tokens, &mut ends)
 }

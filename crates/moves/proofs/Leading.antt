@@ -12,7 +12,7 @@ use Rattle.points.specs.Points.{Unite}
 use Rattle.points.proofs.Promise.{unite_length, unite_words, unite_unites, without, without_there, without_other}
 use Rattle.answers.specs.Limits.{point_words}
 use Rattle.moves.specs.Tables.{follow_of, set_of}
-use Rattle.moves.specs.Growing.{Five, Grown, WordLeads}
+use Rattle.moves.specs.Growing.{Grown, WordLeads}
 
 -- the row of one position is added
 grown_unite : {before now after : List ℕ} {P : ℕ → Type 0} (follow : List ℕ) (p : ℕ)
@@ -43,15 +43,6 @@ pub record Gone (base word rest : ℕ) (follow : List ℕ) (q : ℕ) : Type 0 wh
   pub leads : member q (follow_of follow position) ≡ true
 
 module _ (base word : ℕ) (follow : List ℕ) where
-  pub led_none : (next : List ℕ) → Five next → Grown next next (Gone base word word follow)
-  led_none next five =
-      record {
-        five = five;
-        kept = λ q m. m;
-        new = λ q gone. absurd (false≢true (sym gone.done ∙ gone.there));
-        because = λ q m. inl m;
-      }
-
   module _ (rest place : ℕ) (sub : Subset rest word) (there : member place rest ≡ true) where
     to_more : (q : ℕ) → Gone base word rest follow q ⊎ (member q (follow_of follow (base + place)) ≡ true)
         → Gone base word (without place rest) follow q

@@ -5,8 +5,9 @@ ghost use Rattle.std.specs.Prelude.{◌^◌, ◌<◌};
 ghost use Rattle.moves.specs.Growing.{Five, Grown, WordLeads};
 ghost use Rattle.moves.specs.Tables.{NextWords};
 
+use answers::buffers::cell_or;
 use answers::limits::{POINT_WORDS, POSITION_WORDS};
-use points::{WORD_WIDTH, lowest, unite, word_at};
+use points::{WORD_WIDTH, lowest, unite};
 
 // The points that can come after the positions of one word, which are numbered from `base` on, are added.
 fn lead_word(next: &mut [u64; POINT_WORDS], base: usize, word: u64, follow: &[u64])
@@ -14,10 +15,9 @@ fn lead_word(next: &mut [u64; POINT_WORDS], base: usize, word: u64, follow: &[u6
     ensures { Grown next.old next.new (WordLeads base word follow.now) }
 {
     let mut rest = word;
-    while rest != 0 {
-        let place = lowest(rest);
+    while let Some(place) = lowest(rest) {
         unite(next, 0, POINT_WORDS, follow, (base + place) * POINT_WORDS);
-        rest = rest ^ (1u64 << place);
+        rest ^= 1u64 << place;
     }
 }
 
@@ -34,12 +34,10 @@ pub fn after(
         follow.now next.new }
 {
     *next = [0u64; POINT_WORDS];
-    let from = state as usize * POINT_WORDS;
-    let row = byte as usize * POSITION_WORDS;
-    let mut i = 0;
-    while i < POSITION_WORDS {
-        let word = word_at(sets, from + i) & word_at(readers, row + i);
+    let from = usize::from(state) * POINT_WORDS;
+    let row = usize::from(byte) * POSITION_WORDS;
+    for i in 0..POSITION_WORDS {
+        let word = cell_or(sets, from + i, 0) & cell_or(readers, row + i, 0);
         lead_word(next, i * WORD_WIDTH, word, follow);
-        i += 1;
     }
 }

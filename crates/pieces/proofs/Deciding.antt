@@ -1,4 +1,5 @@
 -- Every line has a cut where each string is known to begin with a token or with none, and by given cells it is known.
+use Rattle.std.specs.Prelude.{Ok, Err}
 use mathlib.Core.Path.{◌≡◌, refl, sym, subst}
 use mathlib.Core.List.{List, [], ◌∷◌, ◌++◌}
 use mathlib.Core.Logic.{◌≢◌, ◌⊎◌, inl, inr}
@@ -10,8 +11,8 @@ use lib.Seq.{take-suc, take_all, take-length}
 use Rattle.answers.specs.declared.Answer.{Answer}
 use Rattle.answers.specs.Buffers.{over}
 use Rattle.answers.specs.Limits.{most_patterns, byte_values}
-use Rattle.pieces.specs.declared.Ending.{Ending}
-use Rattle.pieces.specs.declared.Ending.TheVariants.{Whole, NoToken, NoRoom}
+use Rattle.pieces.specs.Cut.{Ending}
+use Rattle.pieces.specs.declared.Stuck.TheVariants.{NoToken, NoRoom}
 use Rattle.pieces.specs.Cut.{space, Piece, piece, numbers_of, ends_of, answer_of}
 use Rattle.pieces.specs.Cut.{TokenAt, Cut, end_of_line, space_dropped, token_cut, no_token_starts, no_room}
 use Rattle.pieces.specs.Calls.{CutWithOutcome}
@@ -28,7 +29,7 @@ module _ (M : ℕ → List ℕ → Type 0) where
   -- where shorter lines are cut, so is one that begins with a byte
   module _ (b : ℕ) (w : List ℕ) (shorter : (room place : ℕ) (v : List ℕ) → length v ≤ length w → IsCut room place v) where
     cut_token : {k n : ℕ} (room place : ℕ) → b ≢ space → TokenAt M (b ∷ w) k n → IsCut room place (b ∷ w)
-    cut_token zero place no_space t = ([], NoRoom place, no_room no_space t)
+    cut_token zero place no_space t = ([], Err (NoRoom place), no_room no_space t)
     cut_token {k} {n} (suc room) place no_space t =
         let fits : length (drop n (b ∷ w)) ≤ length w = simp length-drop (omega (arith, t.some_byte)) in
         let rest = shorter room (place + n) (drop n (b ∷ w)) fits in
@@ -39,7 +40,7 @@ module _ (M : ℕ → List ℕ → Type 0) where
         let rest = shorter room (suc place) w (omega arith) in
         (rest.0, rest.1, subst (λ (c : ℕ). Cut M room place (c ∷ w) rest.0 rest.1) (sym is_space) (space_dropped rest.2))
     cut_byte room place (inl t) (no no_space) = cut_token room place no_space t.2
-    cut_byte room place (inr none) (no no_space) = ([], NoToken place, no_token_starts no_space none)
+    cut_byte room place (inr none) (no no_space) = ([], Err (NoToken place), no_token_starts no_space none)
 
   module _ (decided : (w : List ℕ) → TokenKnown M w) where
     -- where shorter lines are cut, so is this one
@@ -47,7 +48,7 @@ module _ (M : ℕ → List ℕ → Type 0) where
         → ((room place : ℕ) (v : List ℕ) → length v < length w → IsCut room place v)
         → (room place : ℕ)
         → IsCut room place w
-    cut_line [] shorter room place = ([], Whole, end_of_line)
+    cut_line [] shorter room place = ([], Ok tt, end_of_line)
     cut_line (b ∷ w) shorter room place =
         cut_byte b w (λ room place v less. shorter room place v (omega arith)) room place (decided (b ∷ w)) (ℕ_discrete b space)
 

@@ -1,4 +1,5 @@
 -- The definitions at work on the line " ab c": a machine of one row, whose token is 5, 61 or 62; one that names no row; none at all.
+use Rattle.std.specs.Prelude.{Ok, Err}
 use mathlib.Core.Path.{◌≡◌, refl, ◌∙◌}
 use mathlib.Core.List.{List, [], ◌∷◌}
 use mathlib.Core.Logic.{◌≢◌}
@@ -10,7 +11,7 @@ use Rattle.sets.specs.Calls.{no_set}
 use Rattle.answers.specs.Answers.{done, stop}
 use Rattle.answers.specs.Limits.{most_patterns, byte_values}
 use Rattle.answers.specs.Refusals.{no_token, room, token_room}
-use Rattle.pieces.specs.declared.Ending.TheVariants.{Whole, NoToken, NoRoom}
+use Rattle.pieces.specs.declared.Stuck.TheVariants.{NoToken, NoRoom}
 use Rattle.pieces.specs.Cut.{space, piece, numbers_of, ends_of, answer_of}
 use Rattle.pieces.specs.Cut.{TokenAt, NoTokenAt, end_of_line, space_dropped, token_cut, no_token_starts, no_room}
 use Rattle.pieces.specs.Calls.{CutWithOutcome}
@@ -63,7 +64,7 @@ unfolding answer_of numbers_of ends_of
 token_below_limit k counts =
     record {
       pieces = piece k 1 left ∷ [];
-      ending = Whole;
+      ending = Ok tt;
       cut = space_dropped (token_cut first_is_no_space (one_row_cut k counts) end_of_line);
       answered = refl;
       numbers = refl;
@@ -78,7 +79,7 @@ unfolding answer_of numbers_of ends_of
 no_cell_for_it k counts =
     record {
       pieces = [];
-      ending = NoRoom 1;
+      ending = Err (NoRoom 1);
       cut = space_dropped (no_room first_is_no_space (one_row_cut k counts));
       answered = refl;
       numbers = refl;
@@ -93,7 +94,7 @@ unfolding answer_of numbers_of ends_of
 refused_there none =
     record {
       pieces = [];
-      ending = NoToken 1;
+      ending = Err (NoToken 1);
       cut = space_dropped (no_token_starts first_is_no_space none);
       answered = refl;
       numbers = refl;

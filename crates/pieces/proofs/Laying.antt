@@ -1,4 +1,5 @@
 -- Where the pieces stand in the line, and where a cut ends.
+use Rattle.std.specs.Prelude.{Ok}
 use mathlib.Core.Path.{◌≡◌, refl, sym, ap, subst, ◌∙◌}
 use mathlib.Core.List.{List, [], ◌∷◌, ◌++◌, append_assoc, append-nil}
 use Prim.Native.Nat.{ℕ, suc, ◌+◌}
@@ -6,8 +7,7 @@ use native.Mathlib.Nat.{add-zero}
 use native.Mathlib.Omega.{arith}
 use lib.ListN.{length, take, length-append, take-append-drop}
 use lib.Seq.{length-take-le}
-use Rattle.pieces.specs.declared.Ending.{Ending}
-use Rattle.pieces.specs.declared.Ending.TheVariants.{Whole}
+use Rattle.pieces.specs.Cut.{Ending}
 use Rattle.pieces.specs.Cut.{space, Piece, piece, Cut, end_of_line, space_dropped, token_cut, no_token_starts, no_room}
 use Rattle.pieces.specs.Laid.{LaidOut, last_spaces, next_piece, Ends, nothing_left, no_token_there, no_room_left, CutStopped}
 
@@ -80,12 +80,12 @@ module _ {M : ℕ → List ℕ → Type 0} where
         ends = ends_at rest.ends (omega arith) (simp length-append (omega (arith, size)));
       }
 
-  whole_left : {room q : ℕ} {left : List ℕ} → Ends M room left q Whole → left ≡ []
+  whole_left : {room q : ℕ} {left : List ℕ} → Ends M room left q (Ok tt) → left ≡ []
   whole_left nothing_left = refl
 
   -- a line cut to its end is its pieces and spaces
   pub cut_keeps_all : {room place : ℕ} {w : List ℕ} {pieces : List Piece}
-      → Cut M room place w pieces Whole
+      → Cut M room place w pieces (Ok tt)
       → LaidOut place pieces w
   cut_keeps_all {place = place} {pieces = pieces} cut =
       let stopped = cut_stops cut in

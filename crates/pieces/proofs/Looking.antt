@@ -1,23 +1,31 @@
 -- The longest match, byte by byte: what was read so far leads to the row, and the best match so far is its token.
 use mathlib.Core.Path.{◌≡◌, refl, sym, ap, subst, ◌∙◌}
-use mathlib.Core.List.{List, [], ◌∷◌, ◌++◌, append_assoc, append-nil}
+use mathlib.Core.List.{List, [], ◌∷◌, ◌++◌, append_assoc}
+use Rattle.std.specs.Prelude.{Option, Some, None}
 use Prim.Native.Nat.{ℕ, suc, ◌+◌, ◌-◌, ◌≤◌, ◌<◌}
 use native.Mathlib.Numerals.{add-one}
 use native.Mathlib.Nat.{add-zero}
 use native.Mathlib.Omega.{arith}
-use lib.ListN.{length, take, drop, get_or, length-append, drop_of_length-le}
+use lib.ListN.{length, take, drop, get_or, length-append}
 use lib.Seq.{drop-cons, take_all, take-append-add}
 use Rattle.answers.specs.Limits.{most_patterns, byte_values}
-use Rattle.pieces.specs.declared.Match.{Match}
-use Rattle.pieces.specs.declared.Match.TheVariants.{Token, Nothing}
 use Rattle.pieces.specs.Cut.{TokenAt}
-use Rattle.pieces.specs.Moves.{Noted, longer, kept, Matched, token, nothing}
+use Rattle.pieces.specs.Moves.{Matched, token, nothing}
 use Rattle.pieces.specs.Rows.{rows_in, cell_at, Walk, here, Says}
 use Rattle.pieces.proofs.Walks.{walk_start, walk_more, walk_stuck, says_token}
 use Rattle.pieces.proofs.Best.{NoneBeyond, none_at_end, token_kept, none_kept, token_whole}
 
+-- a match: the token's number and the place behind it
+abbrev pub Match : Type 0
+Match = ℕ × ℕ
+
+-- the longest match, once a row with this token was met at place `at`
+pub data Noted (best : Option Match) (number at : ℕ) : Option Match → Type 0 where
+  longer : number < most_patterns → Noted best number at (Some (number, at))
+  kept : most_patterns ≤ number → Noted best number at best
+
 -- where no longer beginning matches, the longest match stays
-matched_kept : {M : ℕ → List ℕ → Type 0} {from : ℕ} {best : Match} (u v : List ℕ)
+matched_kept : {M : ℕ → List ℕ → Type 0} {from : ℕ} {best : Option Match} (u v : List ℕ)
     → Matched M u from best
     → NoneBeyond M u v
     → Matched M (u ++ v) from best
@@ -47,7 +55,7 @@ tokenless_beyond {cells} b u walk none j m past within says =
     omega (arith, said, says.counts)
 
 -- the longest match once one more byte was read
-noted_found : {cells : List ℕ} {row from at : ℕ} {best best' : Match} (b : ℕ) (u : List ℕ)
+noted_found : {cells : List ℕ} {row from at : ℕ} {best best' : Option Match} (b : ℕ) (u : List ℕ)
     → Walk cells 0 (u ++ (b ∷ [])) row
     → Matched (Says cells) u from best
     → Noted best (cell_at cells row byte_values) at best'
@@ -59,16 +67,16 @@ noted_found {cells} {row} {from} b u walk found (longer counts) e =
     let whole : TokenAt (Says cells) w k (length w) =
     token_whole w (simp length-append (omega arith)) (record { row = row; walk = walk; token = refl; counts = counts })
     (λ j lower says. omega (arith, says_token walk says)) in
-    subst (λ (at : ℕ). Matched (Says cells) w from (Token k at)) (sym e) (token whole)
+    subst (λ (at : ℕ). Matched (Says cells) w from (Some (k, at))) (sym e) (token whole)
 noted_found b u walk found (kept none) e = matched_kept u (b ∷ []) found (tokenless_beyond b u walk none)
 
 -- with no row nothing is said
-pub matched_none : {cells : List ℕ} {from : ℕ} (w : List ℕ) → rows_in cells ≡ 0 → Matched (Says cells) w from Nothing
+pub matched_none : {cells : List ℕ} {from : ℕ} (w : List ℕ) → rows_in cells ≡ 0 → Matched (Says cells) w from None
 matched_none w no_row =
     nothing (record { none = λ k n some_byte within says. omega (arith, walk_start says.walk) })
 
 -- the bytes read from `from` up to `at`, the row that they lead to, and the longest match among them
-pub record Looked (cells line : List ℕ) (from at row : ℕ) (best : Match) : Type 0 where
+pub record Looked (cells line : List ℕ) (from at row : ℕ) (best : Option Match) : Type 0 where
   pub read : List ℕ
   pub split : drop from line ≡ read ++ drop at line
   pub counted : at ≡ from + length read
@@ -78,7 +86,7 @@ pub record Looked (cells line : List ℕ) (from at row : ℕ) (best : Match) : T
 
 module _ {cells line : List ℕ} {from : ℕ} where
   -- before the first byte
-  pub looked_none : from ≤ length line → 0 < rows_in cells → Looked cells line from from 0 Nothing
+  pub looked_none : from ≤ length line → 0 < rows_in cells → Looked cells line from from 0 None
   looked_none within some_row =
       record {
         read = [];
@@ -89,9 +97,9 @@ module _ {cells line : List ℕ} {from : ℕ} where
         found = nothing none_at_end;
       }
 
-  module _ {at row : ℕ} {best : Match} (looked : Looked cells line from at row best) where
+  module _ {at row : ℕ} {best : Option Match} (looked : Looked cells line from at row best) where
     -- one byte more
-    pub looked_more : {next number : ℕ} {best' : Match}
+    pub looked_more : {next number : ℕ} {best' : Option Match}
         → at < length line
         → get_or line at 0 < byte_values
         → next ≡ cell_at cells row (get_or line at 0)
@@ -127,7 +135,3 @@ module _ {cells line : List ℕ} {from : ℕ} where
         let rest = drop (suc at) line in
         rw (looked.split, drop-cons line at 0 below)
         (matched_kept looked.read (b ∷ rest) looked.found (stuck_beyond b looked.read rest looked.walk outside))
-
-    -- and so it is at the end of the line
-    pub looked_all : length line ≤ at → Matched (Says cells) (drop from line) from best
-    looked_all past = rw (looked.split, drop_of_length-le line past, append-nil) looked.found

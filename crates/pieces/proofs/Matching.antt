@@ -1,12 +1,13 @@
 -- Each piece is matched by its pattern, a line has no more pieces than bytes, and what an answer names lies in it.
+use Rattle.std.specs.Prelude.{Err}
 use mathlib.Core.Path.{◌≡◌, subst}
 use mathlib.Core.List.{List, ◌∷◌}
 use mathlib.Core.Option.{some}
 use Prim.Native.Nat.{ℕ, zero, suc, ◌+◌, ◌≤◌, ◌<◌}
 use native.Mathlib.Omega.{arith}
 use lib.ListN.{length, take, get_elem?, length-drop}
-use Rattle.pieces.specs.declared.Ending.{Ending}
-use Rattle.pieces.specs.declared.Ending.TheVariants.{NoRoom}
+use Rattle.pieces.specs.Cut.{Ending}
+use Rattle.pieces.specs.declared.Stuck.TheVariants.{NoRoom}
 use Rattle.answers.specs.Answers.{done, stop}
 use Rattle.pieces.specs.Cut.{Piece, piece, Cut, end_of_line, space_dropped, token_cut, no_token_starts, no_room, answer_of}
 
@@ -28,7 +29,7 @@ module _ {M : ℕ → List ℕ → Type 0} where
 
   -- where room is lacking, the line has more bytes than there is room for tokens
   pub room_lacking : {room place q : ℕ} {w : List ℕ} {pieces : List Piece}
-      → Cut M room place w pieces (NoRoom q)
+      → Cut M room place w pieces (Err (NoRoom q))
       → room < length w
   room_lacking (space_dropped cut) = omega (arith, room_lacking cut)
   room_lacking (token_cut {b = b} {n = n} {w = w} no_space t cut) =

@@ -4,7 +4,7 @@ use mathlib.Core.Logic.{◌↔◌}
 use Prim.Native.Nat.{ℕ, suc, ◌+◌}
 use lib.ListN.{drop}
 use lib.Seq.{drop-drop}
-use Rattle.pieces.specs.declared.Ending.{Ending}
+use Rattle.pieces.specs.Cut.{Ending}
 use Rattle.pieces.specs.Cut.{Piece, TokenAt, NoTokenAt, Cut, end_of_line, space_dropped, token_cut, no_token_starts, no_room}
 use Rattle.pieces.specs.Meanings.{Only, OfParts}
 

@@ -1,6 +1,7 @@
 -- The loop over the line: the pieces so far and what they leave in the buffers; what is left, cut, completes them to the whole.
 use mathlib.Core.Path.{◌≡◌, refl, sym, ap, ◌∙◌}
 use mathlib.Core.List.{List, [], ◌∷◌, ◌++◌, append_assoc, append-nil, map-append}
+use Rattle.std.specs.Prelude.{Ok}
 use Prim.Native.Nat.{ℕ, ◌+◌, ◌-◌, ◌≤◌, ◌<◌}
 use native.Mathlib.Numerals.{add-one}
 use native.Mathlib.Nat.{sub-zero}
@@ -9,14 +10,14 @@ use lib.ListN.{length, take, drop, set, length-append, length-map, length-take, 
 use lib.Seq.{take-nil}
 use Rattle.answers.specs.declared.Answer.{Answer}
 use Rattle.answers.specs.Buffers.{over}
-use Rattle.pieces.specs.declared.Ending.{Ending}
-use Rattle.pieces.specs.declared.Move.TheVariants.{Skip, Take, Stop}
+use Rattle.pieces.specs.Cut.{Ending}
+use Rattle.pieces.specs.declared.Move.TheVariants.{Skip, Take}
 use Rattle.pieces.specs.Cut.{Piece, behind, numbers_of, ends_of, Cut, answer_of}
 use Rattle.pieces.specs.Calls.{CutWithOutcome}
 use Rattle.pieces.specs.Moves.{DoneAt}
 use Rattle.pieces.specs.Rows.{Says}
-use Rattle.pieces.proofs.Moving.{stop_cuts, skip_cuts, taken, take_cuts, skip_inside, take_inside}
-use Rattle.pieces.proofs.Written.{over_length, over_next, over_taken}
+use Rattle.pieces.proofs.Moving.{skip_cuts, taken, take_cuts, skip_inside, take_inside}
+use Rattle.pieces.proofs.Written.{over_next, over_taken}
 
 pub record Progress
     (M : ℕ → List ℕ → Type 0)
@@ -69,15 +70,7 @@ module _ {M : ℕ → List ℕ → Type 0} {line tokens₀ ends₀ : List ℕ} w
       }
 
   module _ {at count : ℕ} {tokens ends : List ℕ} (p : Progress M line tokens₀ ends₀ at count tokens ends) where
-    pub tokens_length : length tokens ≡ length tokens₀
-    tokens_length =
-        ap length p.numbers
-        ∙ over_length (numbers_of p.pieces) tokens₀ (omega (arith, p.counted, p.room, numbers_length p.pieces))
-
-    pub ends_same : length ends ≡ length ends₀
-    ends_same = ap length p.places ∙ over_length (take (length ends₀) (ends_of p.pieces)) ends₀ (simp length-take (omega arith))
-
-    pub progress_skip : DoneAt M line at (length tokens₀ - count) Skip → Progress M line tokens₀ ends₀ (at + 1) count tokens ends
+    pub progress_skip : DoneAt M line at (length tokens₀ - count) (Ok Skip) → Progress M line tokens₀ ends₀ (at + 1) count tokens ends
     progress_skip moves =
         record {
           pieces = p.pieces;
@@ -90,7 +83,7 @@ module _ {M : ℕ → List ℕ → Type 0} {line tokens₀ ends₀ : List ℕ} w
         }
 
     pub progress_take : {k end : ℕ}
-        → DoneAt M line at (length tokens₀ - count) (Take k end)
+        → DoneAt M line at (length tokens₀ - count) (Ok (Take k end))
         → Progress M line tokens₀ ends₀ end (count + 1) (set tokens count k) (set ends count end)
     progress_take {k} {end} moves =
         let next = taken line at k end in
@@ -115,16 +108,16 @@ module _ {M : ℕ → List ℕ → Type 0} {line tokens₀ ends₀ : List ℕ} w
         }
 
 -- the cut ends
-pub progress_stop : {machine line tokens₀ ends₀ tokens ends : List ℕ} {at count : ℕ} {ending : Ending} {answer : Answer}
+pub progress_ends : {machine line tokens₀ ends₀ tokens ends : List ℕ} {at count : ℕ} {ending : Ending} {answer : Answer}
     → Progress (Says machine) line tokens₀ ends₀ at count tokens ends
-    → DoneAt (Says machine) line at (length tokens₀ - count) (Stop ending)
+    → Cut (Says machine) (length tokens₀ - count) at (drop at line) [] ending
     → answer ≡ answer_of ending count
     → CutWithOutcome machine line tokens₀ ends₀ answer tokens ends
-progress_stop {ending = ending} p moves answered =
+progress_ends {ending = ending} p cut answered =
     record {
       pieces = p.pieces;
       ending = ending;
-      cut = rw append-nil at (p.completes [] ending (stop_cuts moves));
+      cut = rw append-nil at (p.completes [] ending cut);
       answered = answered ∙ ap (answer_of ending) (sym p.counted);
       numbers = p.numbers;
       places = p.places;

@@ -1,4 +1,5 @@
 -- What is proved of the pieces of a line, one page: each theorem under the sentence that it proves.
+use Rattle.std.specs.Prelude.{Ok, Err}
 use mathlib.Core.Path.{◌≡◌}
 use mathlib.Core.List.{List, [], ◌∷◌, ◌++◌}
 use mathlib.Core.Logic.{◌↔◌}
@@ -11,8 +12,8 @@ use Rattle.answers.specs.declared.Answer.{Answer}
 use Rattle.answers.specs.Answers.{done, stop}
 use Rattle.answers.specs.Limits.{most_patterns}
 use Rattle.answers.specs.Refusals.{no_token, room, token_room}
-use Rattle.pieces.specs.declared.Ending.{Ending}
-use Rattle.pieces.specs.declared.Ending.TheVariants.{Whole, NoRoom}
+use Rattle.pieces.specs.Cut.{Ending}
+use Rattle.pieces.specs.declared.Stuck.TheVariants.{NoRoom}
 use Rattle.pieces.specs.Cut.{Piece, ends_of, TokenAt, NoTokenAt, Cut}
 use Rattle.pieces.specs.Calls.{CutWithOutcome}
 use Rattle.pieces.specs.Examples.{line, one_row}
@@ -48,7 +49,7 @@ module _ {M : ℕ → List ℕ → Type 0} where
 
   -- cut to its end, it is its pieces in order, with nothing but spaces before, between and behind them
   pub cut_keeps_all : {room place : ℕ} {w : List ℕ} {pieces : List Piece}
-      → Cut M room place w pieces Whole
+      → Cut M room place w pieces (Ok tt)
       → LaidOut place pieces w
   cut_keeps_all cut = laying.cut_keeps_all cut
 
@@ -69,7 +70,7 @@ module _ {M : ℕ → List ℕ → Type 0} where
   -- as many token cells as the line has bytes are always enough
   pub room_enough : {room place q : ℕ} {w : List ℕ} {pieces : List Piece}
       → length w ≤ room
-      → ¬ Cut M room place w pieces (NoRoom q)
+      → ¬ Cut M room place w pieces (Err (NoRoom q))
   room_enough enough cut = omega (arith, matching.room_lacking cut)
 
   -- piece i starts at the first byte that is no space from the end before on, and is the line from its start to its end

@@ -4,8 +4,7 @@
 use Rattle.std.specs.Prelude.{◌≡◌, List, ℕ, length, take}
 use Rattle.answers.specs.declared.Answer.{Answer}
 use Rattle.answers.specs.Buffers.{over}
-use Rattle.pieces.specs.declared.Ending.{Ending}
-use Rattle.pieces.specs.Cut.{Piece, numbers_of, ends_of, Cut, answer_of}
+use Rattle.pieces.specs.Cut.{Ending, Piece, numbers_of, ends_of, Cut, answer_of}
 use Rattle.pieces.specs.Rows.{Says}
 
 -- the line is cut by what the cells say; of the tokens written, the first as many as `ends` has cells get the place

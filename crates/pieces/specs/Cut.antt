@@ -1,16 +1,21 @@
 -- A line cut into pieces, over any meaning of the patterns. Document 02, W3: "The longest match wins, and among equals
 -- the lowest pattern", "a space where a token would start is dropped". Definitions only.
 use Rattle.std.specs.Prelude.{◌≢◌, List, [], ◌∷◌, map, ℕ, zero, suc, ◌+◌, ◌≤◌, ◌<◌, length, take, drop}
+use Rattle.std.specs.Prelude.{⊤, Result, Ok, Err}
 use Rattle.sets.specs.Calls.{no_set}
 use Rattle.answers.specs.declared.Answer.{Answer}
 use Rattle.answers.specs.Answers.{done, stop}
 use Rattle.answers.specs.Refusals.{no_token, room, token_room}
-use Rattle.pieces.specs.declared.Ending.{Ending}
-use Rattle.pieces.specs.declared.Ending.TheVariants.{Whole, NoToken, NoRoom}
+use Rattle.pieces.specs.declared.Stuck.{Stuck}
+use Rattle.pieces.specs.declared.Stuck.TheVariants.{NoToken, NoRoom}
 
 -- the byte that is dropped where a token would start
 abbrev pub space : ℕ
 space = 32
+
+-- how a cut ends: at the end of the line, or stuck where a token would start
+abbrev pub Ending : Type 0
+Ending = Result ⊤ Stuck
 
 -- a token of the line: its pattern's number, the place of its first byte, its bytes
 pub record Piece : Type 0 where
@@ -49,7 +54,7 @@ module _ (M : ℕ → List ℕ → Type 0) where
 
   -- what is left of the line from `place` on, w, cut with room for so many tokens
   pub data Cut : (room place : ℕ) → (w : List ℕ) → List Piece → Ending → Type 0 where
-    end_of_line : {room place : ℕ} → Cut room place [] [] Whole
+    end_of_line : {room place : ℕ} → Cut room place [] [] (Ok tt)
     space_dropped : {room place : ℕ} {w : List ℕ} {pieces : List Piece} {ending : Ending}
         → Cut room (suc place) w pieces ending
         → Cut room place (space ∷ w) pieces ending
@@ -61,14 +66,14 @@ module _ (M : ℕ → List ℕ → Type 0) where
     no_token_starts : {room place b : ℕ} {w : List ℕ}
         → b ≢ space
         → NoTokenAt (b ∷ w)
-        → Cut room place (b ∷ w) [] (NoToken place)
+        → Cut room place (b ∷ w) [] (Err (NoToken place))
     no_room : {place b k n : ℕ} {w : List ℕ}
         → b ≢ space
         → TokenAt (b ∷ w) k n
-        → Cut zero place (b ∷ w) [] (NoRoom place)
+        → Cut zero place (b ∷ w) [] (Err (NoRoom place))
 
 -- what is answered after so many tokens
 unfoldable pub answer_of : Ending → ℕ → Answer
-answer_of Whole tokens = done tokens
-answer_of (NoToken place) tokens = stop no_token place 0 tokens no_set
-answer_of (NoRoom place) tokens = stop room place token_room tokens no_set
+answer_of (Ok tt) tokens = done tokens
+answer_of (Err (NoToken place)) tokens = stop no_token place 0 tokens no_set
+answer_of (Err (NoRoom place)) tokens = stop room place token_room tokens no_set

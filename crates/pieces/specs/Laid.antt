@@ -1,10 +1,10 @@
 -- Where the pieces of a line stand in it. Definitions only.
 use Rattle.std.specs.Prelude.{◌≡◌, ◌≢◌, List, [], ◌∷◌, ◌++◌, ℕ, ◌+◌, ◌-◌, ◌≤◌, ◌<◌, length, take, drop, get_or, replicate}
+use Rattle.std.specs.Prelude.{Ok, Err}
 use Rattle.std.proofs.Math.Option.{some}
 use Rattle.std.proofs.Math.ListN.{get_elem?}
-use Rattle.pieces.specs.declared.Ending.{Ending}
-use Rattle.pieces.specs.declared.Ending.TheVariants.{Whole, NoToken, NoRoom}
-use Rattle.pieces.specs.Cut.{space, Piece, behind, ends_of, TokenAt, NoTokenAt}
+use Rattle.pieces.specs.declared.Stuck.TheVariants.{NoToken, NoRoom}
+use Rattle.pieces.specs.Cut.{space, Ending, Piece, behind, ends_of, TokenAt, NoTokenAt}
 
 -- from `place` on the line is its pieces in order, with nothing but spaces before, between and behind them
 pub data LaidOut : (place : ℕ) → List Piece → List ℕ → Type 0 where
@@ -16,9 +16,12 @@ pub data LaidOut : (place : ℕ) → List Piece → List ℕ → Type 0 where
 
 -- why a cut ends where w is left, at place q, with room for so many tokens more
 pub data Ends (M : ℕ → List ℕ → Type 0) : (room : ℕ) → (w : List ℕ) → (q : ℕ) → Ending → Type 0 where
-  nothing_left : {room q : ℕ} → Ends M room [] q Whole
-  no_token_there : {room q b : ℕ} {w : List ℕ} → b ≢ space → NoTokenAt M (b ∷ w) → Ends M room (b ∷ w) q (NoToken q)
-  no_room_left : {q b k n : ℕ} {w : List ℕ} → b ≢ space → TokenAt M (b ∷ w) k n → Ends M 0 (b ∷ w) q (NoRoom q)
+  nothing_left : {room q : ℕ} → Ends M room [] q (Ok tt)
+  no_token_there : {room q b : ℕ} {w : List ℕ}
+      → b ≢ space
+      → NoTokenAt M (b ∷ w)
+      → Ends M room (b ∷ w) q (Err (NoToken q))
+  no_room_left : {q b k n : ℕ} {w : List ℕ} → b ≢ space → TokenAt M (b ∷ w) k n → Ends M 0 (b ∷ w) q (Err (NoRoom q))
 
 -- what was cut is laid out in front of the place where the cut ends
 pub record CutStopped (M : ℕ → List ℕ → Type 0) (room place : ℕ) (w : List ℕ) (pieces : List Piece) (ending : Ending)

@@ -15,7 +15,11 @@ module _ (cells : List ℕ) where
   -- walking u leads from row r to row s, and each number met on the way names a row
   pub data Walk : ℕ → List ℕ → ℕ → Type 0 where
     here : {r : ℕ} → r < rows_in cells → Walk r [] r
-    on : {r b s : ℕ} {u : List ℕ} → r < rows_in cells → b < byte_values → Walk (cell_at cells r b) u s → Walk r (b ∷ u) s
+    on : {r b s : ℕ} {u : List ℕ}
+        → r < rows_in cells
+        → b < byte_values
+        → Walk (cell_at cells r b) u s
+        → Walk r (b ∷ u) s
 
   -- walking u from row 0 ends at a row whose token is k
   pub record Says (k : ℕ) (u : List ℕ) : Type 0 where

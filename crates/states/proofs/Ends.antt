@@ -8,9 +8,10 @@ use native.Mathlib.Omega.{arith}
 use lib.Dec.{ltb}
 use lib.ListN.{get_or}
 use borrow.Author.Tests.{lt-ltb, le-ltb}
+use Rattle.std.proofs.lemmas.Bool.{false_from_ne_true}
 use Rattle.sets.specs.Sets.{member}
 use Rattle.sets.specs.Words.{word_width, AreWords}
-use Rattle.points.specs.Points.{Lowest}
+use Rattle.answers.specs.Lowest.{LowestAt}
 use Rattle.points.proofs.Promise.{member_points}
 use Rattle.answers.specs.Limits.{most_patterns, most_positions, position_words, point_words}
 use Rattle.moves.specs.Tables.{set_of}
@@ -77,27 +78,31 @@ module _ (sets : List ℕ) (s : ℕ) (hs : AreWords sets) where
       let place : (most_positions + k) % word_width ≡ k - (i - position_words) * word_width = omega arith in
       member_points sets (s * point_words) point_words (most_positions + k) hs (omega arith) ∙ rw (word, place)
 
-  module _ (i bit : ℕ) (from : position_words ≤ i) (inside : i < point_words)
-      (lowest : Lowest (get_or sets (s * point_words + i) 0) bit)
-      (before : NoEnd sets s i) where
-    lower : (k : ℕ) → k < (i - position_words) * word_width + bit → member (most_positions + k) (set_of sets s) ≡ false
-    lower k below = go (dec_lt k ((i - position_words) * word_width))
+  module _ (i : ℕ) (from : position_words ≤ i) (inside : i < point_words) (before : NoEnd sets s i) where
+    -- no end is lower than where the word has no member yet
+    lower : (bit : ℕ) → bit ≤ word_width → ((k : ℕ) → k < bit → ¬ (member k (get_or sets (s * point_words + i) 0) ≡ true))
+        → (k : ℕ) → k < (i - position_words) * word_width + bit
+        → member (most_positions + k) (set_of sets s) ≡ false
+    lower bit short none k below = go (dec_lt k ((i - position_words) * word_width))
       where
         go : Dec (k < (i - position_words) * word_width) → member (most_positions + k) (set_of sets s) ≡ false
         go (yes early) = before k early
         go (no late) =
-            here i k from inside (omega arith) (omega (arith, lowest.within))
-            ∙ lowest.below (k - (i - position_words) * word_width) (omega arith)
+            here i k from inside (omega arith) (omega arith)
+            ∙ false_from_ne_true (member (k - (i - position_words) * word_width) (get_or sets (s * point_words + i) 0))
+            (none (k - (i - position_words) * word_width) (omega arith))
 
-    pub ends_found : bit < word_width
+    pub ends_found : {bit : ℕ} → LowestAt (λ (k : ℕ). member k (get_or sets (s * point_words + i) 0) ≡ true) word_width bit
         → end_cell ((i - position_words) * word_width + bit) ≡ token_of (set_of sets s)
-    ends_found short =
+    ends_found {bit} lowest =
         let end = (i - position_words) * word_width + bit in
+        let short : bit < word_width = lowest.inside in
         let place : end - (i - position_words) * word_width ≡ bit = omega arith in
-        token_end (set_of sets s) end (here i end from inside (omega arith) (omega arith) ∙ rw place (lowest.there short)) lower
+        token_end (set_of sets s) end (here i end from inside (omega arith) (omega arith) ∙ rw place lowest.holds)
+        (lower bit (omega arith) lowest.earlier)
 
-    pub ends_more : word_width ≤ bit → NoEnd sets s (i + 1)
-    ends_more past k below = lower k (omega arith)
+    pub ends_more : ((k : ℕ) → k < word_width → ¬ (member k (get_or sets (s * point_words + i) 0) ≡ true)) → NoEnd sets s (i + 1)
+    ends_more none k below = lower word_width (omega arith) none k (omega arith)
 
 pub ends_none : (sets : List ℕ) (s i : ℕ) → point_words ≤ i → NoEnd sets s i → no_cell ≡ token_of (set_of sets s)
 unfolding token_of

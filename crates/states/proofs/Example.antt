@@ -16,6 +16,8 @@ use Rattle.sets.proofs.Members.{member_power}
 use Rattle.sets.proofs.Promise.{exactly_none, exactly_unique, member_none, no_words, more_words}
 use Rattle.points.specs.Points.{points_at, words_at}
 use Rattle.points.proofs.Promise.{points_fit, points_none}
+use Rattle.std.specs.Prelude.{Ok, Err}
+use Rattle.answers.specs.Answers.{refusal}
 use Rattle.answers.specs.Buffers.{over}
 use Rattle.answers.specs.Limits.{position_words, point_words, byte_values, row_cells}
 use Rattle.answers.specs.Refusals.{room, machine_room}
@@ -23,7 +25,7 @@ use Rattle.numbering.specs.Numbering.{Follows, Found, FoundAll}
 use Rattle.numbering.proofs.Promise.{found_nothing, found_begun, follows_at, turn_nothing, turn_met}
 use Rattle.moves.specs.Tables.{readers_of, follow_of, first_of}
 use Rattle.states.specs.Machine.{Started, TableMove, tables, no_cell, cell_of, rows_of, token_of, lowest_end}
-use Rattle.states.specs.Making.{made_of, not_made, no_room, made, MadeOutcome}
+use Rattle.states.specs.Making.{no_room, made, MadeOutcome}
 use Rattle.states.proofs.Turning.{tables_lawful}
 
 pub reads : List ℕ
@@ -133,19 +135,19 @@ star_found = one_state reads leads only starts loops stops
 
 -- so its row, with token 0, is made where there is room for it, and else it is refused
 pub star_made : (machine : List ℕ) → row_cells ≤ length machine
-    → MadeOutcome reads leads machine (made_of 1) (over (0 ∷ (replicate 255 no_cell ++ (0 ∷ []))) machine)
+    → MadeOutcome reads leads machine (Ok 1) (over (0 ∷ (replicate 255 no_cell ++ (0 ∷ []))) machine)
 unfolding rows_of cell_of
 star_made machine enough =
-    let outcome : MadeOutcome reads leads machine (made_of 1) (over (rows_of (only ∷ []) (some 0 ∷ replicate 255 none)) machine) =
+    let outcome : MadeOutcome reads leads machine (Ok 1) (over (rows_of (only ∷ []) (some 0 ∷ replicate 255 none)) machine) =
     made star_found (omega arith) (omega arith) in
     rw token_is at outcome
 
 pub star_no_room : (machine : List ℕ) → length machine < row_cells
-    → MadeOutcome reads leads machine (not_made room row_cells machine_room) machine
+    → MadeOutcome reads leads machine (Err (refusal room row_cells machine_room)) machine
 star_no_room machine short = no_room star_found (omega arith) (omega arith)
 
 -- with no row in either table there is no state, and the machine has no cell
-pub nothing_made : (machine : List ℕ) → MadeOutcome [] [] machine (made_of 0) machine
+pub nothing_made : (machine : List ℕ) → MadeOutcome [] [] machine (Ok 0) machine
 unfolding rows_of first_of follow_of points_at words_at value_of
 nothing_made machine = made (found_nothing none_starts) (omega arith) (omega arith)
   where

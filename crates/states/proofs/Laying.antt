@@ -1,21 +1,15 @@
--- The rows laid cell by cell: one cell more, and all of them, which are those of the states that were found.
-use mathlib.Core.Path.{◌≡◌, refl, sym, ◌∙◌}
+-- The rows laid cell by cell: the cells of the bytes that have the same readers.
+use mathlib.Core.Path.{◌≡◌, sym, ◌∙◌}
 use mathlib.Core.List.{List}
-use Prim.Native.Nat.{ℕ, suc, ◌+◌, ◌*◌, ◌≤◌, ◌<◌}
+use Prim.Native.Nat.{ℕ, ◌+◌, ◌*◌, ◌≤◌, ◌<◌}
 use native.Mathlib.Decide.{dec_lt}
 use native.Mathlib.Omega.{arith}
-use lib.ListN.{length, get_or, set, length-set}
-use lib.Seq.{get_or-set_same, get_or-set_other}
+use lib.ListN.{get_or}
 use Rattle.answers.specs.Limits.{byte_values, row_cells}
 use Rattle.moves.specs.Tables.{readers_of, set_of}
-use Rattle.states.specs.Machine.{token_of}
-use Rattle.states.specs.Searching.{Target, RunEnd}
+use Rattle.states.specs.Searching.{RunEnd}
 use Rattle.states.specs.Filling.{Cell, CellsSpread, Filled}
 use Rattle.states.proofs.Bytes.{exactly_repeats}
-
-module _ {readers follow sets : List ℕ} {n i b r : ℕ} where
-  pub cell_target : {next : List ℕ} → Target readers follow sets n i b next r → Cell readers follow sets n i b r
-  cell_target {next} t = record { points = set_of next 0; exact = t.exact; number = t.number }
 
 -- by a byte with the same readers
 cell_run : {readers follow sets : List ℕ} {n i b c r : ℕ} → readers_of readers c ≡ readers_of readers b
@@ -26,42 +20,6 @@ cell_run {readers} {follow} {sets} {n} {i} {b} {c} same cell =
       points = cell.points;
       exact = exactly_repeats readers follow (set_of sets i) b c (sym same) cell.exact;
       number = cell.number;
-    }
-
--- the cells of a run, one by one
-pub spread_none : (machine : List ℕ) (from value : ℕ) → CellsSpread machine from from value machine
-spread_none machine from value =
-    record {
-      long = refl;
-      there = λ k low high. absurd (omega arith);
-      before_it = λ k low. refl;
-      behind_it = λ k high. refl;
-    }
-
-pub spread_more : {before : List ℕ} {from to value : ℕ} {after : List ℕ} → from ≤ to → to < length before
-    → CellsSpread before from to value after
-    → CellsSpread before from (to + 1) value (set after to value)
-spread_more {before} {from} {to} {value} {after} low inside s =
-    record {
-      long = length-set after to value ∙ s.long;
-      there = λ k above below. go k above below (dec_lt k to);
-      before_it = λ k early. get_or-set_other after to k value 0 (λ e. omega arith) ∙ s.before_it k early;
-      behind_it = λ k late. get_or-set_other after to k value 0 (λ e. omega arith) ∙ s.behind_it k (omega arith);
-    }
-  where
-    go : (k : ℕ) → from ≤ k → k < to + 1 → Dec (k < to) → get_or (set after to value) k 0 ≡ value
-    go k above below (yes early) = get_or-set_other after to k value 0 (λ e. omega arith) ∙ s.there k above early
-    go k above below (no last) =
-        let here : k ≡ to = omega arith in
-        rw here (get_or-set_same after to value 0 (omega (arith, s.long)))
-
-pub filled_none : (readers follow sets : List ℕ) (n : ℕ) (machine : List ℕ) → Filled readers follow sets n machine 0 machine
-filled_none readers follow sets n machine =
-    record {
-      long = refl;
-      next = λ i b short below. absurd (omega arith);
-      token = λ i below. absurd (omega arith);
-      rest = λ k above. refl;
     }
 
 module _ {readers follow sets : List ℕ} {n : ℕ} {start after : List ℕ} (i : ℕ) where
@@ -90,28 +48,3 @@ module _ {readers follow sets : List ℕ} {n : ℕ} {start after : List ℕ} (i 
           let low : b ≤ c = omega (arith, run.within) in
           let high : c < e = omega (arith, run.within) in
           rw (s.there (j * row_cells + c) (omega arith) (omega arith), row) (cell_run (run.same c low high) cell)
-
-  -- the cell of the token, which ends the row
-  pub filled_token : (v : ℕ) → i * row_cells + byte_values < length after
-      → Filled readers follow sets n start (i * row_cells + byte_values) after
-      → v ≡ token_of (set_of sets i)
-      → Filled readers follow sets n start (suc i * row_cells) (set after (i * row_cells + byte_values) v)
-  filled_token v inside f is =
-      record {
-        long = length-set after (i * row_cells + byte_values) v ∙ f.long;
-        next = λ j c below earlier.
-            rw (get_or-set_other after (i * row_cells + byte_values) (j * row_cells + c) v 0 (λ e. omega arith))
-            (f.next j c below (omega arith));
-        token = λ j earlier. go j earlier (dec_lt j i);
-        rest = λ k above.
-            get_or-set_other after (i * row_cells + byte_values) k v 0 (λ e. omega arith) ∙ f.rest k (omega arith);
-      }
-    where
-      go : (j : ℕ) → j * row_cells + byte_values < suc i * row_cells → Dec (j < i)
-          → get_or (set after (i * row_cells + byte_values) v) (j * row_cells + byte_values) 0 ≡ token_of (set_of sets j)
-      go j earlier (yes before) =
-          get_or-set_other after (i * row_cells + byte_values) (j * row_cells + byte_values) v 0 (λ e. omega arith)
-          ∙ f.token j (omega arith)
-      go j earlier (no here) =
-          let row : j ≡ i = omega arith in
-          rw row (get_or-set_same after (i * row_cells + byte_values) v 0 inside ∙ is)

@@ -1,15 +1,22 @@
 -- The sets of states in a slice: the list of the first n of them, two that are compared, and one that is kept.
-use mathlib.Core.Path.{◌≡◌, refl, ap, ◌∙◌}
-use mathlib.Core.Logic.{◌⊎◌, inl, inr, ⊎_elim}
+use mathlib.Core.Path.{◌≡◌, refl, sym, ap, ◌∙◌}
+use mathlib.Core.Bool.{Bool, true, false, false≢true}
+use mathlib.Core.Logic.{◌⊎◌, inl, inr}
 use mathlib.Core.List.{List, [], ◌∷◌, ◌++◌}
 use mathlib.Core.Option.{some}
-use Prim.Native.Nat.{ℕ, zero, suc, ◌+◌, ◌*◌, ◌≤◌, ◌<◌}
+use Prim.Native.Nat.{ℕ, zero, suc, ◌+◌, ◌-◌, ◌*◌, ◌≤◌, ◌<◌}
 use native.Mathlib.Nat.{zero-add}
 use native.Mathlib.Decide.{dec_lt}
 use native.Mathlib.Omega.{arith}
 use lib.Bits.{or_zero_l}
-use lib.ListN.{length, get_or, get_elem?, set, replicate, length-append, length-set, length-replicate, get_or-replicate}
-use lib.Seq.{get_or-set_same, get_or-set_other}
+use lib.ListN.{length, get_or, get_elem?, replicate, length-append, length-replicate, get_or-replicate}
+use lib.Seq.{ext_get_or}
+use borrow.Rule.Slice.PartMut.{put_mid}
+use Rattle.std.specs.List.{between}
+use Rattle.std.proofs.Common.{rules}
+use Rattle.std.proofs.lemmas.List.{places}
+use Rattle.std.proofs.lemmas.List.Edits.{get_or-between, length-between}
+use Rattle.sets.specs.Calls.{Decides}
 use Rattle.sets.specs.Sets.{united}
 use Rattle.sets.specs.Words.{AreWords}
 use Rattle.points.specs.Points.{points_at, Unite}
@@ -55,7 +62,7 @@ unfolding set_of
 same_set sets next i alike =
     points_alike sets next (i * point_words) 0 point_words (λ j inside. rw zero-add (alike j inside))
 
-pub same_word : (sets next : List ℕ) (i : ℕ) → AreWords sets → AreWords next → set_of sets i ≡ set_of next 0
+same_word : (sets next : List ℕ) (i : ℕ) → AreWords sets → AreWords next → set_of sets i ≡ set_of next 0
     → (j : ℕ)
     → j < point_words
     → get_or sets (i * point_words + j) 0 ≡ get_or next j 0
@@ -63,51 +70,66 @@ unfolding set_of
 same_word sets next i hs hn same j inside =
     rw zero-add at ((points_same sets (i * point_words) next 0 point_words hs hn).1 same j inside)
 
--- the first j words of a set were copied
-pub record Copied (before : List ℕ) (i : ℕ) (next : List ℕ) (j : ℕ) (after : List ℕ) : Type 0 where
-  pub long : length after ≡ length before
-  pub there : (k : ℕ) → k < j → get_or after (i * point_words + k) 0 ≡ get_or next k 0
-  pub others : (k : ℕ) → (k < i * point_words) ⊎ (i * point_words + point_words ≤ k) → get_or after k 0 ≡ get_or before k 0
+decided : {A : Type 0} (r : Bool) → (r ≡ true → A) → (A → r ≡ true) → Decides r A
+decided true to from = to refl
+decided false to from = λ a. absurd (false≢true (from a))
 
-pub copied_none : (before : List ℕ) (i : ℕ) (next : List ℕ) → Copied before i next 0 before
-copied_none before i next = record { long = refl; there = λ k below. absurd (omega arith); others = λ k apart. refl }
-
-pub copied_more : {before : List ℕ} {i : ℕ} {next : List ℕ} {j : ℕ} {after : List ℕ}
-    → j < point_words
-    → i * point_words + point_words ≤ length before
-    → Copied before i next j after
-    → Copied before i next (j + 1) (set after (i * point_words + j) (get_or next j 0))
-copied_more {before} {i} {next} {j} {after} short inside c =
-    record {
-      long = length-set after (i * point_words + j) (get_or next j 0) ∙ c.long;
-      there = λ k below. go k below (dec_lt k j);
-      others = λ k apart.
-          get_or-set_other after (i * point_words + j) k (get_or next j 0) 0
-          (λ e. ⊎_elim (λ low. omega arith) (λ high. omega arith) apart)
-          ∙ c.others k apart;
-    }
+-- the words of a set, as a part of the slice, decide whether it is this one
+pub part_decides : (sets next : List ℕ) (i : ℕ) → AreWords sets → AreWords next → length next ≡ point_words
+    → i * point_words + point_words ≤ length sets
+    → (r : Bool)
+    → (r ≡ true → between (i * point_words) (i * point_words + point_words) sets ≡ next)
+    × (between (i * point_words) (i * point_words + point_words) sets ≡ next → r ≡ true)
+    → Decides r (set_of sets i ≡ set_of next 0)
+part_decides sets next i hs hn long fits r (to, from) =
+    decided r (λ told. same_set sets next i (words (to told))) (λ same. from (part same))
   where
-    go : (k : ℕ) → k < j + 1 → Dec (k < j)
-        → get_or (set after (i * point_words + j) (get_or next j 0)) (i * point_words + k) 0 ≡ get_or next k 0
-    go k below (yes lower) =
-        get_or-set_other after (i * point_words + j) (i * point_words + k) (get_or next j 0) 0 (λ e. omega arith) ∙ c.there k lower
-    go k below (no last) =
-        let same : k ≡ j = omega arith in
-        rw same (get_or-set_same after (i * point_words + j) (get_or next j 0) 0 (omega (arith, c.long)))
+    at : ℕ
+    at = i * point_words
 
-pub copied_all : {before : List ℕ} {i : ℕ} {next : List ℕ} {j : ℕ} {after : List ℕ} → point_words ≤ j
-    → Copied before i next j after
-    → Kept before i next after
+    read : (j : ℕ) → j < point_words → get_or (between at (at + point_words) sets) j 0 ≡ get_or sets (at + j) 0
+    read j inside = get_or-between sets at (at + point_words) j 0 (omega arith)
+
+    words : between at (at + point_words) sets ≡ next → (j : ℕ) → j < point_words → get_or sets (at + j) 0 ≡ get_or next j 0
+    words e j inside = sym (read j inside) ∙ ap (λ (l : List ℕ). get_or l j 0) e
+
+    size : length (between at (at + point_words) sets) ≡ point_words
+    size = length-between sets at (at + point_words) fits ∙ omega arith
+
+    part : set_of sets i ≡ set_of next 0 → between at (at + point_words) sets ≡ next
+    part same =
+        ext_get_or 0 (between at (at + point_words) sets) next (size ∙ sym long)
+        (λ j inside.
+        let short : j < point_words = omega (arith, size) in
+        read j short ∙ same_word sets next i hs hn same j short)
+
+-- a set that was copied into its part of the slice is kept
+pub part_kept : (sets next part : List ℕ) (i : ℕ) → part ≡ next → length next ≡ point_words
+    → i * point_words + point_words ≤ length sets
+    → Kept sets i next (put_mid (i * point_words) (i * point_words + point_words - i * point_words) sets part)
 unfolding set_of
-copied_all {before} {i} {next} {j} {after} all c =
+part_kept sets next part i same long fits =
     record {
-      long = c.long;
-      there = same_set after next i (λ k inside. c.there k (omega arith));
+      long = size;
+      there = same_set after next i (λ k inside. there k inside);
       others = λ k other.
-          points_alike after before (k * point_words) (k * point_words) point_words
-          (λ w inside. c.others (k * point_words + w) (apart k w inside (rows_apart point_words k i other)));
+          points_alike after sets (k * point_words) (k * point_words) point_words
+          (λ w inside. beside (k * point_words + w) (apart k w inside (rows_apart point_words k i other)));
     }
   where
+    after : List ℕ
+    after = put_mid (i * point_words) (i * point_words + point_words - i * point_words) sets part
+
+    size : length after ≡ length sets
+    size = search (rules, places)
+
+    there : (k : ℕ) → k < point_words → get_or after (i * point_words + k) 0 ≡ get_or next k 0
+    there k inside = search (rules, places)
+
+    beside : (k : ℕ) → (k < i * point_words) ⊎ (i * point_words + point_words ≤ k) → get_or after k 0 ≡ get_or sets k 0
+    beside k (inl low) = search (rules, places)
+    beside k (inr high) = search (rules, places)
+
     apart : (k w : ℕ) → w < point_words
         → (k * point_words + point_words ≤ i * point_words) ⊎ (i * point_words + point_words ≤ k * point_words)
         → (k * point_words + w < i * point_words) ⊎ (i * point_words + point_words ≤ k * point_words + w)

@@ -7,16 +7,17 @@ use mathlib.Core.Option.{Option, some, none}
 use Prim.Native.Nat.{ℕ, ◌+◌, ◌*◌, ◌≤◌, ◌<◌}
 use native.Mathlib.Omega.{arith}
 use lib.ListN.{length, get_or, get_elem?}
-use Rattle.answers.specs.Answers.{done, refusal}
+use Rattle.std.specs.Prelude.{Err, IsErrAnd}
+use Rattle.answers.specs.declared.Answer.{Answer}
+use Rattle.answers.specs.Answers.{refusal}
 use Rattle.sets.specs.Sets.{member}
 use Rattle.answers.specs.Limits.{most_positions, byte_values, most_states, row_cells}
 use Rattle.answers.specs.Refusals.{served, states}
 use Rattle.numbering.specs.Numbering.{Automaton, Lawful, FoundAll, whole, Reached, ManyReached, Alike}
 use Rattle.numbering.specs.Numbering as numbering
 use Rattle.numbering.proofs.Promise as found
-use Rattle.states.specs.declared.MachineMade.{MachineMade}
 use Rattle.states.specs.Machine.{TableMove, tables, no_cell, cell_of, lowest_end, token_of, rows_of}
-use Rattle.states.specs.Making.{made_of, not_made, Made, too_many, no_room, made, MadeOutcome}
+use Rattle.states.specs.Making.{MachineMade, Made, too_many, no_room, made, MadeOutcome}
 use Rattle.states.proofs.Rows.{rows_next}
 use Rattle.states.proofs.Rows as rows
 use Rattle.states.proofs.Ends as ends
@@ -85,14 +86,13 @@ made_alike alike (too_many h) = too_many (found.too_many_alike alike h)
 made_alike alike (no_room f few short) = no_room (found.found_all_alike alike f) few short
 made_alike alike (made f few enough) = made (found.found_all_alike alike f) few enough
 
--- refused: the cells are as they were, and no state is told
-pub refused_unchanged : {m : Automaton ℕ} {machine : List ℕ} {r : MachineMade} {after : List ℕ} → Made m machine r after
-    → r.answer.number ≢ served
-    → (after ≡ machine) × (r.states ≡ 0)
-unfolding not_made made_of done
-refused_unchanged (too_many h) refused = (refl, refl)
-refused_unchanged (no_room f few short) refused = (refl, refl)
-refused_unchanged (made f few enough) refused = absurd (refused refl)
+-- refused: the answer says so, and the cells are as they were
+pub refused_unchanged : {m : Automaton ℕ} {machine : List ℕ} {a : Answer} {after : List ℕ}
+    → Made m machine (Err a) after
+    → (a.number ≢ served) × (after ≡ machine)
+unfolding refusal
+refused_unchanged (too_many h) = (λ e. omega arith, refl)
+refused_unchanged (no_room f few short) = (λ e. omega arith, refl)
 
 module _ {readers follow : List ℕ} where
   -- so making by two tables leaves one answer and one content of the cells
@@ -159,8 +159,8 @@ module _ {readers follow : List ℕ} where
 
   -- refusal 16 is given exactly if more than 256 of them can be reached
   pub too_many_iff : {machine : List ℕ} {r : MachineMade} {after : List ℕ} → MadeOutcome readers follow machine r after
-      → (r.answer.number ≡ states) ↔ ManyReached (tables readers follow) most_states
-  unfolding not_made made_of done refusal
+      → IsErrAnd r (λ (a : Answer). a.number ≡ states) ↔ ManyReached (tables readers follow) most_states
+  unfolding refusal
   too_many_iff (too_many h) =
       (λ e. (found.too_many_iff (tables_lawful readers follow) (numbering.too_many h)).0 h, λ many. refl)
   too_many_iff (no_room f few short) = (λ e. absurd (omega arith), λ many. absurd (not_many f few many))

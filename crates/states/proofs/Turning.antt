@@ -2,22 +2,25 @@
 -- byte before; where it begins, and where it ends.
 use mathlib.Core.Path.{◌≡◌, refl, sym, ◌∙◌}
 use mathlib.Core.Logic.{◌≢◌, ◌↔◌}
+use mathlib.Core.Bool.{true, false, false≢true}
+use Rattle.std.specs.Prelude.{Some, None, is_some}
+use Rattle.std.specs.Prelude as found
 use mathlib.Core.List.{List, [], ◌∷◌, ◌++◌}
 use mathlib.Core.Option.{Option, some, none, some-injective}
 use Prim.Native.Nat.{ℕ, zero, suc, ◌+◌, ◌-◌, ◌*◌, ◌≤◌, ◌<◌}
 use native.Mathlib.Numerals.{add-one}
 use native.Mathlib.Omega.{arith}
-use lib.Arith.{lt_of_le-ne}
 use lib.ListN.{length, get_elem?, length-append}
 use Rattle.sets.specs.Sets.{Exactly}
 use Rattle.sets.specs.Words.{places}
 use Rattle.sets.proofs.Promise.{exactly_unique}
 use Rattle.answers.specs.Limits.{point_words, byte_values, most_states}
+use Rattle.answers.specs.Lowest.{LowestAt}
 use Rattle.numbering.specs.Numbering.{Lawful, IsState, Follows, Found, FoundAll, TooMany}
 use Rattle.numbering.proofs.Promise.{element, inside, found_nothing, found_begun, follows_at, turn_nothing, turn_met, turn_new}
-use Rattle.moves.specs.Tables.{readers_of, set_of, NextPoint}
+use Rattle.moves.specs.Tables.{readers_of, set_of, NextPoint, NextWords}
 use Rattle.states.specs.Machine.{TableMove, tables}
-use Rattle.states.specs.Searching.{states_of, Kept, Numbered, nothing, numbered, Target, RunEnd, Searching, Begun}
+use Rattle.states.specs.Searching.{states_of, Kept, Sought, RunEnd, Searching, Begun}
 use Rattle.states.proofs.Sets.{states_length, state_at, states_alike}
 use Rattle.states.proofs.Bytes.{exactly_repeats}
 
@@ -107,6 +110,16 @@ module _ (readers follow : List ℕ) where
               let (y, follows, is) = found.filled (length cells - 1) j e in
               (some j, turn_met found room j y (moved_now y follows) is)
 
+-- what was sought is there, or is not
+module _ (sets : List ℕ) (n y : ℕ) where
+  pub sought_some : (r : found.Option ℕ) → Sought sets n y r → is_some r ≡ true → (j : ℕ) × LowestAt (λ (k : ℕ). set_of sets k ≡ y) n j
+  sought_some (Some j) answer told = (j, answer)
+  sought_some None answer told = absurd (false≢true told)
+
+  pub sought_none : (r : found.Option ℕ) → Sought sets n y r → is_some r ≡ false → (j : ℕ) → j < n → set_of sets j ≢ y
+  sought_none (Some j) answer told = absurd (false≢true (sym told))
+  sought_none None answer told = answer
+
 -- the search as the code goes on with it
 module _ (readers follow sets : List ℕ) (n i b : ℕ) (short : b < byte_values) (row : i < n) where
   longer : {states : List ℕ} (cells : List (Option ℕ)) (v : Option ℕ) (next : List ℕ) (k : ℕ)
@@ -124,41 +137,45 @@ module _ (readers follow sets : List ℕ) (n i b : ℕ) (short : b < byte_values
         let (v, found) = turned_again readers follow sets n i b short row s.found s.turns above repeats in
         longer s.cells v sets n s.turns found refl
 
-    module _ {next : List ℕ} {r : ℕ} (t : Target readers follow sets n i b next r) where
-      -- what comes after is nothing, or was met before
-      pub search_met : r ≢ n → Searching readers follow sets n (i * byte_values + b + 1)
-      search_met old = go refl t.number
-        where
-          go : {r' : ℕ} → r' ≡ r → Numbered sets n (set_of next 0) r' → Searching readers follow sets n (i * byte_values + b + 1)
-          go e (nothing empty) =
-              longer s.cells none sets n s.turns
-              (turned_nothing readers follow sets n i b short row s.found s.turns (set_of next 0) t.exact empty)
-              refl
-          go {r'} e (numbered full sought) =
-              let lower : r' < n = lt_of_le-ne sought.within (λ d. old (sym e ∙ d)) in
-              longer s.cells (some r') sets n s.turns
-              (turned_met readers follow sets n i b short row s.found s.turns (set_of next 0) t.exact r' full lower
-              (sought.there lower))
-              refl
+    module _ {next : List ℕ} (after : NextWords sets i readers b follow next) where
+      -- what comes after is nothing
+      pub search_nothing : set_of next 0 ≡ 0 → Searching readers follow sets n (i * byte_values + b + 1)
+      search_nothing empty =
+          longer s.cells none sets n s.turns
+          (turned_nothing readers follow sets n i b short row s.found s.turns (set_of next 0) after.exact empty)
+          refl
 
-      -- or it is new
-      pub search_new : r ≡ n → n ≤ most_states → {after : List ℕ} → Kept sets n next after
-          → Searching readers follow after (n + 1) (i * byte_values + b + 1)
-      unfolding states_of
-      search_new last few {after} kept = go refl t.number
-        where
-          go : {r' : ℕ} → r' ≡ r → Numbered sets n (set_of next 0) r'
-              → Searching readers follow after (n + 1) (i * byte_values + b + 1)
-          go e (nothing empty) = absurd (omega arith)
-          go {r'} e (numbered full sought) =
-              let others : states_of after n ≡ states_of sets n =
-              states_alike sets after n (λ j lower. kept.others j (λ d. omega arith)) in
-              let states : states_of sets n ++ (set_of next 0 ∷ []) ≡ states_of after (n + 1) =
+      module _ (full : set_of next 0 ≢ 0) where
+        -- or was met before
+        pub search_met : {j : ℕ} → LowestAt (λ (k : ℕ). set_of sets k ≡ set_of next 0) n j → Searching readers follow sets n (i * byte_values + b + 1)
+        search_met {j} met =
+            longer s.cells (some j) sets n s.turns
+            (turned_met readers follow sets n i b short row s.found s.turns (set_of next 0) after.exact j full met.inside met.holds)
+            refl
+
+        module _ (new : (j : ℕ) → j < n → set_of sets j ≢ set_of next 0) where
+          -- or it is new
+          found_new : Found (tables readers follow) (states_of sets n ++ (set_of next 0 ∷ [])) (s.cells ++ (some (length (states_of sets n)) ∷ []))
+          found_new = turned_new readers follow sets n i b short row s.found s.turns (set_of next 0) after.exact full new
+
+          pub search_new : {sets' : List ℕ} → Kept sets n next sets' → Searching readers follow sets' (n + 1) (i * byte_values + b + 1)
+          unfolding states_of
+          search_new {sets'} kept =
+              let others : states_of sets' n ≡ states_of sets n =
+              states_alike sets sets' n (λ j lower. kept.others j (λ d. omega arith)) in
+              let states : states_of sets n ++ (set_of next 0 ∷ []) ≡ states_of sets' (n + 1) =
               rw (add-one, others, kept.there) in
-              longer s.cells (some (length (states_of sets n))) after (n + 1) s.turns
-              (turned_new readers follow sets n i b short row s.found s.turns (set_of next 0) t.exact full
-              (λ j lower. sought.before j (omega arith)))
-              states
+              longer s.cells (some (length (states_of sets n))) sets' (n + 1) s.turns found_new states
+
+          -- and with it there are too many
+          pub search_past : most_states ≤ n → TooMany (tables readers follow) most_states
+          search_past all =
+              record {
+                states = states_of sets n ++ (set_of next 0 ∷ []);
+                cells = s.cells ++ (some (length (states_of sets n)) ∷ []);
+                found = found_new;
+                more = omega (arith, length-append (states_of sets n) (set_of next 0 ∷ []), states_length sets n);
+              }
 
 -- and up to the end of a byte's run
 module _ (readers follow sets : List ℕ) (n i b e : ℕ) (row : i < n) (run : RunEnd readers b e) where
@@ -209,13 +226,8 @@ search_begun readers follow {after = after} (suc zero) begun =
     }
 search_begun readers follow (suc (suc r)) begun = absurd (omega (arith, begun.few))
 
--- where it ends: all cells of all states, or too many states
+-- where it ends: all cells of all states
 pub search_whole : {readers follow sets : List ℕ} {n : ℕ} {t : ℕ} → Searching readers follow sets n t → t ≡ n * byte_values
     → (cells : List (Option ℕ)) × FoundAll (tables readers follow) (states_of sets n) cells
 search_whole {sets = sets} {n = n} s all =
     (s.cells, record { found = s.found; all = omega (arith, s.turns, states_length sets n) })
-
-pub search_too_many : {readers follow sets : List ℕ} {n t : ℕ} → Searching readers follow sets n t → most_states < n
-    → TooMany (tables readers follow) most_states
-search_too_many {sets = sets} {n = n} s more =
-    record { states = states_of sets n; cells = s.cells; found = s.found; more = omega (arith, states_length sets n) }

@@ -4,22 +4,27 @@ use mathlib.Core.Logic.{◌≢◌}
 use mathlib.Core.List.{List}
 use mathlib.Core.Option.{Option, some, none, some-injective}
 use Prim.Native.Nat.{ℕ, ◌+◌, ◌-◌, ◌*◌, ◌/◌, ◌%◌, ◌≤◌, ◌<◌}
-use native.Mathlib.Decide.{dec_lt}
+use native.Mathlib.Decide.{dec_lt, ℕ_discrete}
 use native.Mathlib.Omega.{arith}
 use lib.ListN.{length, get_or, get_elem?, drop, length-append, length-drop, get_or-append}
 use lib.Seq.{get_or-append-add, get_or-drop, ext_get_or}
 use Rattle.sets.specs.Sets.{Exactly}
 use Rattle.sets.specs.Words.{places}
 use Rattle.sets.proofs.Promise.{exactly_unique}
+use Rattle.std.specs.Prelude.{Ok, Err}
+use Rattle.answers.specs.declared.Answer.{Answer}
+use Rattle.answers.specs.Answers.{refusal}
+use Rattle.answers.specs.Checks.{Lacking, because}
 use Rattle.answers.specs.Buffers.{over}
-use Rattle.answers.specs.Limits.{point_words, byte_values, most_states, row_cells}
-use Rattle.answers.specs.Refusals.{room, states, machine_room}
+use Rattle.answers.specs.Limits.{point_words, byte_values, row_cells}
+use Rattle.answers.specs.Lowest.{LowestAt}
+use Rattle.answers.specs.Refusals.{room, machine_room}
 use Rattle.numbering.specs.Numbering.{IsState, FoundAll}
 use Rattle.numbering.proofs.Promise.{inside, moves_cell, cell_none}
 use Rattle.moves.specs.Tables.{set_of, NextPoint}
-use Rattle.states.specs.Machine.{TableMove, tables, cell_of, token_of, rows_of}
-use Rattle.states.specs.Searching.{states_of, Sought, Numbered, nothing, numbered, Searched}
-use Rattle.states.specs.Making.{made_of, not_made, too_many, no_room, made, MadeOutcome}
+use Rattle.states.specs.Machine.{TableMove, tables, no_cell, cell_of, token_of, rows_of}
+use Rattle.states.specs.Searching.{states_of, Numbered, nothing, not_there, numbered, Searched}
+use Rattle.states.specs.Making.{no_room, made, MadeOutcome}
 use Rattle.states.specs.Filling.{Cell, Filled}
 use Rattle.states.proofs.Sets.{states_length, state_at}
 use Rattle.states.proofs.Turning.{tables_lawful}
@@ -41,31 +46,40 @@ module _ (readers follow sets : List ℕ) (n : ℕ) {cells : List (Option ℕ)}
 
   module _ (i b : ℕ) (row : i < n) (short : b < byte_values) (y : ℕ)
       (exact : Exactly (places point_words) y (NextPoint readers follow (set_of sets i) b)) where
-    -- what a cell holds is what was found for it
-    named : (r : ℕ) → y ≢ 0 → Sought sets n y r → get_elem? cells (i * byte_values + b) ≡ some (some r)
-    named r full sought =
+    -- a set that comes after is a state, whose number the cell holds
+    held : y ≢ 0 → (j : ℕ) × (get_elem? cells (i * byte_values + b) ≡ some (some j)) × IsState (tables readers follow) (states_of sets n) j y
+    held full =
         let moved : TableMove readers follow (set_of sets i) b y = record { exact = exact; nonempty = full } in
-        go (moves_cell (tables_lawful readers follow) all i b (set_of sets i) y short (state i row) moved)
-      where
-        go : (j : ℕ) × (get_elem? cells (i * byte_values + b) ≡ some (some j)) × IsState (tables readers follow) (states_of sets n) j y
-            → get_elem? cells (i * byte_values + b) ≡ some (some r)
-        go (j, names, is) =
-            let (lower, there) = set_of_lem j y is in
-            let one : j ≡ r = same (dec_lt j r) lower there in
-            rw one at names
-          where
-            same : Dec (j < r) → j < n → set_of sets j ≡ y → j ≡ r
-            same (yes before) lower there = absurd (sought.before j before there)
-            same (no after) lower there =
-                let low : r < n = omega arith in
-                all.found.distinct j r y is (record { state = set_of sets r; at = state_at sets n r low; same = sym (sought.there low) })
+        moves_cell (tables_lawful readers follow) all i b (set_of sets i) y short (state i row) moved
 
-    pub cell_right : (r : ℕ) → Numbered sets n y r → get_or (rows_of (states_of sets n) cells) (i * row_cells + b) 0 ≡ r
+    -- what a cell holds is what was found for it
+    named : (r : ℕ) → y ≢ 0 → LowestAt (λ (j : ℕ). set_of sets j ≡ y) n r → get_elem? cells (i * byte_values + b) ≡ some (some r)
+    named r full sought =
+        let (j, names, is) = held full in
+        let other : IsState (tables readers follow) (states_of sets n) r y =
+        record { state = set_of sets r; at = state_at sets n r sought.inside; same = sym sought.holds } in
+        let one : j ≡ r = all.found.distinct j r y is other in
+        rw one at names
+
+    -- and what comes after is nothing where it is none of the states
+    empty_cell : y ≡ 0 → get_or (rows_of (states_of sets n) cells) (i * row_cells + b) 0 ≡ no_cell
     unfolding cell_of
-    cell_right r (nothing empty) =
+    empty_cell empty =
         rows_next (states_of sets n) cells i b none long (omega (arith, states_length sets n)) short
         ((cell_none (tables_lawful readers follow) all i b (set_of sets i) short (state i row)).1
         (λ z moved. moved.nonempty (exactly_unique z y moved.exact exact ∙ empty)))
+
+    pub cell_right : (r : ℕ) → Numbered sets n y r → get_or (rows_of (states_of sets n) cells) (i * row_cells + b) 0 ≡ r
+    unfolding cell_of
+    cell_right r (nothing empty) = empty_cell empty
+    cell_right r (not_there away) = go (ℕ_discrete y 0)
+      where
+        go : Dec (y ≡ 0) → get_or (rows_of (states_of sets n) cells) (i * row_cells + b) 0 ≡ no_cell
+        go (yes empty) = empty_cell empty
+        go (no full) =
+            let (j, names, is) = held full in
+            let (lower, there) = set_of_lem j y is in
+            absurd (away j lower there)
     cell_right r (numbered full sought) =
         rows_next (states_of sets n) cells i b (some r) long (omega (arith, states_length sets n)) short (named r full sought)
 
@@ -119,23 +133,19 @@ module _ (readers follow sets : List ℕ) (n : ℕ) {cells : List (Option ℕ)}
 
 -- what making answers, after the search
 module _ {readers follow sets : List ℕ} {n : ℕ} (searched : Searched readers follow sets n) (machine : List ℕ) where
-  pub make_too_many : most_states < n → MadeOutcome readers follow machine (not_made states most_states 0) machine
-  make_too_many more = too_many (searched.too_many more)
-
-  pub make_no_room : n ≤ most_states → length machine < n * row_cells
-      → MadeOutcome readers follow machine (not_made room (n * row_cells) machine_room) machine
-  make_no_room few short =
-      let (cells, all) = searched.whole few in
-      let outcome : MadeOutcome readers follow machine (not_made room (length (states_of sets n) * row_cells) machine_room) machine =
-      no_room all (omega (arith, states_length sets n)) (omega (arith, states_length sets n)) in
+  pub make_no_room : {a : Answer}
+      → Lacking (length machine) (n * row_cells) machine_room a
+      → MadeOutcome readers follow machine (Err a) machine
+  make_no_room (because short) =
+      let outcome : MadeOutcome readers follow machine (Err (refusal room (length (states_of sets n) * row_cells) machine_room)) machine =
+      no_room searched.all (omega (arith, states_length sets n, searched.few)) (omega (arith, states_length sets n)) in
       rw (states_length sets n) at outcome
 
-  pub make_whole : n ≤ most_states → n * row_cells ≤ length machine → {after : List ℕ}
+  pub make_whole : n * row_cells ≤ length machine → {after : List ℕ}
       → Filled readers follow sets n machine (n * row_cells) after
-      → MadeOutcome readers follow machine (made_of n) after
-  make_whole few enough {after} filled =
-      let (cells, all) = searched.whole few in
-      let rows = rows_of (states_of sets n) cells in
-      let outcome : MadeOutcome readers follow machine (made_of (length (states_of sets n))) (over rows machine) =
-      made all (omega (arith, states_length sets n)) (omega (arith, states_length sets n)) in
-      rw (filled_rows readers follow sets n all enough filled) (rw (states_length sets n) at outcome)
+      → MadeOutcome readers follow machine (Ok n) after
+  make_whole enough {after} filled =
+      let rows = rows_of (states_of sets n) searched.cells in
+      let outcome : MadeOutcome readers follow machine (Ok (length (states_of sets n))) (over rows machine) =
+      made searched.all (omega (arith, states_length sets n, searched.few)) (omega (arith, states_length sets n)) in
+      rw (filled_rows readers follow sets n searched.all enough filled) (rw (states_length sets n) at outcome)

@@ -1,12 +1,12 @@
 -- The search for the states: sets kept one behind the other, and what each function of the search comes to. Working
 -- definitions, which no public contract cites.
 use Rattle.std.specs.Prelude.{◌≡◌, ◌≢◌, List, [], ◌∷◌, ◌++◌, ℕ, zero, suc, ◌+◌, ◌*◌, ◌≤◌, ◌<◌, length, get_or}
-use Rattle.std.proofs.Math.Option.{Option}
-use Rattle.sets.specs.Sets.{Exactly}
-use Rattle.sets.specs.Words.{places, AreWords}
+use Rattle.std.specs.Prelude.{Option, MatchOption}
+use Rattle.std.proofs.Math.Option as maybe
 use Rattle.answers.specs.Limits.{point_words, byte_values, most_states}
+use Rattle.answers.specs.Lowest.{LowestAt, LowestIn}
 use Rattle.numbering.specs.Numbering.{Found, FoundAll, TooMany}
-use Rattle.moves.specs.Tables.{readers_of, first_of, set_of, NextPoint}
+use Rattle.moves.specs.Tables.{readers_of, first_of, set_of}
 use Rattle.states.specs.Machine.{tables, no_cell}
 
 -- the first n sets of a slice
@@ -14,9 +14,9 @@ unfoldable pub states_of : List ℕ → ℕ → List ℕ
 states_of sets zero = []
 states_of sets (suc n) = states_of sets n ++ (set_of sets n ∷ [])
 
--- there is room for one set more than the most
+-- there is room for the sets of the most states
 abbrev pub sets_room : ℕ
-sets_room = suc most_states * point_words
+sets_room = most_states * point_words
 
 -- a set of words was kept as set number i
 pub record Kept (before : List ℕ) (i : ℕ) (next after : List ℕ) : Type 0 where
@@ -24,22 +24,15 @@ pub record Kept (before : List ℕ) (i : ℕ) (next after : List ℕ) : Type 0 w
   pub there : set_of after i ≡ set_of next 0
   pub others : (j : ℕ) → j ≢ i → set_of after j ≡ set_of before j
 
--- y is sought among the first n sets
-pub record Sought (sets : List ℕ) (n y r : ℕ) : Type 0 where
-  pub within : r ≤ n
-  pub before : (j : ℕ) → j < r → set_of sets j ≢ y
-  pub there : r < n → set_of sets r ≡ y
+-- the first of the first n sets that is y
+abbrev pub Sought : List ℕ → ℕ → ℕ → Option ℕ → Type 0
+Sought sets n y = LowestIn (λ j. set_of sets j ≡ y) n
 
--- none if y is empty, else where it is among the first n sets, or n
+-- where y is among the first n sets, or no cell if it is empty or not there
 pub data Numbered (sets : List ℕ) (n y : ℕ) : ℕ → Type 0 where
   nothing : y ≡ 0 → Numbered sets n y no_cell
-  numbered : {r : ℕ} → y ≢ 0 → Sought sets n y r → Numbered sets n y r
-
--- the words of what comes after set number i by byte b, and its number
-pub record Target (readers follow sets : List ℕ) (n i b : ℕ) (next : List ℕ) (r : ℕ) : Type 0 where
-  pub words : AreWords next
-  pub exact : Exactly (places point_words) (set_of next 0) (NextPoint readers follow (set_of sets i) b)
-  pub number : Numbered sets n (set_of next 0) r
+  not_there : ((j : ℕ) → j < n → set_of sets j ≢ y) → Numbered sets n y no_cell
+  numbered : {r : ℕ} → y ≢ 0 → LowestAt (λ j. set_of sets j ≡ y) n r → Numbered sets n y r
 
 -- the bytes from b up to e have the same readers
 pub record RunEnd (readers : List ℕ) (b e : ℕ) : Type 0 where
@@ -54,7 +47,7 @@ pub record Runs (readers : List ℕ) (n : ℕ) (ends : List ℕ) : Type 0 where
 
 -- n states were found in t cells
 pub record Searching (readers follow sets : List ℕ) (n t : ℕ) : Type 0 where
-  pub cells : List (Option ℕ)
+  pub cells : List (maybe.Option ℕ)
   pub found : Found (tables readers follow) (states_of sets n) cells
   pub turns : length cells ≡ t
 
@@ -65,24 +58,27 @@ pub record Begun (follow before after : List ℕ) (r : ℕ) : Type 0 where
   pub empty : r ≡ 0 → first_of follow ≡ 0
   pub first : 0 < r → (first_of follow ≢ 0) × (set_of after 0 ≡ first_of follow)
 
+-- so many states, of which P holds, or too many
+abbrev pub OrTooMany : (readers follow : List ℕ) → (P : ℕ → Type 0) → Option ℕ → Type 0
+OrTooMany readers follow P r = MatchOption r (TooMany (tables readers follow) most_states) P
+
 -- one cell more, and perhaps one state
 pub record Turned (readers follow before : List ℕ) (n t : ℕ) (after : List ℕ) (r : ℕ) : Type 0 where
   pub long : length after ≡ length before
   pub more : n ≤ r
-  pub few : r ≤ n + 1
+  pub one : r ≤ n + 1
+  pub few : r ≤ most_states
   pub searching : Searching readers follow after r t
 
--- the row of a state, or too many states
+-- the row of a state
 pub record RowFound (readers follow before : List ℕ) (n i : ℕ) (after : List ℕ) (r : ℕ) : Type 0 where
   pub long : length after ≡ length before
   pub more : n ≤ r
-  pub few : r ≤ suc most_states
-  pub turns : ℕ
-  pub searching : Searching readers follow after r turns
-  pub row : r ≤ most_states → turns ≡ suc i * byte_values
+  pub few : r ≤ most_states
+  pub searching : Searching readers follow after r (suc i * byte_values)
 
--- all states, or too many
+-- all states
 pub record Searched (readers follow sets : List ℕ) (r : ℕ) : Type 0 where
-  pub few : r ≤ suc most_states
-  pub whole : r ≤ most_states → (cells : List (Option ℕ)) × FoundAll (tables readers follow) (states_of sets r) cells
-  pub too_many : most_states < r → TooMany (tables readers follow) most_states
+  pub few : r ≤ most_states
+  pub cells : List (maybe.Option ℕ)
+  pub all : FoundAll (tables readers follow) (states_of sets r) cells

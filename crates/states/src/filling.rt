@@ -7,9 +7,10 @@ ghost use Rattle.states.specs.Searching.{sets_room, Runs};
 ghost use Rattle.states.specs.Filling.{end_cell, Cell, CellsSpread, Filled, RowFilled};
 
 use crate::NO_CELL;
-use crate::seeking::target;
+use crate::seeking::seek;
 use answers::limits::{BYTE_VALUES, MOST_PATTERNS, POINT_WORDS, POSITION_WORDS, ROW_CELLS};
-use points::{WORD_WIDTH, lowest};
+use moves::after;
+use points::{WORD_WIDTH, lowest, none};
 
 // An end as a cell, if it is a pattern's.
 fn end_cell(end: usize) -> u16
@@ -28,25 +29,28 @@ fn token(sets: &[u64], state: usize) -> u16
     ensures { result ≡ token_of (set_of sets.now state) }
 {
     let at = state * POINT_WORDS;
-    let mut i = POSITION_WORDS;
-    while i < POINT_WORDS {
-        let place = at + i;
-        let bit = lowest(sets[place]);
-        if bit < WORD_WIDTH {
+    for i in POSITION_WORDS..POINT_WORDS {
+        if let Some(bit) = lowest(sets[at + i]) {
             return end_cell((i - POSITION_WORDS) * WORD_WIDTH + bit);
         }
-        i += 1;
     }
     NO_CELL
 }
 
-// What a byte's cell holds.
+// What a byte's cell holds: the number of the state that comes after.
 fn cell(sets: &[u64], count: usize, state: u16, readers: &[u64], byte: u8, follow: &[u64]) -> u16
     requires { (count * point_words ≤ length sets.now) × (count < 2 ^ 16) }
     ensures { Cell readers.now follow.now sets.now count state byte result }
 {
     let mut next = [0u64; POINT_WORDS];
-    target(&mut next, sets, count, state, readers, byte, follow)
+    after(&mut next, sets, state, readers, byte, follow);
+    if none(&next, 0, POINT_WORDS) {
+        return NO_CELL;
+    }
+    match seek(sets, count, &next) {
+        Some(number) => number as u16,
+        None => NO_CELL,
+    }
 }
 
 // The cells from one place up to another.
@@ -54,11 +58,7 @@ fn spread(machine: &mut [u16], from: usize, to: usize, value: u16)
     requires { (from ≤ to) × (to ≤ length machine.old) }
     ensures { CellsSpread machine.old from to value machine.new }
 {
-    let mut place = from;
-    while place < to {
-        machine[place] = value;
-        place += 1;
-    }
+    machine[from..to].fill(value);
 }
 
 // The row of one state: its bytes, of which those with the same readers have the same cell, then its token.
@@ -79,7 +79,7 @@ fn fill_row(
     let at = state * ROW_CELLS;
     let mut byte = 0;
     while byte < BYTE_VALUES {
-        let end = ends[byte] as usize;
+        let end = usize::from(ends[byte]);
         spread(
             machine,
             at + byte,
@@ -88,8 +88,7 @@ fn fill_row(
         );
         byte = end;
     }
-    let last = at + BYTE_VALUES;
-    machine[last] = token(sets, state);
+    machine[at + BYTE_VALUES] = token(sets, state);
 }
 
 // The rows of all states.
@@ -106,9 +105,7 @@ pub(crate) fn fill(
     ensures { Filled readers.now follow.now sets.now count
         machine.old (count * row_cells) machine.new }
 {
-    let mut state = 0;
-    while state < count {
+    for state in 0..count {
         fill_row(machine, sets, count, state, readers, ends, follow);
-        state += 1;
     }
 }

@@ -2,10 +2,12 @@
 ghost use Rattle.std.specs.Prelude.{◌+◌, ◌*◌, ◌≤◌, ◌<◌, length, true, ◌≡◌};
 ghost use Rattle.answers.specs.Limits.{byte_values, most_states};
 ghost use Rattle.moves.specs.Tables.{readers_of};
-ghost use Rattle.states.specs.Searching.{sets_room, RunEnd, Runs, Searching, Begun, Turned, RowFound, Searched};
+ghost use Rattle.states.specs.Searching.{sets_room, RunEnd, Runs, Searching, OrTooMany};
+ghost use Rattle.states.specs.Searching.{Begun, Turned, RowFound, Searched};
 
-use crate::seeking::{keep, target};
+use crate::seeking::{keep, seek};
 use answers::limits::{BYTE_VALUES, MOST_POSITIONS, MOST_STATES, POINT_WORDS, POSITION_WORDS};
+use moves::after;
 use points::{none, unite};
 
 // Whether the next byte is seen to have the readers of this one: where the table is too short nothing is seen.
@@ -16,19 +18,8 @@ fn same_readers(readers: &[u64], byte: usize) -> bool
 {
     let at = byte * POSITION_WORDS;
     let next = at + POSITION_WORDS;
-    if readers.len() < next + POSITION_WORDS {
-        return false;
-    }
-    let mut i = 0;
-    while i < POSITION_WORDS {
-        let place = at + i;
-        let above = next + i;
-        if readers[above] != readers[place] {
-            return false;
-        }
-        i += 1;
-    }
-    true
+    let end = next + POSITION_WORDS;
+    end <= readers.len() && readers[next..end] == readers[at..next]
 }
 
 // Up to where the bytes have the readers of this one, known of the bytes above.
@@ -37,12 +28,11 @@ fn run_end(ends: &[u16; BYTE_VALUES], readers: &[u64], byte: usize) -> u16
     ensures { RunEnd readers.now byte result }
 {
     let next = byte + 1;
-    if next < BYTE_VALUES {
-        if same_readers(readers, byte) {
-            return ends[next];
-        }
+    if next < BYTE_VALUES && same_readers(readers, byte) {
+        ends[next]
+    } else {
+        next as u16
     }
-    next as u16
 }
 
 // The same of each byte.
@@ -50,15 +40,13 @@ pub(crate) fn runs(ends: &mut [u16; BYTE_VALUES], readers: &[u64])
     requires { length ends.old ≡ byte_values }
     ensures { Runs readers.now 0 ends.new }
 {
-    let mut byte = BYTE_VALUES;
-    while 0 < byte {
-        byte -= 1;
+    for byte in (0..BYTE_VALUES).rev() {
         let end = run_end(ends, readers, byte);
         ends[byte] = end;
     }
 }
 
-// What can come first is state 0.
+// What can come first is state 0: how many states there are then.
 fn begin(sets: &mut [u64], follow: &[u64]) -> usize
     requires { length sets.old ≡ sets_room }
     ensures { Begun follow.now sets.old sets.new result }
@@ -78,7 +66,7 @@ fn begin(sets: &mut [u64], follow: &[u64]) -> usize
     1
 }
 
-// One cell of a state's row: how many states there are then.
+// One cell of a state's row: how many states there are then, if they are not too many.
 fn turn(
     sets: &mut [u64],
     count: usize,
@@ -86,21 +74,25 @@ fn turn(
     readers: &[u64],
     byte: u8,
     follow: &[u64],
-) -> usize
+) -> Option<usize>
     requires { (length sets.old ≡ sets_room) × (count ≤ most_states) × (state < count)
         × Searching readers.now follow.now sets.old count (state * byte_values + byte) }
-    ensures { Turned readers.now follow.now sets.old count
-        (state * byte_values + byte + 1) sets.new result }
+    ensures { OrTooMany readers.now follow.now
+        (Turned readers.now follow.now sets.old count (state * byte_values + byte + 1) sets.new) result }
 {
     let mut next = [0u64; POINT_WORDS];
-    if target(&mut next, sets, count, state, readers, byte, follow) as usize == count {
-        keep(sets, count, &next);
-        return count + 1;
+    after(&mut next, sets, state, readers, byte, follow);
+    if none(&next, 0, POINT_WORDS) || seek(sets, count, &next).is_some() {
+        return Some(count);
     }
-    count
+    if count == MOST_STATES {
+        return None;
+    }
+    keep(sets, count, &next);
+    Some(count + 1)
 }
 
-// The row of a state, as far as there are not too many: bytes with the same readers have the same next state.
+// The row of a state, with the same answer: bytes with the same readers have the same next state.
 fn find_row(
     sets: &mut [u64],
     count: usize,
@@ -108,37 +100,37 @@ fn find_row(
     readers: &[u64],
     ends: &[u16; BYTE_VALUES],
     follow: &[u64],
-) -> usize
+) -> Option<usize>
     requires { (length sets.old ≡ sets_room) × (count ≤ most_states) × (state < count)
         × Runs readers.now 0 ends.now
         × Searching readers.now follow.now sets.old count (state * byte_values) }
-    ensures { RowFound readers.now follow.now sets.old count state
-        sets.new result }
+    ensures { OrTooMany readers.now follow.now
+        (RowFound readers.now follow.now sets.old count state sets.new) result }
 {
     let mut found = count;
     let mut byte = 0;
-    while byte < BYTE_VALUES && found <= MOST_STATES {
-        found = turn(sets, found, state as u16, readers, byte as u8, follow);
-        byte = ends[byte] as usize;
+    while byte < BYTE_VALUES {
+        found = turn(sets, found, state as u16, readers, byte as u8, follow)?;
+        byte = usize::from(ends[byte]);
     }
-    found
+    Some(found)
 }
 
-// The number of states, or one more than the most.
+// The number of states, if they are not too many.
 pub(crate) fn find(
     sets: &mut [u64],
     readers: &[u64],
     ends: &[u16; BYTE_VALUES],
     follow: &[u64],
-) -> usize
+) -> Option<usize>
     requires { (length sets.old ≡ sets_room) × Runs readers.now 0 ends.now }
-    ensures { Searched readers.now follow.now sets.new result }
+    ensures { OrTooMany readers.now follow.now (Searched readers.now follow.now sets.new) result }
 {
     let mut found = begin(sets, follow);
     let mut state = 0;
-    while state < found && found <= MOST_STATES {
-        found = find_row(sets, found, state, readers, ends, follow);
+    while state < found {
+        found = find_row(sets, found, state, readers, ends, follow)?;
         state += 1;
     }
-    found
+    Some(found)
 }

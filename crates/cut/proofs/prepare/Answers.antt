@@ -1,10 +1,11 @@
 -- `prepare` meets its contract: with no pattern the machine is that of empty tables; else the tables are long enough, and
 -- what they make is the patterns' machine.
+use mathlib.Core.Path.{sym, ◌∙◌}
 use Prim.Native.Nat.{ℕ}
 use native.Mathlib.Omega.{arith}
+use borrow.Author.Tests.{eqb-true}
 use lib.ListN.{replicate, length-replicate}
 use Rattle.patterns.specs.Calls.{readers_length, follow_length, TablesFit}
-use Rattle.cut.specs.Preparing.{no_machine}
 use Rattle.cut.proofs.Preparing.{prepared_refused, prepared_made, prepared_nothing}
 use Rattle.cut.proofs.prepare.Goals as goal
 
@@ -15,12 +16,11 @@ tables_fit =
       follow_fit = omega (arith, length-replicate {A = ℕ} follow_length 0);
     }
 
-pub returns-then-lengths-eq0 : goal.returns-then-lengths-eq0
-returns-then-lengths-eq0 c =
-    prepared_nothing c.args.lengths.now c.if-lengths-eq0.true c.make.ensures
+pub returns-then-is_empty : goal.returns-then-is_empty
+returns-then-is_empty c =
+    prepared_nothing c.args.lengths.now (eqb-true _ 0 (sym c.is_empty.ensures ∙ c.if-is_empty.true)) c.make.ensures
 
 pub returns-then-answer-ne-DONE : goal.returns-then-answer-ne-DONE
-unfolding no_machine
 returns-then-answer-ne-DONE c = prepared_refused tables_fit c.read-answer.ensures c.if-answer-ne-DONE.true
 
 pub returns : goal.returns

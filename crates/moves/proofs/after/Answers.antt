@@ -1,4 +1,3 @@
-use native.Mathlib.Omega.{arith}
 use Rattle.sets.specs.Words.{AreWords}
 use Rattle.moves.specs.Tables.{set_of}
 use Rattle.moves.proofs.Gathering.{meet, gathered_none, gathered_more, gathered_all}
@@ -8,13 +7,7 @@ use Rattle.moves.proofs.after.Goals.{At-loop-i}
 pub loop-i-init : goal.loop-i-init
 loop-i-init c =
     let args = c.args in
-    (omega arith, gathered_none args.readers.now args.follow.now (set_of args.sets.now args.state) args.byte)
-
-pub lead_word-requires : goal.lead_word-requires
-lead_word-requires c = (omega arith, c.loop-i.invariant.1.five)
-
-pub loop-i-smaller : goal.loop-i-smaller
-loop-i-smaller c = omega arith
+    gathered_none args.readers.now args.follow.now (set_of args.sets.now args.state) args.byte
 
 -- sets and readers are words
 sets_words : (c : At-loop-i) → AreWords c.args.sets.now
@@ -26,15 +19,14 @@ readers_words c = record { fits = λ i. (c.type_inv.readers i).fits }
 pub loop-i-preserved : goal.loop-i-preserved
 unfolding meet
 loop-i-preserved c =
-    let args = c.args in (
-      omega arith,
-      gathered_more args.sets.now args.state args.readers.now args.byte args.follow.now
-          (sets_words (goal.at.loop-i-preserved c).At-loop-i) (readers_words (goal.at.loop-i-preserved c).At-loop-i) c.loop-i.i c.loop-i-test.true
-          c.loop-i.invariant.1 (rw (c.word_at.ensures, c.word_at-in-loop-i.ensures) at c.lead_word.ensures),
-    )
+    let args = c.args in
+    gathered_more args.sets.now args.state args.readers.now args.byte args.follow.now
+    (sets_words (goal.at.loop-i-preserved c).At-loop-i) (readers_words (goal.at.loop-i-preserved c).At-loop-i) c.loop-i.i c.loop-i-test.true
+    c.loop-i.invariant
+    (rw (c.cell_or.ensures, c.cell_or-in-loop-i.ensures, c.from-from.ensures, c.from-row.ensures) at c.lead_word.ensures)
 
 pub returns : goal.returns
 returns c =
     let args = c.args in
     gathered_all args.sets.now args.state args.readers.now args.byte args.follow.now
-    (sets_words (goal.at.returns c).At-loop-i) (readers_words (goal.at.returns c).At-loop-i) c.loop-i.i c.loop-i-test.false c.loop-i.invariant.1
+    (sets_words (goal.at.returns c).At-loop-i) (readers_words (goal.at.returns c).At-loop-i) c.loop-i.i c.loop-i-test.false c.loop-i.invariant

@@ -1,12 +1,8 @@
 -- `states::filling::fill` meets its contract. The loop's invariant: the rows gone through are right.
-use Prim.Native.Nat.{◌-◌, ◌*◌, ◌≤◌}
+use Prim.Native.Nat.{◌*◌}
 use Rattle.answers.specs.Limits.{row_cells}
 use Rattle.states.specs.Filling.{Filled}
 use Rattle.states.proofs.filling.fill.Given as goal
 
 abbrev pub invariant-loop-state : goal.invariant-loop-state
-invariant-loop-state l =
-    (l.state ≤ l.count) × Filled l.readers l.follow l.sets l.count l.initial.machine (l.state * row_cells) l.machine
-
-abbrev pub decreases-loop-state : goal.decreases-loop-state
-decreases-loop-state l = l.count - l.state
+invariant-loop-state l = Filled l.readers l.follow l.sets l.count l.initial.machine (l.state * row_cells) l.machine

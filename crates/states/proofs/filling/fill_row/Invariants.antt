@@ -1,8 +1,6 @@
 -- `states::filling::fill_row` meets its contract. The loop's invariant: the cells of the bytes gone through are right.
-use mathlib.Core.Path.{◌≡◌}
 use mathlib.Core.List.{List}
 use Prim.Native.Nat.{ℕ, ◌+◌, ◌-◌, ◌*◌, ◌≤◌}
-use lib.ListN.{length}
 use Rattle.answers.specs.Limits.{byte_values, row_cells}
 use Rattle.states.specs.Filling.{Filled}
 use Rattle.states.proofs.filling.fill_row.Given as goal
@@ -10,7 +8,6 @@ use Rattle.states.proofs.filling.fill_row.Given as goal
 abbrev pub invariant-loop-byte : goal.invariant-loop-byte
 invariant-loop-byte l =
     (l.byte ≤ byte_values)
-    × (length l.machine ≡ length l.initial.machine)
     × ((start : List ℕ) → Filled l.readers l.follow l.sets l.count start (l.state * row_cells) l.initial.machine
     → Filled l.readers l.follow l.sets l.count start (l.state * row_cells + l.byte) l.machine)
 

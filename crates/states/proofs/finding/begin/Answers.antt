@@ -26,12 +26,6 @@ returns-then-none c =
       first = λ above. absurd (omega arith);
     }
 
-pub keep-requires : goal.keep-requires
-keep-requires c = omega (arith, c.requires)
-
-pub shape_of-sets : goal.shape_of-sets
-shape_of-sets c = c.keep.auto.sets
-
 pub returns : goal.returns
 unfolding set_of
 returns c =

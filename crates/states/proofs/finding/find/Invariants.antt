@@ -1,15 +1,12 @@
 -- `states::finding::find` meets its contract. The loop's invariant: what was found in the rows gone through.
-use mathlib.Core.Path.{◌≡◌}
-use Prim.Native.Nat.{ℕ, suc, ◌-◌, ◌*◌, ◌≤◌}
-use lib.ListN.{length}
+use Prim.Native.Nat.{◌-◌, ◌*◌, ◌≤◌}
 use Rattle.answers.specs.Limits.{byte_values, most_states}
-use Rattle.states.specs.Searching.{sets_room, Searching}
+use Rattle.states.specs.Searching.{Searching}
 use Rattle.states.proofs.finding.find.Given as goal
 
 abbrev pub invariant-loop-state : goal.invariant-loop-state
 invariant-loop-state l =
-    (l.state ≤ l.found) × (length l.sets ≡ sets_room) × (l.found ≤ suc most_states)
-    × ((t : ℕ) × Searching l.readers l.follow l.sets l.found t × (l.found ≤ most_states → t ≡ l.state * byte_values))
+    (l.state ≤ l.found) × (l.found ≤ most_states) × Searching l.readers l.follow l.sets l.found (l.state * byte_values)
 
 abbrev pub decreases-loop-state : goal.decreases-loop-state
-decreases-loop-state l = suc most_states - l.state
+decreases-loop-state l = most_states - l.state

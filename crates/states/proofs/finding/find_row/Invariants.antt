@@ -1,14 +1,12 @@
 -- `states::finding::find_row` meets its contract. The loop's invariant: what was found in the cells gone through.
-use mathlib.Core.Path.{◌≡◌}
-use Prim.Native.Nat.{suc, ◌+◌, ◌-◌, ◌*◌, ◌≤◌}
-use lib.ListN.{length}
+use Prim.Native.Nat.{◌+◌, ◌-◌, ◌*◌, ◌≤◌}
 use Rattle.answers.specs.Limits.{byte_values, most_states}
 use Rattle.states.specs.Searching.{Searching}
 use Rattle.states.proofs.finding.find_row.Given as goal
 
 abbrev pub invariant-loop-byte : goal.invariant-loop-byte
 invariant-loop-byte l =
-    (l.byte ≤ byte_values) × (length l.sets ≡ length l.initial.sets) × (l.count ≤ l.found) × (l.found ≤ suc most_states)
+    (l.byte ≤ byte_values) × (l.count ≤ l.found) × (l.found ≤ most_states)
     × Searching l.readers l.follow l.sets l.found (l.state * byte_values + l.byte)
 
 abbrev pub decreases-loop-byte : goal.decreases-loop-byte

@@ -1,52 +1,58 @@
 -- `states::finding::turn` meets its contract: one cell more, and where what comes after was not met before one state more.
-use mathlib.Core.Path.{refl}
+use mathlib.Core.Path.{◌≡◌, refl, sym, ◌∙◌}
 use native.Mathlib.Omega.{arith}
-use Rattle.states.proofs.Turning.{search_met, search_new}
+use Rattle.sets.proofs.Promise.{decides_true, decides_false}
+use Rattle.moves.specs.Tables.{set_of}
+use Rattle.states.proofs.Turning.{sought_some, sought_none, search_nothing, search_met, search_new, search_past}
 use Rattle.states.proofs.finding.turn.Goals as goal
+use Rattle.states.proofs.finding.turn.Goals.{then-none-via-then-none, then-none-via-else-none+then-is_some, After-none}
 
-pub target-requires : goal.target-requires
-target-requires c =
-    (omega (arith, c.requires.0, c.requires.1), omega (arith, c.requires.1))
+-- what `none` was asked of
+abbrev empty : After-none → Type 0
+empty c = set_of c.after.new.next 0 ≡ 0
 
-pub overflow_cast-target : goal.overflow_cast-target
-overflow_cast-target c = omega arith
-
-pub keep-requires : goal.keep-requires
-keep-requires c =
-    omega (arith, c.requires.0, c.requires.1)
-
-pub overflow_add-result : goal.overflow_add-result
-overflow_add-result c =
-    omega (arith, c.requires.1)
-
-pub shape_of-sets-then-target-count : goal.shape_of-sets-then-target-count
-shape_of-sets-then-target-count c = c.keep.auto.sets
-
-pub returns-then-target-count : goal.returns-then-target-count
-returns-then-target-count c =
-    let kept = c.keep.ensures in
+pub returns-then-none : goal.returns-then-none
+unfolding set_of
+returns-then-none c =
     let args = c.args in
-    record {
-      long = kept.long;
-      more = omega arith;
-      few = omega arith;
-      searching =
-          search_new args.readers.now args.follow.now args.sets.now args.count args.state args.byte
-          c.ranges.byte.fits c.requires.2 c.requires.3 c.target.ensures c.if-target-count.true
-          c.requires.1 kept;
-    }
-
-pub shape_of-sets : goal.shape_of-sets
-shape_of-sets c = refl
-
-pub returns : goal.returns
-returns c =
-    let args = c.args in
+    let asked = empty (goal.at.returns-then-none c).After-none in
     record {
       long = refl;
       more = omega arith;
-      few = omega arith;
+      one = omega arith;
+      few = c.requires.1;
       searching =
-          search_met args.readers.now args.follow.now args.sets.now args.count args.state args.byte
-          c.ranges.byte.fits c.requires.2 c.requires.3 c.target.ensures c.if-target-count.false;
+          elim c.then-none.branch [
+            | then-none-via-then-none w ↦ search_nothing args.readers.now args.follow.now args.sets.now args.count args.state args.byte
+                c.ranges.byte.fits c.requires.2 c.requires.3 c.after.ensures (decides_true asked c.none.result c.none.ensures w.if-none.true)
+            | then-none-via-else-none+then-is_some w ↦
+                let met = sought_some args.sets.now args.count (set_of c.after.new.next 0) w.seek.result w.seek.ensures (sym w.is_some.ensures ∙ w.if-is_some.true) in
+                search_met args.readers.now args.follow.now args.sets.now args.count args.state args.byte
+                c.ranges.byte.fits c.requires.2 c.requires.3 c.after.ensures (decides_false asked c.none.result c.none.ensures w.if-none.false) met.1
+          ];
+    }
+
+pub returns-then-count-eq-MOST_STATES : goal.returns-then-count-eq-MOST_STATES
+unfolding set_of
+returns-then-count-eq-MOST_STATES c =
+    let args = c.args in
+    let full = decides_false (empty (goal.at.returns-then-count-eq-MOST_STATES c).After-none) c.none.result c.none.ensures c.if-none.false in
+    search_past args.readers.now args.follow.now args.sets.now args.count args.state args.byte c.ranges.byte.fits c.requires.2
+    c.requires.3 c.after.ensures full (sought_none args.sets.now args.count (set_of c.after.new.next 0) c.seek.result c.seek.ensures (sym c.is_some.ensures ∙ c.if-is_some.false))
+    (omega arith)
+
+pub returns : goal.returns
+unfolding set_of
+returns c =
+    let args = c.args in
+    let full = decides_false (empty (goal.at.returns c).After-none) c.none.result c.none.ensures c.if-none.false in
+    record {
+      long = c.keep.ensures.long;
+      more = omega arith;
+      one = omega arith;
+      few = omega (arith, c.requires.1, c.if-count-eq-MOST_STATES.false);
+      searching =
+          search_new args.readers.now args.follow.now args.sets.now args.count args.state args.byte c.ranges.byte.fits c.requires.2
+          c.requires.3 c.after.ensures full (sought_none args.sets.now args.count (set_of c.after.new.next 0) c.seek.result c.seek.ensures (sym c.is_some.ensures ∙ c.if-is_some.false))
+          c.keep.ensures;
     }
