@@ -6,7 +6,7 @@ use Prim.Native.Nat.{ℕ, zero, suc, ◌+◌, ◌≤◌}
 use native.Mathlib.Omega.{arith}
 use native.Mathlib.Nat.{add-zero}
 use lib.ListN.{length, get_or, take, drop, get_elem?, length-append, length-map}
-use lib.Seq.{get_or-append-add, take-length}
+use lib.Seq.{get_or-append-add}
 use Rattle.grammar.specs.Grammar.{Form, Production, Grammar, Rule}
 use Rattle.reader.specs.Book.{byte_of, record_bytes, records_bytes, bytes_of}
 use Rattle.reader.proofs.Records.{records_size, record_place, RecordAt}
@@ -77,8 +77,3 @@ module _ {g : Grammar} {p A : ℕ} {β : Form} (rule : Rule g p A β) where
   pub record_within : record_place g.productions p + 4 + length β ≤ length (bytes_of g)
   unfolding record_place bytes_of records_size
   record_within = omega (arith, records_size_suc g.productions p rule.at, records_size_take (suc p) g.productions, records_bytes_length g.productions)
-
--- behind the last record the book ends
-pub record_place_end : (g : Grammar) → record_place g.productions (length g.productions) ≡ length (bytes_of g)
-unfolding record_place bytes_of
-record_place_end g = rw take-length (omega (arith, records_bytes_length g.productions))

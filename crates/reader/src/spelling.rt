@@ -43,15 +43,17 @@ fn symbols(book: &[u8], from: usize, last: usize, t: u8, n: u8) -> Result<usize,
     requires { (from ≤ last) × (last ≤ length book.now) }
     ensures { result ≡ symbols_from book.now t n (last - from) (Ok from) }
 {
-    for at in from..last {
+    let mut at = from;
+    while at < last {
         if !is_symbol(book[at], t, n) {
             return Err(Fault {
                 why: Refusal::Symbol,
                 place: at,
             });
         }
+        at += 1;
     }
-    Ok(last)
+    Ok(at)
 }
 
 // A right side of so many symbols from `at` on.

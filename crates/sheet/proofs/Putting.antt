@@ -96,9 +96,6 @@ module _ (text : List ℕ) (at : ℕ) {blank symbols : List ℕ} {r : Places}
   pub listed_size : r.book ≡ length (right_in text most_symbols at)
   listed_size = omega (arith, put_room copies.put (omega (arith, fits)))
 
-  pub listed_small : r.book ≤ most_symbols
-  listed_small = omega (arith, listed_size, right_length text most_symbols at)
-
   pub listed_front : take r.book symbols ≡ right_in text most_symbols at
   listed_front = put_front copies.put fits
 

@@ -4,7 +4,7 @@ use Prim.Native.Char.{code}
 use Prim.Native.String.{String}
 use Prim.Native.String as string
 use Rattle.answers.specs.declared.refusals.Refusal.{Refusal}
-use Rattle.answers.specs.declared.refusals.Refusal.TheVariants as refusals
+use Rattle.answers.specs.declared.refusals.Refusal.TheVariants.{Short, Extra, Limit, Symbol, Form}
 
 -- the codes of a text's characters
 abbrev pub codes : String → List ℕ
@@ -39,12 +39,12 @@ row text why place = record { text = text; why = why; place = place }
 
 unfoldable pub refused_sheets : List Row
 refused_sheets =
-    row [] refusals.Form 0
-    ∷ row (lines (codes "04 4 0 6" ∷ [])) refusals.Form 1
-    ∷ row (codes "4 4 0 6") refusals.Form 7
-    ∷ row (lines (codes "4 4 4 6" ∷ [])) refusals.Limit 4
-    ∷ row (lines (codes "4 4 0 1" ∷ codes "n0 : t0 t0 t0 t0 t0 t0 t0 t0 t0 t0 t0 t0 t0 t0 t0 t0 t9" ∷ [])) refusals.Limit 61
-    ∷ row (lines (codes "4 4 0 1" ∷ codes "n0 : t4" ∷ [])) refusals.Symbol 14
-    ∷ row (lines (codes "4 4 0 6" ∷ [])) refusals.Short 8
-    ∷ row (lines (codes "4 4 0 1" ∷ codes "n0 :" ∷ codes "n9 :" ∷ [])) refusals.Extra 13
+    row [] Form 0
+    ∷ row (lines (codes "04 4 0 6" ∷ [])) Form 1
+    ∷ row (codes "4 4 0 6") Form 7
+    ∷ row (lines (codes "4 4 4 6" ∷ [])) Limit 4
+    ∷ row (lines (codes "4 4 0 1" ∷ codes "n0 : t0 t0 t0 t0 t0 t0 t0 t0 t0 t0 t0 t0 t0 t0 t0 t0 t9" ∷ [])) Limit 61
+    ∷ row (lines (codes "4 4 0 1" ∷ codes "n0 : t4" ∷ [])) Symbol 14
+    ∷ row (lines (codes "4 4 0 6" ∷ [])) Short 8
+    ∷ row (lines (codes "4 4 0 1" ∷ codes "n0 :" ∷ codes "n9 :" ∷ [])) Extra 13
     ∷ []
