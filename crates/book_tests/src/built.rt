@@ -34,10 +34,8 @@ fn put_link(book: &mut [u8], n: u8)
 
 fn put_links(book: &mut [u8]) {
     put_header(book, 64, 64);
-    let mut n: u8 = 0;
-    while n < 64 {
+    for n in 0..64 {
         put_link(book, n);
-        n += 1;
     }
 }
 
@@ -57,10 +55,8 @@ pub(crate) fn chain(rt: &impl Print) -> io::Result<()> {
 // Records of sixteen tokens 0.
 fn put_longest(book: &mut [u8]) {
     put_header(book, 1, 128);
-    let mut p: usize = 0;
-    while p < 128 {
+    for p in 0..128 {
         put_record(book, 6 + 20 * p, 0, 16);
-        p += 1;
     }
 }
 

@@ -1,4 +1,5 @@
 -- A call that lends an answer buffer: what it leaves when the answer is written, and that it allows one outcome if what it answers does.
+use Rattle.std.specs.Prelude.{Result}
 use mathlib.Core.Path.{◌≡◌, refl, sym, ap, ◌∙◌}
 use mathlib.Core.List.{List, [], ◌∷◌}
 use Prim.Native.Nat.{ℕ, ◌≤◌}
@@ -13,11 +14,10 @@ use Rattle.checker.specs.Calls.{CheckOutcome}
 use Rattle.checker.proofs.Promise.{check_outcome_unique}
 use Rattle.pieces.specs.Calls.{CutWithOutcome}
 use Rattle.pieces.proofs.Promise.{cut_with_unique}
-use Rattle.book.specs.declared.Reading.{Reading}
-use Rattle.book.proofs.Promise.{judged_unique}
-use Rattle.first.specs.declared.SetAnswer.{SetAnswer}
+use Rattle.book.proofs.Promise.{refuses_unique, refuses_not_serves}
+use Rattle.first.specs.declared.forms.Trail.{Trail}
 use Rattle.answers.proofs.Promise.{Unique}
-use Rattle.desk.specs.Desk.{answer_bytes, LentCell, JudgeOutcome, SetOutcome, Called, short, answered}
+use Rattle.desk.specs.Desk.{answer_bytes, LentCell, JudgeOutcome, refused, served, answer_in, set_in, vanishing_in, SetOutcome, TrailTold, Called, short, answered}
 
 -- the answer whose number is returned and whose bytes are written
 pub record AnswerOf {Buffers : Type 0} (Outcome : Answer → Buffers → Type 0) (answer : List ℕ) (n : ℕ) (after : Buffers) (answer' : List ℕ) : Type 0 where
@@ -27,9 +27,13 @@ pub record AnswerOf {Buffers : Type 0} (Outcome : Answer → Buffers → Type 0)
   pub written : answer' ≡ over (answer_bytes told) answer
 
 module _ {Buffers Enough : Type 0} {Outcome : Answer → Buffers → Type 0} {before : Buffers} {answer : List ℕ} where
-  pub answered_call : (a : Answer) {after : Buffers} {answer' : List ℕ} → Enough → Outcome a after → answer' ≡ over (answer_bytes a) answer
-      → Called Enough Outcome before answer a.number after answer'
-  answered_call a lent outcome written = rw written (answered lent outcome)
+  pub answered_call : (a : Answer) {after : Buffers} {n : ℕ} {answer' : List ℕ}
+      → Enough
+      → Outcome a after
+      → n ≡ a.number
+      → answer' ≡ over (answer_bytes a) answer
+      → Called Enough Outcome before answer n after answer'
+  answered_call a lent outcome number written = rw (number, written) (answered lent outcome)
 
   -- with enough lent there is an answer
   pub called_answer : {n : ℕ} {after : Buffers} {answer' : List ℕ} → Enough → Called Enough Outcome before answer n after answer' → AnswerOf Outcome answer n after answer'
@@ -65,18 +69,22 @@ three_unique Outcome same c d =
     (number, ap (λ (z : List ℕ × List ℕ × List ℕ). z.0) buffers, ap (λ (z : List ℕ × List ℕ × List ℕ). z.1) buffers, ap (λ (z : List ℕ × List ℕ × List ℕ). z.2) buffers, bytes)
 
 -- one answer with its set and its number leaves one buffer of each
-pub set_outcome_unique : {Told : SetAnswer → Type 0} {cells counts : List ℕ} → Unique Told → Unique (λ (x : Answer × List ℕ × List ℕ). SetOutcome Told cells counts x.0 x.1 x.2)
+pub set_outcome_unique : {Told : Result Trail Answer → Type 0} {cells counts : List ℕ} → Unique Told → Unique (λ (x : Answer × List ℕ × List ℕ). SetOutcome Told cells counts x.0 x.1 x.2)
 set_outcome_unique {cells = cells} {counts = counts} same x y o p =
     let told : o.told ≡ p.told = same o.told p.told o.outcome p.outcome in
     (λ i. (sym o.answer i, o.written i, o.counted i))
-    ∙ (λ i. ((told i).answer, over (number (told i).set ∷ []) cells, over ((told i).vanishing ∷ []) counts))
+    ∙ (λ i. (answer_in (told i), over (set_in (told i) ∷ []) cells, over (vanishing_in (told i) ∷ []) counts))
     ∙ (λ i. (p.answer i, sym p.written i, sym p.counted i))
 
--- one reading has one answer
+-- a book is judged one way
+judged_same : {book : List ℕ} {a b : Answer} → JudgeOutcome book a → JudgeOutcome book b → a ≡ b
+judged_same (refused r) (refused s) = refuses_unique r s
+judged_same (refused r) (served x) = absurd (refuses_not_serves r x.serves)
+judged_same (served x) (refused r) = absurd (refuses_not_serves r x.serves)
+judged_same (served x) (served y) = refl
+
 pub judge_outcome_unique : (book : List ℕ) → Unique (λ (x : Answer × Unit {0}). JudgeOutcome book x.0)
-judge_outcome_unique book x y o p =
-    let same : x.0 ≡ y.0 = sym o.answer ∙ ap (λ (r : Reading). r.answer) (judged_unique o.judged p.judged) ∙ p.answer in
-    λ i. (same i, tt)
+judge_outcome_unique book x y o p = let same : x.0 ≡ y.0 = judged_same o p in λ i. (same i, tt)
 
 -- a cut with given cells has one outcome
 pub cut_with_same : (machine line tokens ends : List ℕ)
@@ -103,16 +111,19 @@ first_written [] n h = absurd (omega arith)
 first_written (x ∷ cells) n h = refl
 
 -- a set and a number are written into the first cells of their buffers, and the answer over the answer buffer
-pub set_call : {Told : SetAnswer → Type 0} (r : SetAnswer) {cells counts answer answer' : List ℕ} → LentCell cells counts answer → Told r → answer' ≡ over (answer_bytes r.answer) answer
+pub set_call : {Told : Result Trail Answer → Type 0} (r : Result Trail Answer) {cells counts answer : List ℕ} {n : ℕ} {cells' counts' answer' : List ℕ}
+    → LentCell cells counts answer
+    → Told r
+    → TrailTold r cells counts answer n cells' counts' answer'
     → Called {Buffers = List ℕ × List ℕ} (LentCell cells counts answer) (λ a after. SetOutcome Told cells counts a after.0 after.1) (cells, counts) answer
-    r.answer.number (set cells 0 (number r.set), set counts 0 r.vanishing) answer'
-set_call r {cells} {counts} lent outcome written =
-    answered_call r.answer lent
+    n (cells', counts') answer'
+set_call r {cells} {counts} lent outcome told =
+    answered_call (answer_in r) lent
     (record {
       told = r;
       outcome = outcome;
       answer = refl;
-      written = first_written cells (number r.set) lent.cell;
-      counted = first_written counts r.vanishing lent.count;
+      written = told.written ∙ first_written cells (set_in r) lent.cell;
+      counted = told.counted ∙ first_written counts (vanishing_in r) lent.count;
     })
-    written
+    told.number told.bytes

@@ -28,10 +28,10 @@ use Rattle.cut.specs.Calls.{CutOutcome}
 use Rattle.cut.specs.Calls as cuts
 use Rattle.reader.specs.Book.{Limits}
 use Rattle.reader.proofs.Promise.{refused_kinds, read_limits}
-use Rattle.book.specs.declared.Reading.{Reading}
 use Rattle.book.specs.Judging.{Refuses, misread, useless_one, refusing, index_of, Judged, refuses, serves}
 use Rattle.book.proofs.Promise.{serves_limits}
-use Rattle.first.specs.declared.SetAnswer.{SetAnswer}
+use Rattle.first.specs.declared.forms.Trail.{Trail}
+use Rattle.desk.specs.Desk.{JudgeOutcome, refused, served, answer_in}
 use Rattle.first.specs.Calls.{FirstOutcome}
 use Rattle.follow.specs.Calls.{SetsRoom, no_first, no_follow, SetsOutcome, LookaheadOutcome}
 use Rattle.table.specs.Calls.{BuildOutcome}
@@ -168,10 +168,9 @@ room_fits l (no_first h) = refusal_fits 7 (omega (arith, l.nonterminals_fit)) (o
 room_fits l (no_follow h k) = refusal_fits 7 (omega (arith, l.nonterminals_fit)) (omega arith)
 
 -- of judging
-pub judge_fits : {book : List ℕ} {r : Reading} → length book < 2 ^ 64 → Judged book r → FitsWords r.answer
-unfolding refusing index_of
-judge_fits b (refuses r) = refused_fits b r
-judge_fits b (serves s) = done_fits 0 (omega arith)
+pub judge_fits : {book : List ℕ} {a : Answer} → length book < 2 ^ 64 → JudgeOutcome book a → FitsWords a
+judge_fits b (refused r) = refused_fits b r
+judge_fits b (served x) = done_fits 0 (omega arith)
 
 -- of the sets
 pub sets_fits : {book first follow : List ℕ} {a : Answer} {first' follow' : List ℕ} → length book < 2 ^ 64 → SetsOutcome book first follow a first' follow' → FitsWords a
@@ -204,17 +203,26 @@ check_fits b t (checks.differs s f n d) = refusal_fits 17 (omega (arith, d.insid
 check_fits b t (checks.passed p) = done_fits 0 (omega arith)
 
 -- of a lookahead
-pub lookahead_fits : {book : List ℕ} {production : ℕ} {r : SetAnswer} → length book < 2 ^ 64 → production < 2 ^ 64 → LookaheadOutcome book production r → FitsWords r.answer
-lookahead_fits b p (follow_calls.refused r k) = rw k.answer (refused_fits b r)
-lookahead_fits b p (follow_calls.no_production s h k) = rw k.answer (refusal_fits 12 p (omega arith))
-lookahead_fits b p (follow_calls.served s rule is leading) = rw is.answer (done_fits 0 (omega arith))
+pub lookahead_fits : {book : List ℕ} {production : ℕ} (r : Result Trail Answer)
+    → length book < 2 ^ 64
+    → production < 2 ^ 64
+    → LookaheadOutcome book production r
+    → FitsWords (answer_in r)
+unfolding answer_in
+lookahead_fits (Ok t) b p told = done_fits 0 (omega arith)
+lookahead_fits (Err a) b p (follow_calls.refused r) = refused_fits b r
+lookahead_fits (Err a) b p (follow_calls.no_production s h) = refusal_fits 12 p (omega arith)
 
 -- and of FIRST of a symbol string
-pub first_fits : {book symbols : List ℕ} {r : SetAnswer} → length book < 2 ^ 64 → FirstOutcome book symbols r → FitsWords r.answer
-first_fits b (first_calls.refused r k) = rw k.answer (refused_fits b r)
-first_fits b (first_calls.too_long s h k) = rw k.answer (refusal_fits 4 (omega arith) (omega arith))
-first_fits b (first_calls.strange s h f k) = rw k.answer (refusal_fits 5 (omega (arith, f.inside)) (omega arith))
-first_fits b (first_calls.served s h e is leading) = rw is.answer (done_fits 0 (omega arith))
+pub first_fits : {book symbols : List ℕ} (r : Result Trail Answer)
+    → length book < 2 ^ 64
+    → FirstOutcome book symbols r
+    → FitsWords (answer_in r)
+unfolding answer_in
+first_fits (Ok t) b told = done_fits 0 (omega arith)
+first_fits (Err a) b (first_calls.refused r) = refused_fits b r
+first_fits (Err a) b (first_calls.too_long s h) = refusal_fits 4 (omega arith) (omega arith)
+first_fits (Err a) b (first_calls.strange s h f) = refusal_fits 5 (omega (arith, f.inside)) (omega arith)
 
 pub patterns_fits : {patterns lengths : List ℕ} {a : Answer}
     → length patterns < 2 ^ 64

@@ -176,7 +176,7 @@ expand_call_exact b lent c = called_exact (λ a o. expand_fits b o) lent c.call
 
 pub judge_call_exact : {book answer : List ℕ} {n : ℕ} {x : List ℕ} → length book < 2 ^ 64
     → Lent answer → JudgeCall book answer n x → JudgeOutcome book (answer_from n x)
-judge_call_exact b lent c = called_exact (λ a o. subst FitsWords o.answer (judge_fits b o.judged)) lent c.call
+judge_call_exact b lent c = called_exact (λ a o. judge_fits b o) lent c.call
 
 pub check_call_exact : {book table answer : List ℕ} {n : ℕ} {x : List ℕ}
     → length book < 2 ^ 64
@@ -224,13 +224,13 @@ pub lookahead_call_exact : {book : List ℕ} {production : ℕ} {cells counts an
     → LookaheadCall book production cells counts answer n s l x
     → SetOutcome (LookaheadOutcome book production) cells counts (answer_from n x) s l
 lookahead_call_exact b p lent c =
-    called_exact (λ a o. subst FitsWords o.answer (lookahead_fits b p o.outcome)) lent c.call
+    called_exact (λ a o. subst FitsWords o.answer (lookahead_fits o.told b p o.outcome)) lent c.call
 
 pub first_call_exact : {book symbols cells counts answer : List ℕ} {n : ℕ} {s l x : List ℕ} → length book < 2 ^ 64
     → LentCell cells counts answer
     → FirstCall book symbols cells counts answer n s l x
     → SetOutcome (FirstOutcome book symbols) cells counts (answer_from n x) s l
-first_call_exact b lent c = called_exact (λ a o. subst FitsWords o.answer (first_fits b o.outcome)) lent c.call
+first_call_exact b lent c = called_exact (λ a o. subst FitsWords o.answer (first_fits o.told b o.outcome)) lent c.call
 
 pub write_sheet_call_exact : {book sheet answer : List ℕ} {n : ℕ} {s x : List ℕ}
     → length book < 2 ^ 64

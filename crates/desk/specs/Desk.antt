@@ -1,7 +1,7 @@
 -- What the C functions answer and leave in the lent buffers: the number is returned, and place, detail, steps, expected
 -- set and depth go into a lent answer buffer. Document 01, "Running and expanding": the restore desk's own program;
 -- document 02, W7.
-use Rattle.std.specs.Prelude.{◌≡◌, List, [], ◌∷◌, ◌++◌, ℕ, zero, suc, ◌/◌, ◌%◌, ◌≤◌, length}
+use Rattle.std.specs.Prelude.{◌≡◌, List, [], ◌∷◌, ◌++◌, ℕ, zero, suc, ◌/◌, ◌%◌, ◌≤◌, length, set, Result, Ok, Err}
 use Rattle.sets.specs.Calls.{number}
 use Rattle.answers.specs.declared.Answer.{Answer}
 use Rattle.answers.specs.Answers.{done}
@@ -10,9 +10,9 @@ use Rattle.answers.specs.Buffers.{over}
 use Rattle.patterns.specs.Calls.{JudgePatterns}
 use Rattle.pieces.specs.Calls.{CutWithOutcome}
 use Rattle.cut.specs.Calls.{CutOutcome}
-use Rattle.book.specs.declared.Reading.{Reading}
-use Rattle.book.specs.Judging.{Judged}
-use Rattle.first.specs.declared.SetAnswer.{SetAnswer}
+use Rattle.book.specs.declared.Index.{Index}
+use Rattle.book.specs.Judging.{Refuses, Indexes}
+use Rattle.first.specs.declared.forms.Trail.{Trail}
 use Rattle.first.specs.Calls.{FirstOutcome}
 use Rattle.follow.specs.Calls.{SetsOutcome, LookaheadOutcome}
 use Rattle.table.specs.Calls.{BuildOutcome}
@@ -51,11 +51,10 @@ pub data Called {Buffers : Type 0} (Enough : Type 0) (Outcome : Answer → Buffe
 abbrev pub Lent : List ℕ → Type 0
 Lent answer = answer_size ≤ length answer
 
--- the answer of a reading
-pub record JudgeOutcome (book : List ℕ) (a : Answer) : Type 0 where
-  pub reading : Reading
-  pub judged : Judged book reading
-  pub answer : reading.answer ≡ a
+-- the refusal of a book, or done
+pub data JudgeOutcome (book : List ℕ) : Answer → Type 0 where
+  refused : {a : Answer} → Refuses book a → JudgeOutcome book a
+  served : {i : Index} → Indexes book i → JudgeOutcome book (done 0)
 
 -- judging changes no other buffer
 pub record JudgeCall (book answer : List ℕ) (number : ℕ) (answer' : List ℕ) : Type 0 where
@@ -125,14 +124,35 @@ pub record LentCell (cells counts answer : List ℕ) : Type 0 where
   pub count : 1 ≤ length counts
   pub bytes : Lent answer
 
+-- the answer, the set and the number of what is found: done, or refused with the set 0 and the number 0
+unfoldable pub answer_in : Result Trail Answer → Answer
+answer_in (Ok t) = done 0
+answer_in (Err a) = a
+
+unfoldable pub set_in : Result Trail Answer → ℕ
+set_in (Ok t) = number t.set
+set_in (Err a) = 0
+
+unfoldable pub vanishing_in : Result Trail Answer → ℕ
+vanishing_in (Ok t) = t.vanishing
+vanishing_in (Err a) = 0
+
 -- an answer with its set and its number, each of which goes into the first cell of its buffer
-pub record SetOutcome (Told : SetAnswer → Type 0) (cells counts
+pub record SetOutcome (Told : Result Trail Answer → Type 0) (cells counts
     : List ℕ) (a : Answer) (cells' counts' : List ℕ) : Type 0 where
-  pub told : SetAnswer
+  pub told : Result Trail Answer
   pub outcome : Told told
-  pub answer : told.answer ≡ a
-  pub written : cells' ≡ over (number told.set ∷ []) cells
-  pub counted : counts' ≡ over (told.vanishing ∷ []) counts
+  pub answer : answer_in told ≡ a
+  pub written : cells' ≡ over (set_in told ∷ []) cells
+  pub counted : counts' ≡ over (vanishing_in told ∷ []) counts
+
+-- what is found is told
+pub record TrailTold (found : Result Trail Answer) (cells counts answer
+    : List ℕ) (n : ℕ) (cells' counts' answer' : List ℕ) : Type 0 where
+  pub number : n ≡ (answer_in found).number
+  pub written : cells' ≡ set cells 0 (set_in found)
+  pub counted : counts' ≡ set counts 0 (vanishing_in found)
+  pub bytes : answer' ≡ over (answer_bytes (answer_in found)) answer
 
 -- the lookahead of a production, and how many leading symbols of its right side can vanish
 pub record LookaheadCall (book

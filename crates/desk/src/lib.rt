@@ -3,12 +3,13 @@
 // all else, and nothing changes.
 #![tactic(auto)]
 
-ghost use Rattle.desk.specs.Desk.{JudgeCall, SetsCall, BuildCall, RunCall, ExpandCall, LookaheadCall, FirstCall};
+ghost use Rattle.desk.specs.Desk.{JudgeOutcome, JudgeCall, SetsCall, BuildCall, RunCall, ExpandCall, LookaheadCall, FirstCall};
 ghost use Rattle.desk.specs.Desk.{PatternsCall, CutCall, CutWithCall, CheckCall, SlrRunCall};
 ghost use Rattle.desk.specs.Plain.{PlainCall, PlainRunCall};
 
-use crate::words::{ANSWER_SIZE, write_answer};
-use answers::refusals::ROOM;
+use crate::words::{ANSWER_SIZE, tell, tell_trail};
+use answers::refusals::Refusal;
+use answers::{Answer, done};
 use book::judging::judge;
 use expand::expand;
 use pieces::cutting::cut_with;
@@ -41,11 +42,10 @@ pub extern "C" fn desk_run(
         answer.new }
 {
     if answer.len() < ANSWER_SIZE {
-        return ROOM;
+        return Refusal::Room.number();
     }
     let ran = run(book, table, tokens, stack, list);
-    write_answer(answer, ran);
-    ran.number
+    tell(answer, ran)
 }
 
 // A production list expanded to the tokens it derives.
@@ -69,25 +69,32 @@ pub extern "C" fn desk_expand(
         answer.new }
 {
     if answer.len() < ANSWER_SIZE {
-        return ROOM;
+        return Refusal::Room.number();
     }
     let expanded = expand(book, list, stack, tokens);
-    write_answer(answer, expanded);
-    expanded.number
+    tell(answer, expanded)
 }
 
 // The refusal 1 to 6 of a book, or done.
+fn judged(book: &[u8]) -> Answer
+    ensures { JudgeOutcome book.now result }
+{
+    match judge(book) {
+        Ok(_) => done(0),
+        Err(refused) => refused,
+    }
+}
+
+// The refusal 1 to 6 of a book, or done, into the lent buffer.
 #[unsafe(no_mangle)]
 pub extern "C" fn desk_judge(book: &[u8], answer: &mut [u8]) -> u32
     ensures { JudgeCall book.now answer.old result answer.new }
 {
     if answer.len() < ANSWER_SIZE {
-        return ROOM;
+        return Refusal::Room.number();
     }
-    let reading = judge(book);
-    let judged = reading.answer;
-    write_answer(answer, judged);
-    judged.number
+    let judged = judged(book);
+    tell(answer, judged)
 }
 
 // Whether a table is the one that building gives, whoever made it.
@@ -96,11 +103,10 @@ pub extern "C" fn desk_check_table(book: &[u8], table: &[u8], answer: &mut [u8])
     ensures { CheckCall book.now table.now answer.old result answer.new }
 {
     if answer.len() < ANSWER_SIZE {
-        return ROOM;
+        return Refusal::Room.number();
     }
     let checked = checker::check(book, table);
-    write_answer(answer, checked);
-    checked.number
+    tell(answer, checked)
 }
 
 // The refusal 1 to 6 of a book, or 21 where it is not plain, or done.
@@ -109,11 +115,10 @@ pub extern "C" fn desk_plain(book: &[u8], answer: &mut [u8]) -> u32
     ensures { PlainCall book.now answer.old result answer.new }
 {
     if answer.len() < ANSWER_SIZE {
-        return ROOM;
+        return Refusal::Room.number();
     }
     let tested = profile::plain::plain(book);
-    write_answer(answer, tested);
-    tested.number
+    tell(answer, tested)
 }
 
 // A token string run on a plain book alone.
@@ -137,11 +142,10 @@ pub extern "C" fn desk_plain_run(
         answer.new }
 {
     if answer.len() < ANSWER_SIZE {
-        return ROOM;
+        return Refusal::Room.number();
     }
     let ended = plain_run(book, tokens, stack, list);
-    write_answer(answer, ended);
-    ended.number
+    tell(answer, ended)
 }
 
 // The refusal 4 or 14 of patterns lent as their bytes and lengths, or done.
@@ -151,11 +155,10 @@ pub extern "C" fn desk_patterns(patterns: &[u8], lengths: &[u64], answer: &mut [
         result answer.new }
 {
     if answer.len() < ANSWER_SIZE {
-        return ROOM;
+        return Refusal::Room.number();
     }
     let told = patterns::judge(patterns, lengths);
-    write_answer(answer, told);
-    told.number
+    tell(answer, told)
 }
 
 // A line cut by patterns into tokens, with the machine that is made of them.
@@ -181,11 +184,10 @@ pub extern "C" fn desk_cut(
         answer.new }
 {
     if answer.len() < ANSWER_SIZE {
-        return ROOM;
+        return Refusal::Room.number();
     }
     let told = cut::cut(patterns, lengths, line, machine, tokens);
-    write_answer(answer, told);
-    told.number
+    tell(answer, told)
 }
 
 // A line cut with the cells of a machine, and the places behind its tokens.
@@ -209,11 +211,10 @@ pub extern "C" fn desk_cut_with(
         answer.new }
 {
     if answer.len() < ANSWER_SIZE {
-        return ROOM;
+        return Refusal::Room.number();
     }
     let told = cut_with(machine, line, tokens, ends);
-    write_answer(answer, told);
-    told.number
+    tell(answer, told)
 }
 
 // FIRST and FOLLOW of each nonterminal into the lent buffers.
@@ -235,11 +236,10 @@ pub extern "C" fn desk_sets(
         answer.new }
 {
     if answer.len() < ANSWER_SIZE {
-        return ROOM;
+        return Refusal::Room.number();
     }
     let filled = follow::sets(book, first, follow);
-    write_answer(answer, filled);
-    filled.number
+    tell(answer, filled)
 }
 
 // The sets and the table into the lent buffers.
@@ -264,11 +264,10 @@ pub extern "C" fn desk_build(
         answer.new }
 {
     if answer.len() < ANSWER_SIZE {
-        return ROOM;
+        return Refusal::Room.number();
     }
     let built = table::build(book, first, follow, table);
-    write_answer(answer, built);
-    built.number
+    tell(answer, built)
 }
 
 // The lookahead of a production, and how many leading symbols of its right side can vanish, each into the first cell of
@@ -293,16 +292,10 @@ pub extern "C" fn desk_lookahead(
         answer.new }
 {
     if set.len() < 1 || count.len() < 1 || answer.len() < ANSWER_SIZE {
-        return ROOM;
+        return Refusal::Room.number();
     }
     let found = follow::lookahead(book, production);
-    let ahead = found.set;
-    let looked = found.answer;
-    let reach = found.vanishing;
-    set[0] = ahead.word;
-    count[0] = reach;
-    write_answer(answer, looked);
-    looked.number
+    tell_trail(found, set, count, answer)
 }
 
 // FIRST of a symbol string, and how many of its leading symbols can vanish, each into the first cell of its buffer.
@@ -326,16 +319,10 @@ pub extern "C" fn desk_first_of(
         answer.new }
 {
     if set.len() < 1 || count.len() < 1 || answer.len() < ANSWER_SIZE {
-        return ROOM;
+        return Refusal::Room.number();
     }
     let found = first::first_of(book, symbols);
-    let begins = found.set;
-    let begun = found.answer;
-    let leading = found.vanishing;
-    set[0] = begins.word;
-    count[0] = leading;
-    write_answer(answer, begun);
-    begun.number
+    tell_trail(found, set, count, answer)
 }
 
 // A token string run bottom-up on a book and a table of actions and moves.
@@ -361,9 +348,8 @@ pub extern "C" fn desk_slr_run(
         answer.new }
 {
     if answer.len() < ANSWER_SIZE {
-        return ROOM;
+        return Refusal::Room.number();
     }
     let reduced = slr_run::running::run(book, table, tokens, stack, list);
-    write_answer(answer, reduced);
-    reduced.number
+    tell(answer, reduced)
 }

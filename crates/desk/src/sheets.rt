@@ -1,8 +1,8 @@
 // The calls of grammar sheets: a book's sheet written, and a sheet's book.
 ghost use Rattle.desk.specs.Desk.{WriteSheetCall, ReadSheetCall};
 
-use crate::words::{ANSWER_SIZE, write_answer};
-use answers::refusals::ROOM;
+use crate::words::{ANSWER_SIZE, tell};
+use answers::refusals::Refusal;
 use sheet::reading::read;
 use sheet::writing::write;
 
@@ -18,11 +18,10 @@ pub extern "C" fn desk_write_sheet(book: &[u8], sheet: &mut [u8], answer: &mut [
         answer.new }
 {
     if answer.len() < ANSWER_SIZE {
-        return ROOM;
+        return Refusal::Room.number();
     }
     let written = write(book, sheet);
-    write_answer(answer, written);
-    written.number
+    tell(answer, written)
 }
 
 // The book of a sheet into the lent buffer.
@@ -37,9 +36,8 @@ pub extern "C" fn desk_read_sheet(sheet: &[u8], book: &mut [u8], answer: &mut [u
         answer.new }
 {
     if answer.len() < ANSWER_SIZE {
-        return ROOM;
+        return Refusal::Room.number();
     }
     let told = read(sheet, book);
-    write_answer(answer, told);
-    told.number
+    tell(answer, told)
 }

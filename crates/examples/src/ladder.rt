@@ -1,20 +1,21 @@
 // Example L: a derivation that is longer than its string.
 use crate::showing::{end_line, show_answer, show_cells};
+use answers::refusals::DONE;
 use run::running::run;
 use std::io;
 
 // The first thirteen cells of a list.
 fn show_front(rt: &impl Print, list: &[u8]) -> io::Result<()> {
-    if 13 <= list.len() {
-        show_cells(rt, " list", &list[..13])?;
+    if let Some(front) = list.get(..13) {
+        show_cells(rt, " list", front)?;
     }
     Ok(())
 }
 
 // The cells from 2,044 on.
 fn show_back(rt: &impl Print, list: &[u8]) -> io::Result<()> {
-    if 2044 <= list.len() {
-        show_cells(rt, " ..", &list[2044..])?;
+    if let Some(back) = list.get(2044..) {
+        show_cells(rt, " ..", back)?;
     }
     Ok(())
 }
@@ -66,7 +67,7 @@ pub(crate) fn all(rt: &impl Print) -> io::Result<()> {
     let mut follow = [99u64; 11];
     let mut table = [99u8; 22];
     let built = table::build(book, &mut first, &mut follow, &mut table);
-    if built.number == 0 {
+    if built.number == DONE {
         climbs(rt, book, &table)?;
     }
     Ok(())

@@ -1,5 +1,6 @@
 // Examples A to G: runs on the house book.
 use crate::showing::{end_line, show_answer, show_cells};
+use answers::refusals::DONE;
 use run::running::run;
 use std::io;
 
@@ -89,7 +90,7 @@ pub(crate) fn all(rt: &impl Print, house: &[u8]) -> io::Result<()> {
     let mut follow = [99u64; 4];
     let mut table = [99u8; 20];
     let built = table::build(house, &mut first, &mut follow, &mut table);
-    if built.number == 0 {
+    if built.number == DONE {
         just_enough(rt, house, &table)?;
         with_room(rt, house, &table)?;
     }

@@ -16,8 +16,7 @@ fn show(book: &[u8], size: usize, text: &mut [u8]) -> usize
     requires { Roomy book.now size text.old }
     ensures { Shows book.now size text.new result }
 {
-    let listed = list(&book[..size], text);
-    listed.written
+    list(&book[..size], text).unwrap_or(0)
 }
 
 fn main(rt: HostRuntime) -> io::Result<()> {

@@ -17,6 +17,7 @@ use Rattle.text.specs.Text.{decimal, hexadecimal}
 use Rattle.text.proofs.Promise.{decimal_length, decimal_length_word, hexadecimal_length}
 use Rattle.answers.specs.declared.Answer.{Answer}
 use Rattle.answers.specs.Answers.{refusal}
+use Rattle.answers.specs.Refusals.{number_of}
 use Rattle.reader.specs.Book.{Limits}
 use Rattle.reader.proofs.Promise.{read_limits, refused_within}
 use Rattle.book.specs.Judging.{Refuses, misread, useless_one}
@@ -195,7 +196,7 @@ served_length {g} {first} {follow} {table} limits h k t =
 
 refusal_length : {book : List ℕ} {a : Answer} → Refuses book a → length (refused_line a) ≤ most_listed
 unfolding refusal
-refusal_length {book} (misread {number = n} {place = k} e) = omega (arith, refused_length (refusal n k 0) (omega (arith, refuses_number (misread e))) (omega (arith, refused_within book e)) (omega arith))
+refusal_length {book} (misread {why = w} {place = k} e) = omega (arith, refused_length (refusal (number_of w) k 0) (omega (arith, refuses_number (misread e))) (omega (arith, refused_within book e)) (omega arith))
 refusal_length {book} (useless_one {A = A} e lowest) = omega (arith, refused_length (refusal 6 A 0) (omega arith) (omega (arith, lowest.inside, (read_limits book e).nonterminals_fit)) (omega arith))
 
 conflict_length : {g : Grammar} {i p q : ℕ} → Limits g → FirstConflict g i p q → length (refused_line (refusal 8 i (p * 256 + q))) ≤ most_listed

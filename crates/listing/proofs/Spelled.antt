@@ -9,27 +9,28 @@ use lib.Dec.{leb, ltb}
 use lib.ListN.{length}
 use Rattle.grammar.specs.declared.Symbol.{Symbol}
 use Rattle.grammar.specs.Grammar.{Form, Production, Grammar}
-use Rattle.answers.specs.Refusals.{symbol}
+use Rattle.answers.specs.declared.refusals.Refusal.{Refusal}
+use Rattle.answers.specs.declared.refusals.Refusal.TheVariants as refusals
 use Rattle.reader.specs.Book.{Spelling, refused, reads, Rest, wanted, marked, symbol_of, symbols, records, ending, spells}
 use Rattle.book.specs.Judging.{Serves}
 use Rattle.listing.specs.Writing.{header_in, HeaderOf}
 
 -- whatever follows from how reading goes on follows from a grammar that is read
 module _ (g : Grammar) (Q : Type 0) where
-  never : (number place : ℕ) → refused number place ≡ reads g → Q
-  never number place e = let bad : ◌≡◌ {A = ℕ} 0 1 = cc in absurd (omega arith)
+  never : (why : Refusal) (place : ℕ) → refused why place ≡ reads g → Q
+  never why place e = let bad : ◌≡◌ {A = ℕ} 0 1 = cc in absurd (omega arith)
 
   -- a byte that is wanted is there
-  on_wanted : (low high refusal : ℕ) (next : ℕ → Rest) (bytes : List ℕ) (at : ℕ)
+  on_wanted : (low high : ℕ) (why : Refusal) (next : ℕ → Rest) (bytes : List ℕ) (at : ℕ)
       → ((byte : ℕ) (rest : List ℕ) → bytes ≡ byte ∷ rest → next byte rest (suc at) ≡ reads g → Q)
-      → wanted low high refusal next bytes at ≡ reads g
+      → wanted low high why next bytes at ≡ reads g
       → Q
   unfolding wanted
-  on_wanted low high refusal next [] at on e = never _ _ e
-  on_wanted low high refusal next (b ∷ bytes) at on e = by_test (leb low b && ltb b high) e
+  on_wanted low high why next [] at on e = never _ _ e
+  on_wanted low high why next (b ∷ bytes) at on e = by_test (leb low b && ltb b high) e
     where
       by_test : (fits : Bool)
-          → elim fits as (λ fits. Spelling) [ true ↦ next b bytes (suc at) | false ↦ refused refusal at ] ≡ reads g
+          → elim fits as (λ fits. Spelling) [ true ↦ next b bytes (suc at) | false ↦ refused why at ] ≡ reads g
           → Q
       by_test true e = on b bytes refl e
       by_test false e = never _ _ e
@@ -46,7 +47,7 @@ module _ (g : Grammar) (Q : Type 0) where
     where
       by_symbol : (o : Option Symbol)
           → ((s : Symbol) → symbols T N count (λ form. next (s ∷ form)) bytes (suc at) ≡ reads g → Q)
-          → elim o as (λ o. Spelling) [ none ↦ refused symbol at | some s ↦ symbols T N count (λ form. next (s ∷ form)) bytes (suc at) ] ≡ reads g
+          → elim o as (λ o. Spelling) [ none ↦ refused refusals.Symbol at | some s ↦ symbols T N count (λ form. next (s ∷ form)) bytes (suc at) ] ≡ reads g
           → Q
       by_symbol none on e = never _ _ e
       by_symbol (some s) on e = on s e

@@ -1,16 +1,18 @@
 -- What listing promises, one page: each theorem under the sentence that it proves.
+use Rattle.std.specs.Prelude.{Result, Ok, Err, IsOk}
+use Rattle.std.specs.Result.{result_unwrap_or}
 use mathlib.Core.Path.{◌≡◌}
 use mathlib.Core.Logic.{◌↔◌}
 use mathlib.Core.List.{List, []}
 use Prim.Native.Nat.{ℕ, ◌+◌, ◌≤◌, ◌<◌}
 use native.Mathlib.Omega.{arith}
 use lib.ListN.{length, take}
-use Rattle.answers.specs.Answers.{done}
+use Rattle.answers.specs.declared.Answer.{Answer}
+use Rattle.answers.specs.Answers.{refusal}
 use Rattle.answers.specs.Limits.{longest_book}
 use Rattle.answers.specs.Refusals.{room}
 use Rattle.book.specs.Examples.{house_book, useless_book}
 use Rattle.table.specs.Examples.{conflicted_house_book, nested_book}
-use Rattle.listing.specs.declared.TextAnswer.{TextAnswer}
 use Rattle.listing.specs.Listing.{Listing}
 use Rattle.listing.specs.Calls.{Listed, most_listed}
 use Rattle.listing.specs.Examples.{house_text, conflicted_house_text, useless_text, nested_text, nothing_text}
@@ -25,7 +27,7 @@ pub listing_unique : {book one other : List ℕ} → Listing book one → Listin
 listing_unique = unique.listing_unique
 
 -- listing a book into a buffer has one outcome: the answer, and what stands in the buffer
-pub listed_unique : {book before after after' : List ℕ} {r r' : TextAnswer}
+pub listed_unique : {book before after after' : List ℕ} {r r' : Result ℕ Answer}
     → Listed book before r after
     → Listed book before r' after'
     → (r ≡ r') × (after ≡ after')
@@ -35,25 +37,27 @@ listed_unique = unique.listed_unique
 pub listing_length : {book text : List ℕ} → Listing book text → length text ≤ most_listed
 listing_length = lengths.listing_length
 
-module _ {book before after : List ℕ} {r : TextAnswer} where
+module _ {book before after : List ℕ} {r : Result ℕ Answer} where
   -- no more is written than there is room for
-  pub listed_within : Listed book before r after → r.written ≤ length after
+  pub listed_within : Listed book before r after → result_unwrap_or r 0 ≤ length after
   listed_within = whole.listed_within
 
   -- 7 is given exactly if the listing is longer than the buffer
   pub listed_room : {text : List ℕ}
       → Listing book text
       → Listed book before r after
-      → (r.answer.number ≡ room) ↔ (length before < length text)
+      → (r ≡ Err (refusal room (length text) 0)) ↔ (length before < length text)
   listed_room = whole.listed_room
 
   -- with room for the longest listing it is done
-  pub listed_done : most_listed ≤ length before → Listed book before r after → r.answer ≡ done 0
+  pub listed_done : most_listed ≤ length before → Listed book before r after → IsOk r
   listed_done = whole.listed_done
 
-  -- and where it is done, what is written is the listing
-  pub listed_front : r.answer ≡ done 0 → Listed book before r after → Listing book (take r.written after)
-  listed_front = whole.listed_front
+-- and where it is done, what is written is the listing
+pub listed_front : {book before after : List ℕ} {n : ℕ}
+    → Listed book before (Ok n) after
+    → Listing book (take n after)
+listed_front = whole.listed_front
 
 -- a longer book is listed by its first 2,567 bytes
 pub listing_by_beginning : (book : List ℕ) {text : List ℕ}
@@ -61,10 +65,10 @@ pub listing_by_beginning : (book : List ℕ) {text : List ℕ}
 listing_by_beginning = beginning.listing_by_beginning (longest_book + 1) (omega arith)
 
 -- so a program that reads no more of its input, and has room for the longest listing, writes the listing of all of it
-pub beginning_listed : (input : List ℕ) {before after : List ℕ} {r : TextAnswer}
+pub beginning_listed : (input : List ℕ) {before after : List ℕ} {r : Result ℕ Answer}
     → most_listed ≤ length before
     → Listed (take (longest_book + 1) input) before r after
-    → Listing input (take r.written after)
+    → Listing input (take (result_unwrap_or r 0) after)
 beginning_listed = whole.beginning_listed (longest_book + 1) (omega arith)
 
 -- H is listed as document 01 prints it

@@ -1,4 +1,5 @@
 -- A book has one listing, and listing it allows one outcome.
+use Rattle.std.specs.Prelude.{Result}
 use mathlib.Core.Path.{◌≡◌, refl, sym, ◌∙◌, ap}
 use mathlib.Core.Logic.{◌⊎◌, inl, inr}
 use mathlib.Core.List.{List}
@@ -17,7 +18,6 @@ use Rattle.table.specs.Table.{TableOf, FirstConflict}
 use Rattle.answers.proofs.Promise.{Unique}
 use Rattle.first.proofs.Promise.{sets_unique, OfBook, of_refusal, of_grammar, of_book_unique}
 use Rattle.table.proofs.Promise.{table_unique, first_conflict_unique, table_no_conflict, first_is_conflict}
-use Rattle.listing.specs.declared.TextAnswer.{TextAnswer}
 use Rattle.listing.specs.Listing.{refused_line, served_text, Listing, refused, conflicted, served}
 use Rattle.listing.specs.Calls.{Listed, listed, no_room}
 
@@ -76,7 +76,7 @@ pub listing_unique : {book one other : List ℕ} → Listing book one → Listin
 listing_unique {one = one} {other = other} a b = of_book_unique refusal_unique grammar_unique one other (of_listing a) (of_listing b)
 
 -- listing a book into a buffer has one outcome
-pub listed_unique : {book before after after' : List ℕ} {r r' : TextAnswer}
+pub listed_unique : {book before after after' : List ℕ} {r r' : Result ℕ Answer}
     → Listed book before r after
     → Listed book before r' after'
     → (r ≡ r') × (after ≡ after')

@@ -1,4 +1,6 @@
 -- How much of a listing is written: with room for the longest all of it, and none where the buffer is shorter than the listing.
+use Rattle.std.specs.Prelude.{Result, Ok, Err, IsOk}
+use Rattle.std.specs.Result.{result_unwrap_or}
 use mathlib.Core.Path.{◌≡◌, refl, ap}
 use mathlib.Core.Logic.{◌↔◌}
 use mathlib.Core.List.{List}
@@ -10,10 +12,9 @@ use lib.Seq.{take_at}
 use Rattle.text.specs.Text.{Put}
 use Rattle.text.proofs.Promise.{put_length, put_room, put_cells, put_front}
 use Rattle.answers.specs.declared.Answer.{Answer}
-use Rattle.answers.specs.Answers.{done, refusal}
+use Rattle.answers.specs.Answers.{refusal}
 use Rattle.answers.specs.Limits.{longest_book}
 use Rattle.answers.specs.Refusals.{room}
-use Rattle.listing.specs.declared.TextAnswer.{TextAnswer}
 use Rattle.listing.specs.Listing.{Listing}
 use Rattle.listing.specs.Calls.{Listed, listed, no_room, most_listed}
 use Rattle.listing.specs.Writing.{Written}
@@ -40,7 +41,7 @@ module _ {book blank text before : List ℕ} {size : ℕ} (w : Written book blan
   pub listed_by : {after : List ℕ} {next : ℕ}
       → size ≤ length before
       → Put before 0 (take size text) after next
-      → Listed book before (record { answer = done 0; written = next }) after
+      → Listed book before (Ok next) after
   listed_by small p =
       let is = written_front w enough in
       let fit : length w.text ≤ length before = omega (arith, written_size w enough) in
@@ -48,49 +49,47 @@ module _ {book blank text before : List ℕ} {size : ℕ} (w : Written book blan
       let q = rw is at p in
       rw (put_room q all, put_cells q all, zero-add) (listed w.listing fit)
 
-  pub unlisted_by : length before < size → Listed book before (record { answer = refusal room size 0; written = 0 }) before
+  pub unlisted_by : length before < size → Listed book before (Err (refusal room size 0)) before
   unlisted_by short =
       let is = written_size w enough in
       rw is (no_room w.listing (omega (arith, is)))
 
 -- no more is written than there is room for
-pub listed_within : {book before after : List ℕ} {r : TextAnswer} → Listed book before r after → r.written ≤ length after
+pub listed_within : {book before after : List ℕ} {r : Result ℕ Answer} → Listed book before r after → result_unwrap_or r 0 ≤ length after
 listed_within {before = before} (listed {text = text} l small) = omega (arith, length-append text (drop (length text) before))
 listed_within (no_room l short) = omega arith
 
 -- the buffer is too short exactly if the listing is longer
-pub listed_room : {book before after text : List ℕ} {r : TextAnswer}
+pub listed_room : {book before after text : List ℕ} {r : Result ℕ Answer}
     → Listing book text
     → Listed book before r after
-    → (r.answer.number ≡ room) ↔ (length before < length text)
-unfolding done refusal
-listed_room l (listed k small) = (λ same. absurd (omega arith), λ short. absurd (omega (arith, ap length (listing_unique l k))))
-listed_room l (no_room k short) = (λ same. omega (arith, ap length (listing_unique l k)), λ short. refl)
+    → (r ≡ Err (refusal room (length text) 0)) ↔ (length before < length text)
+listed_room l (listed k small) = (λ same. cc, λ short. absurd (omega (arith, ap length (listing_unique l k))))
+listed_room l (no_room k short) =
+    (λ same. omega (arith, ap length (listing_unique l k)), λ short'. rw (listing_unique l k) refl)
 
 -- with room for the longest listing it is done
-pub listed_done : {book before after : List ℕ} {r : TextAnswer}
+pub listed_done : {book before after : List ℕ} {r : Result ℕ Answer}
     → most_listed ≤ length before
     → Listed book before r after
-    → r.answer ≡ done 0
+    → IsOk r
 listed_done enough (listed l small) = refl
 listed_done enough (no_room l short) = absurd (omega (arith, listing_length l))
 
 -- and where it is done, what is written is the listing
-pub listed_front : {book before after : List ℕ} {r : TextAnswer}
-    → r.answer ≡ done 0
-    → Listed book before r after
-    → Listing book (take r.written after)
-unfolding done refusal
-listed_front {before = before} is (listed {text = text} l small) =
+pub listed_front : {book before after : List ℕ} {n : ℕ}
+    → Listed book before (Ok n) after
+    → Listing book (take n after)
+listed_front {before = before} (listed {text = text} l small) =
     rw (take_at text (drop (length text) before) (length text) refl) l
-listed_front is (no_room l short) = absurd (omega (arith, ap (λ (a : Answer). a.number) is))
 
 -- whoever reads only the first 2,567 bytes writes the listing of all that there is to read
 pub beginning_listed : (m : ℕ)
     → longest_book < m
-    → (input : List ℕ) {before after : List ℕ} {r : TextAnswer}
+    → (input : List ℕ) {before after : List ℕ} {r : Result ℕ Answer}
     → most_listed ≤ length before
     → Listed (take m input) before r after
-    → Listing input (take r.written after)
-beginning_listed m past input enough l =
-    (listing_by_beginning m past input).0 (listed_front (listed_done enough l) l)
+    → Listing input (take (result_unwrap_or r 0) after)
+beginning_listed m past input enough (listed l small) =
+    (listing_by_beginning m past input).0 (listed_front (listed l small))
+beginning_listed m past input enough (no_room l short) = absurd (omega (arith, listing_length l))

@@ -5,11 +5,12 @@ ghost use Rattle.std.specs.Prelude.{◌≤◌, length};
 ghost use Rattle.listing.specs.Calls.{Listed};
 ghost use Rattle.listing.specs.Writing.{ServedPut, Written};
 
-use crate::header::{Header, header_in};
+use crate::header::header_in;
 use crate::lines::{grammar_line, refused_line};
 use answers::limits::{MOST_NONTERMINALS, MOST_TOKENS};
-use answers::refusals::{DONE, ROOM};
-use answers::{Answer, done, refusal};
+use answers::refusals::{DONE, Refusal};
+use answers::{Answer, refusal};
+use book::columns::Outline;
 use showing::lines::{row_lines, set_lines};
 use table::build;
 use text::put_all;
@@ -25,15 +26,8 @@ const CELLS: usize = SETS * (MOST_TOKENS as usize + 1);
 // No listing is longer.
 pub const LONGEST_LISTING: usize = 19989;
 
-// An answer, and how many bytes of text were written.
-#[derive(Clone, Copy)]
-pub struct TextAnswer {
-    pub answer: Answer,
-    pub written: usize,
-}
-
 // The grammar's line, and the lines of its sets and its table.
-fn served(out: &mut [u8], header: Header, first: &[u64], follow: &[u64], table: &[u8]) -> usize
+fn served(out: &mut [u8], header: Outline, first: &[u64], follow: &[u64], table: &[u8]) -> usize
     requires { (header.nonterminals ≤ length first.now) × (header.nonterminals ≤ length follow.now) }
     ensures { ServedPut header first.now follow.now table.now
         out.old out.new result }
@@ -60,21 +54,15 @@ fn write(book: &[u8], out: &mut [u8]) -> usize
     }
 }
 
-// The listing of a book into the lent buffer; where that is too short, nothing is written, and the place is how many
-// bytes are needed.
-pub fn list(book: &[u8], out: &mut [u8]) -> TextAnswer
+// The listing of a book into the lent buffer, and how many bytes were written; where the buffer is too short, nothing
+// is written, and the place is how many bytes are needed.
+pub fn list(book: &[u8], out: &mut [u8]) -> Result<usize, Answer>
     ensures { Listed book.now out.old result out.new }
 {
     let mut text = [0u8; LONGEST_LISTING];
     let size = write(book, &mut text);
     if out.len() < size {
-        return TextAnswer {
-            answer: refusal(ROOM, size as u64, 0),
-            written: 0,
-        };
+        return Err(refusal(Refusal::Room, size as u64, 0));
     }
-    TextAnswer {
-        answer: done(0),
-        written: put_all(out, 0, &text[..size]),
-    }
+    Ok(put_all(out, 0, &text[..size]))
 }

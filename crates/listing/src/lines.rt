@@ -3,8 +3,8 @@ ghost use Rattle.text.specs.Text.{Put};
 ghost use Rattle.listing.specs.Listing.{refused_line};
 ghost use Rattle.listing.specs.Writing.{GrammarPut};
 
-use crate::header::Header;
 use answers::Answer;
+use book::columns::Outline;
 use showing::lines::numbers_line;
 
 // The refusal's number, place and detail.
@@ -16,7 +16,7 @@ pub(crate) fn refused_line(out: &mut [u8], answer: Answer) -> usize
 }
 
 // T, N, start and P of the grammar whose header this is.
-pub(crate) fn grammar_line(out: &mut [u8], header: Header) -> usize
+pub(crate) fn grammar_line(out: &mut [u8], header: Outline) -> usize
     ensures { GrammarPut header out.old out.new result }
 {
     let numbers = [

@@ -1,14 +1,16 @@
 -- What is found of one production by the columns of an index, and what the profile of a reading comes to.
 -- Request W14. Only contracts inside the crate cite what stands here.
-use Rattle.std.specs.Prelude.{◌≡◌, Bool, List, ℕ, ◌<◌, get_or}
-use Rattle.grammar.specs.Plain.{Breaks}
+use Rattle.std.specs.Prelude.{◌≡◌, Bool, Result, MatchResult, List, ℕ, ◌<◌, get_or}
+use Rattle.grammar.specs.Grammar.{Grammar}
+use Rattle.grammar.specs.Plain.{Breaks, LowestBreak}
 use Rattle.sets.specs.Calls.{Decides}
 use Rattle.answers.specs.declared.Answer.{Answer}
-use Rattle.book.specs.declared.Reading.{Reading}
-use Rattle.book.specs.declared.columns.Outline.{Outline}
-use Rattle.book.specs.Columns.{outlined, Lefts, Lengths, Heads}
-use Rattle.book.specs.Judging.{Judged}
-use Rattle.profile.specs.Plain.{PlainOutcome}
+use Rattle.answers.specs.Answers.{refusal}
+use Rattle.answers.specs.Refusals.{profile}
+use Rattle.book.specs.declared.Index.{Index}
+use Rattle.book.specs.Columns.{grammar_in, Lefts, Lengths, Heads}
+use Rattle.book.specs.Judging.{Refuses, Serves}
+use Rattle.profile.specs.Entering.{PlainBook}
 
 -- two productions have the same left side and the same first byte
 pub record Alike (lefts heads : List ℕ) (q p : ℕ) : Type 0 where
@@ -23,14 +25,19 @@ pub record Shared (lefts heads : List ℕ) (p : ℕ) : Type 0 where
 
 -- whether p breaks the profile of any book with these columns, where no lower production does
 pub record BreaksAt (lefts lengths heads : List ℕ) (p : ℕ) (r : Bool) : Type 0 where
-  pub decides : (book places : List ℕ) (o : Outline)
-      → Lefts book places o lefts
-      → Lengths book places o lengths
-      → Heads book places o heads
-      → p < o.productions
-      → ((q : ℕ) → q < p → ¬ Breaks (outlined book places o) q)
-      → Decides r (Breaks (outlined book places o) p)
+  pub decides : (book : List ℕ) (i : Index)
+      → Lefts book i lefts
+      → Lengths book i lengths
+      → Heads book i heads
+      → p < i.outline.productions
+      → ((q : ℕ) → q < p → ¬ Breaks (grammar_in book i) q)
+      → Decides r (Breaks (grammar_in book i) p)
 
--- the profile of a book, on what judging gives
-pub record Profiled (book : List ℕ) (reading : Reading) (r : Answer) : Type 0 where
-  pub outcome : Judged book reading → PlainOutcome book r
+-- the refusal 1 to 6, or 21 at the lowest production that breaks the profile
+pub data PlainRefused (book : List ℕ) : Answer → Type 0 where
+  refused : {a : Answer} → Refuses book a → PlainRefused book a
+  unfit : {g : Grammar} {p : ℕ} → Serves book g → LowestBreak g p → PlainRefused book (refusal profile p 0)
+
+-- the index of a plain book, or what it is refused with
+abbrev pub Profiled : List ℕ → Result Index Answer → Type 0
+Profiled book r = MatchResult r (PlainBook book) (PlainRefused book)

@@ -4,8 +4,8 @@ use Rattle.std.specs.Prelude.{List, ℕ}
 use Rattle.grammar.specs.Grammar.{Grammar}
 use Rattle.grammar.specs.Plain.{Plain}
 use Rattle.reader.specs.Book.{Limits}
-use Rattle.book.specs.declared.Reading.{Reading}
-use Rattle.first.specs.Forms.{Given}
+use Rattle.book.specs.declared.Index.{Index}
+use Rattle.book.specs.Judging.{Indexes}
 use Rattle.table.specs.Table.{size}
 use Rattle.table.specs.Vacancy.{Vacancy}
 
@@ -15,12 +15,12 @@ pub record Enterable (g : Grammar) (cells : List ℕ) : Type 0 where
   pub limits : Limits g
   pub vacant : Vacancy (size g) cells
 
--- the reading is the index of a plain book
-pub record PlainBook (book : List ℕ) (reading : Reading) : Type 0 where
-  pub given : Given book reading
+-- the index is of a plain book
+pub record PlainBook (book : List ℕ) (index : Index) : Type 0 where
+  pub given : Indexes book index
   pub plain : Plain given.grammar
 
 -- and these are vacant cells for its table
-pub record PlainCells (book : List ℕ) (reading : Reading) (cells : List ℕ) : Type 0 where
-  pub book_is : PlainBook book reading
+pub record PlainCells (book : List ℕ) (index : Index) (cells : List ℕ) : Type 0 where
+  pub book_is : PlainBook book index
   pub vacant : Vacancy (size book_is.given.grammar) cells

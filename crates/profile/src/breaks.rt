@@ -1,11 +1,13 @@
 // The lowest production by which a book breaks the profile.
 ghost use Rattle.grammar.specs.Plain.{Breaks};
 ghost use Rattle.sets.specs.Calls.{Decides};
-ghost use Rattle.answers.specs.Lowest.{Lowest};
-ghost use Rattle.book.specs.Columns.{outlined};
+ghost use Rattle.answers.specs.Lowest.{LowestIn};
+ghost use Rattle.book.specs.Columns.{grammar_in};
 ghost use Rattle.profile.specs.Breaking.{Alike, Shared, BreaksAt};
 
-use book::columns::{Outline, gather_heads, gather_lefts, gather_lengths, gathered};
+use answers::buffers::cell_or;
+use book::Index;
+use book::columns::{gather_heads, gather_lefts, gather_lengths};
 
 // Bytes from here on are nonterminals.
 const FIRST_NONTERMINAL: u8 = 128;
@@ -14,23 +16,18 @@ const FIRST_NONTERMINAL: u8 = 128;
 fn alike(lefts: &[u8], heads: &[u8], q: u8, p: u8) -> bool
     ensures { Decides result (Alike lefts.now heads.now q p) }
 {
-    if gathered(lefts, q) == gathered(lefts, p) {
-        gathered(heads, q) == gathered(heads, p)
-    } else {
-        false
-    }
+    let (q, p) = (q as usize, p as usize);
+    cell_or(lefts, q, 0) == cell_or(lefts, p, 0) && cell_or(heads, q, 0) == cell_or(heads, p, 0)
 }
 
 // Whether a lower production has the left side and the first byte of production p.
 fn shares(lefts: &[u8], heads: &[u8], p: u8) -> bool
     ensures { Decides result (Shared lefts.now heads.now p) }
 {
-    let mut q: u8 = 0;
-    while q < p {
+    for q in 0..p {
         if alike(lefts, heads, q, p) {
             return true;
         }
-        q += 1;
     }
     false
 }
@@ -39,31 +36,29 @@ fn shares(lefts: &[u8], heads: &[u8], p: u8) -> bool
 fn breaks(lefts: &[u8], lengths: &[u8], heads: &[u8], p: u8) -> bool
     ensures { BreaksAt lefts.now lengths.now heads.now p result }
 {
-    if gathered(lengths, p) == 0 {
+    if cell_or(lengths, p as usize, 0) == 0 {
         return true;
     }
-    if FIRST_NONTERMINAL <= gathered(heads, p) {
+    if FIRST_NONTERMINAL <= cell_or(heads, p as usize, 0) {
         return true;
     }
     shares(lefts, heads, p)
 }
 
-// The lowest production that breaks the profile, or the number of productions.
-pub(crate) fn first_break(book: &[u8], places: &[u16], outline: Outline) -> u8
-    ensures { Lowest
-        (Breaks (outlined book.now places.now outline))
-        outline.productions
+// The lowest production that breaks the profile.
+pub(crate) fn first_break(book: &[u8], index: &Index) -> Option<u8>
+    ensures { LowestIn
+        (Breaks (grammar_in book.now index.now))
+        index.now.outline.productions
         result }
 {
-    let lefts = gather_lefts(book, places, outline);
-    let lengths = gather_lengths(book, places, outline);
-    let heads = gather_heads(book, places, outline);
-    let mut p: u8 = 0;
-    while p < outline.productions {
+    let lefts = gather_lefts(book, index);
+    let lengths = gather_lengths(book, index);
+    let heads = gather_heads(book, index);
+    for p in 0..index.outline.productions {
         if breaks(&lefts, &lengths, &heads, p) {
-            return p;
+            return Some(p);
         }
-        p += 1;
     }
-    p
+    None
 }

@@ -1,34 +1,28 @@
 // The test of the profile, and the run on a plain book: judging, the profile, a table of its own, checks and steps.
+ghost use Rattle.std.specs.Prelude.{◌≡◌, ◌+◌, ◌*◌, ◌≤◌};
 ghost use Rattle.profile.specs.Plain.{PlainOutcome, PlainRunOutcome};
 ghost use Rattle.profile.specs.Entering.{PlainBook, PlainCells};
 ghost use Rattle.profile.specs.Breaking.{Profiled};
 
 use crate::breaks::first_break;
 use crate::heads::enter_heads;
-use answers::refusals::{DONE, PROFILE};
+use answers::refusals::Refusal;
 use answers::{Answer, done, refusal};
-use book::Reading;
-use book::columns::outline_of;
+use book::Index;
+use book::columns::Outline;
 use book::judging::judge;
 use run::checking::check_tokens;
 use run::running::run_judged;
-use table::vacancy::{FEW, vacant_few, vacant_most};
+use table::vacancy::{FEW, MOST, vacant};
 
-// The refusal 1 to 6 that a reading has, or refusal 21, or done.
-fn profile_of(book: &[u8], reading: Reading) -> Answer
-    ensures { Profiled book.now reading result }
+// The index of a plain book, or the refusal 1 to 6 or 21.
+fn profile_of(book: &[u8]) -> Result<Index, Answer>
+    ensures { Profiled book.now result }
 {
-    let judged = reading.answer;
-    if judged.number != DONE {
-        return judged;
-    }
-    let places = reading.places;
-    let outline = outline_of(reading);
-    let broken = first_break(book, &places, outline);
-    if broken < outline.productions {
-        refusal(PROFILE, broken as u64, 0)
-    } else {
-        done(0)
+    let index = judge(book)?;
+    match first_break(book, &index) {
+        Some(broken) => Err(refusal(Refusal::Profile, broken as u64, 0)),
+        None => Ok(index),
     }
 }
 
@@ -36,20 +30,29 @@ fn profile_of(book: &[u8], reading: Reading) -> Answer
 pub fn plain(book: &[u8]) -> Answer
     ensures { PlainOutcome book.now result }
 {
-    let reading = judge(book);
-    profile_of(book, reading)
+    if let Err(refused) = profile_of(book) {
+        return refused;
+    }
+    done(0)
+}
+
+// How many cells the table of a book has.
+fn table_size(outline: Outline) -> usize
+    ensures { result ≡ outline.nonterminals * (outline.tokens + 1) }
+{
+    outline.nonterminals as usize * (outline.tokens as usize + 1)
 }
 
 // A run on the table of a plain book, made in these cells; it fits, and is not checked.
 fn run_entered(
     book: &[u8],
-    reading: Reading,
+    index: &Index,
     tokens: &[u8],
     cells: &mut [u8],
     stack: &mut [u8],
     list: &mut [u8],
 ) -> Answer
-    requires { PlainCells book.now reading cells.old }
+    requires { PlainCells book.now index.now cells.old }
     ensures { PlainRunOutcome
         book.now
         tokens.now
@@ -59,25 +62,24 @@ fn run_entered(
         stack.new
         list.new }
 {
-    let places = reading.places;
-    let outline = outline_of(reading);
-    enter_heads(book, &places, outline, cells);
-    let checked = check_tokens(tokens, outline.tokens);
-    if checked.number != DONE {
-        return checked;
+    enter_heads(book, index, cells);
+    if let Err(barred) = check_tokens(tokens, index.outline.tokens) {
+        return barred;
     }
-    run_judged(book, reading, cells, tokens, stack, list)
+    run_judged(book, Ok(*index), cells, tokens, stack, list)
 }
 
-// A run on a plain book, with cells for a small table or for the largest.
-fn run_plain(
+// A run on a plain book whose table has at most N cells.
+fn run_within<const N: usize>(
     book: &[u8],
-    reading: Reading,
+    index: &Index,
     tokens: &[u8],
     stack: &mut [u8],
     list: &mut [u8],
 ) -> Answer
-    requires { PlainBook book.now reading }
+    requires plain { PlainBook book.now index.now }
+    requires fits { index.now.outline.nonterminals * (index.now.outline.tokens + 1) ≤ N }
+    requires few { N ≤ 4032 }
     ensures { PlainRunOutcome
         book.now
         tokens.now
@@ -87,13 +89,28 @@ fn run_plain(
         stack.new
         list.new }
 {
-    let size = reading.nonterminals as usize * (reading.tokens as usize + 1);
+    let size = table_size(index.outline);
+    let mut cells = vacant::<N>();
+    run_entered(book, index, tokens, &mut cells[..size], stack, list)
+}
+
+// A run on a plain book, with cells for a small table or for the largest.
+fn run_plain(book: &[u8], index: &Index, tokens: &[u8], stack: &mut [u8], list: &mut [u8]) -> Answer
+    requires { PlainBook book.now index.now }
+    ensures { PlainRunOutcome
+        book.now
+        tokens.now
+        stack.old
+        list.old
+        result
+        stack.new
+        list.new }
+{
+    let size = table_size(index.outline);
     if size <= FEW {
-        let mut cells = vacant_few();
-        run_entered(book, reading, tokens, &mut cells[..size], stack, list)
+        run_within::<FEW>(book, index, tokens, stack, list)
     } else {
-        let mut cells = vacant_most();
-        run_entered(book, reading, tokens, &mut cells[..size], stack, list)
+        run_within::<MOST>(book, index, tokens, stack, list)
     }
 }
 
@@ -108,10 +125,8 @@ pub fn plain_run(book: &[u8], tokens: &[u8], stack: &mut [u8], list: &mut [u8]) 
         stack.new
         list.new }
 {
-    let reading = judge(book);
-    let told = profile_of(book, reading);
-    if told.number != DONE {
-        return told;
+    match profile_of(book) {
+        Ok(index) => run_plain(book, &index, tokens, stack, list),
+        Err(refused) => refused,
     }
-    run_plain(book, reading, tokens, stack, list)
 }

@@ -1,6 +1,6 @@
 -- The lines of sets and of rows, written one by one: those that are left make the whole.
 use mathlib.Core.Path.{◌≡◌, ◌∙◌, sym}
-use mathlib.Core.List.{List, ◌++◌}
+use mathlib.Core.List.{List, [], ◌++◌}
 use Prim.Native.Nat.{ℕ, suc, ◌+◌, ◌-◌, ◌≤◌, ◌<◌, min}
 use native.Mathlib.Decide.{dec_le}
 use native.Mathlib.Numerals.{add-one}
@@ -11,40 +11,18 @@ use Rattle.text.specs.Text.{Put}
 use Rattle.text.proofs.Promise.{Completes, completes_start, completes_more, completes_all}
 use Rattle.showing.specs.Lines.{set_line, set_lines, row_line, row_lines}
 
--- the lines of the first n sets are written, and whoever writes the others from here on has written all
-pub record SetsShown (word family before : List ℕ) (at : ℕ) (between : List ℕ) (middle n : ℕ) : Type 0 where
-  pub within : n ≤ length family
-  pub rest : Completes before at (set_lines word 0 family) between middle (set_lines word n (drop n family))
-
-set_lines_next : (word family : List ℕ) (n : ℕ)
+-- of the lines from set n on, the first and the others
+pub set_lines_next : (word family : List ℕ) (n : ℕ)
     → n < length family
     → set_lines word n (drop n family) ≡ set_line word n (get_or family n 0) ++ set_lines word (n + 1) (drop (n + 1) family)
 unfolding set_lines
 set_lines_next word family n inside = rw (drop-cons family n 0 inside, add-one n)
 
-module _ {word family before : List ℕ} {at : ℕ} where
-  pub sets_start : SetsShown word family before at before at 0
-  sets_start = record { within = omega arith; rest = completes_start before at (set_lines word 0 family) }
-
-  pub sets_more : {between after : List ℕ} {middle next n : ℕ}
-      → SetsShown word family before at between middle n
-      → n < length family
-      → Put between middle (set_line word n (get_or family n 0)) after next
-      → SetsShown word family before at after next (n + 1)
-  sets_more {n = n} s inside p =
-      record {
-        within = omega arith;
-        rest =
-            completes_more (set_line word n (get_or family n 0)) (set_lines word (n + 1) (drop (n + 1) family))
-            (rw (set_lines_next word family n inside) at s.rest) p;
-      }
-
-  pub sets_all : {between : List ℕ} {middle n : ℕ}
-      → SetsShown word family before at between middle n
-      → length family ≤ n
-      → Put before at (set_lines word 0 family) between middle
-  unfolding set_lines
-  sets_all s past = completes_all (rw (drop_of_length-le family past) at s.rest)
+pub set_lines_past : (word family : List ℕ) (n : ℕ)
+    → length family ≤ n
+    → set_lines word n (drop n family) ≡ []
+unfolding set_lines
+set_lines_past word family n past = rw (drop_of_length-le family past)
 
 -- the rows before `row` are written from the cells before `from`, and whoever writes the others from here on has written all
 pub record RowsShown (columns rows : ℕ) (table before : List ℕ) (at : ℕ) (between : List ℕ) (middle from row : ℕ) : Type 0 where

@@ -2,7 +2,7 @@
 -- Document 01, "The lister and the examples".
 use Rattle.std.specs.Prelude.{true, false, List, [], ◌∷◌, ◌++◌, ℕ, zero, suc, eqb, take, drop}
 use Rattle.text.specs.Text.{decimal}
-use Rattle.showing.specs.Words.{codes, space, newline, each, numbered, set_text}
+use Rattle.showing.specs.Words.{codes, spaced, newline, each, numbered, set_text}
 
 -- a line of a word and numbers
 unfoldable pub numbers_line : (word numbers : List ℕ) → List ℕ
@@ -20,9 +20,13 @@ set_lines word n (x ∷ family) = set_line word n x ++ set_lines word (suc n) fa
 abbrev pub dash : ℕ
 dash = 45
 
--- a cell behind a space, `-` for 255
+-- a cell, `-` for 255
+abbrev pub cell_sign : ℕ → List ℕ
+cell_sign c = elim (eqb c 255) [ true ↦ dash ∷ [] | false ↦ decimal c ]
+
+-- a cell behind a space
 unfoldable pub cell_text : ℕ → List ℕ
-cell_text c = space ∷ elim (eqb c 255) [ true ↦ dash ∷ [] | false ↦ decimal c ]
+cell_text = spaced cell_sign
 
 abbrev pub cells_text : List ℕ → List ℕ
 cells_text cells = each cell_text cells

@@ -20,20 +20,24 @@ abbrev pub newline : ℕ
 newline = 10
 
 -- the texts of a list's elements, one behind the other
-unfoldable pub each : (ℕ → List ℕ) → List ℕ → List ℕ
+unfoldable pub each : {A : Type 0} → (A → List ℕ) → List A → List ℕ
 each text [] = []
 each text (x ∷ xs) = text x ++ each text xs
 
+-- a text behind a space
+abbrev pub spaced : {A : Type 0} → (A → List ℕ) → A → List ℕ
+spaced text x = space ∷ text x
+
 -- a number behind a space
 unfoldable pub number_text : ℕ → List ℕ
-number_text n = space ∷ decimal n
+number_text = spaced decimal
 
 abbrev pub numbered : List ℕ → List ℕ
 numbered numbers = each number_text numbers
 
 -- a set behind a space, in 16 hex digits
 unfoldable pub set_text : ℕ → List ℕ
-set_text x = space ∷ hexadecimal x
+set_text = spaced hexadecimal
 
 abbrev pub sets_text : List ℕ → List ℕ
 sets_text family = each set_text family

@@ -4,5 +4,6 @@
 
 pub mod lines;
 pub mod pieces;
+mod spelling;
 pub mod streams;
 pub mod words;

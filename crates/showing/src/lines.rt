@@ -1,13 +1,13 @@
 // Lines of numbers, of sets and of a table's rows.
 ghost use Rattle.sets.specs.Calls.{number};
 ghost use Rattle.text.specs.Text.{Put};
-ghost use Rattle.showing.specs.Lines.{numbers_line, set_line, set_lines, cell_text, cells_text, row_line, row_lines};
+ghost use Rattle.showing.specs.Lines.{numbers_line, set_line, set_lines, row_line, row_lines};
 
 use crate::pieces::further;
-use crate::words::{numbers, set_behind};
-use sets::{Set, load};
-use table::VACANT;
-use text::{decimal, put};
+use crate::spelling::{Cells, Sets, each, spaced};
+use crate::words::numbers;
+use sets::{Set, load, word};
+use text::put;
 
 // A line of a word and numbers.
 pub fn numbers_line(out: &mut [u8], at: usize, name: &[u8], told: &[u64]) -> usize
@@ -23,7 +23,7 @@ pub fn set_line(out: &mut [u8], at: usize, name: &[u8], n: u64, set: Set) -> usi
 {
     let told = [n];
     let named = numbers(out, at, name, &told);
-    let place = set_behind(out, named, set);
+    let place = spaced::<u64, Sets>(out, named, word(set));
     put(out, place, b'\n')
 }
 
@@ -32,35 +32,8 @@ pub fn set_lines(out: &mut [u8], at: usize, name: &[u8], family: &[u64]) -> usiz
     ensures { Put out.old at (set_lines name.now 0 family.now) out.new result }
 {
     let mut place = at;
-    let mut n = 0;
-    while n < family.len() {
+    for n in 0..family.len() {
         place = set_line(out, place, name, n as u64, load(family, n));
-        n += 1;
-    }
-    place
-}
-
-// A cell behind a space, `-` where it is vacant.
-fn cell(out: &mut [u8], at: usize, cell: u8) -> usize
-    ensures { Put out.old at (cell_text cell) out.new result }
-{
-    let place = put(out, at, b' ');
-    if cell == VACANT {
-        put(out, place, b'-')
-    } else {
-        decimal(out, place, cell as u64)
-    }
-}
-
-// Each cell behind a space.
-fn cells(out: &mut [u8], at: usize, cells: &[u8]) -> usize
-    ensures { Put out.old at (cells_text cells.now) out.new result }
-{
-    let mut place = at;
-    let mut i = 0;
-    while i < cells.len() {
-        place = cell(out, place, cells[i]);
-        i += 1;
     }
     place
 }
@@ -71,7 +44,7 @@ fn row_line(out: &mut [u8], at: usize, nonterminal: u64, row: &[u8]) -> usize
 {
     let told = [nonterminal];
     let named = numbers(out, at, b"row", &told);
-    let place = cells(out, named, row);
+    let place = each::<u8, Cells>(out, named, row);
     put(out, place, b'\n')
 }
 
@@ -81,12 +54,10 @@ pub fn row_lines(out: &mut [u8], at: usize, columns: usize, rows: usize, table: 
 {
     let mut place = at;
     let mut from = 0;
-    let mut row = 0;
-    while row < rows {
+    for row in 0..rows {
         let end = further(from, columns, table.len());
         place = row_line(out, place, row as u64, &table[from..end]);
         from = end;
-        row += 1;
     }
     place
 }

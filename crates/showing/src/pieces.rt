@@ -11,23 +11,18 @@ pub struct Piece {
     pub end: usize,
 }
 
-// The place so many bytes on, or the end of all where that comes first; the sum is never formed where it could wrap.
+// The place so many bytes on, or the end of all where that comes first.
 pub(crate) fn further(at: usize, more: usize, end: usize) -> usize
     ensures { result ≡ min (at + more) end }
 {
-    if at < end {
-        if more < end - at {
-            return at + more;
-        }
-    }
-    end
+    at.saturating_add(more).min(end)
 }
 
 // How many bytes the piece at a place has.
 fn size_at(input: &[u8], at: usize) -> usize
     ensures { result ≡ size_at input.now at }
 {
-    byte_at(input, at, 0) as usize + 256 * (byte_at(input, at, 1) as usize)
+    usize::from(byte_at(input, at, 0)) + 256 * usize::from(byte_at(input, at, 1))
 }
 
 // The piece at a place, as far as there is input.

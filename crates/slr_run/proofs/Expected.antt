@@ -25,9 +25,9 @@ use Rattle.slr_run.specs.Checking.{columns_in}
 use Rattle.slr_run.specs.Stages.{stage_in, stage_of, reason_in, outcome_in}
 use Rattle.slr_run.specs.Answering.{WithColumn, Expects, Values, Answers}
 use Rattle.slr_run.specs.declared.Cause.TheVariants.{FullList, FullStack, Wants}
-use Rattle.slr_run.specs.declared.Cause.{Cause}
-use Rattle.slr_run.specs.declared.Reply.TheVariants.{Taken, Stopped}
-use Rattle.slr_run.specs.declared.Reply.{Reply}
+use Rattle.std.specs.Prelude.{Ok, Err}
+use Rattle.slr_run.specs.Stages.{Reply}
+use Rattle.slr_run.specs.declared.Halt.{Halt}
 use Rattle.slr_run.specs.declared.Stage.{Stage}
 
 module _ (o : Outline) (table : List ℕ) (state column : ℕ) {columns cell : ℕ} (wide : columns ≡ columns_in o)
@@ -68,40 +68,40 @@ columns_over {o} table state {r} {j} h k e = record { given = λ g sized. go g s
     go g sized =
         let all : j ≡ g.tokens + 1 = omega (arith, sized.tokens) in number_unique (rw all at (e g sized))
 
-stands : {reply : Reply} {cause : Cause} {at x : Stage} → at ≡ stage_of reply → reply ≡ Stopped cause x → at ≡ x
+stands : {reply : Reply} {at : Stage} {h : Halt} → at ≡ stage_of reply → reply ≡ Err h → at ≡ h.at
 unfolding stage_of
 stands here e = here ∙ ap stage_of e
 
 module _ {o : Outline} (table : List ℕ) {reply : Reply} {at : Stage} {steps : ℕ} {r : Answer}
     (here : at ≡ stage_of reply) (counts : steps ≡ at.listed + at.matched) where
-  pub values_done : {x : Stage} → reply ≡ Taken x → r ≡ done steps → Values o table reply r
+  pub values_done : {x : Stage} → reply ≡ Ok x → r ≡ done steps → Values o table reply r
   unfolding slr_values outcome_in stage_in stage_of
   values_done {x} e f =
       let same : at ≡ x = here ∙ ap stage_of e in
       record { values = λ g sized stack list. f ∙ ap done counts ∙ rw (e, same) }
 
-  module _ {cause : Cause} {x : Stage} (e : reply ≡ Stopped cause x) {place : ℕ} (placed : place ≡ at.matched) {set : Set} where
-    pub values_full_list : cause ≡ FullList → None set → r ≡ stop room place list_room steps set → Values o table reply r
+  module _ {h : Halt} (e : reply ≡ Err h) {place : ℕ} (placed : place ≡ at.matched) {set : Set} where
+    pub values_full_list : h.cause ≡ FullList → None set → r ≡ stop room place list_room steps set → Values o table reply r
     unfolding slr_values outcome_in stage_in reason_in
     values_full_list k n f =
         let none : set ≡ no_set = number_unique (none_is n) in
         record { values = λ g sized stack list. f ∙ rw (placed, counts, none, e, k, stands here e) }
 
-    pub values_full_stack : cause ≡ FullStack → None set → r ≡ stop room place stack_room steps set → Values o table reply r
+    pub values_full_stack : h.cause ≡ FullStack → None set → r ≡ stop room place stack_room steps set → Values o table reply r
     unfolding slr_values outcome_in stage_in reason_in
     values_full_stack k n f =
         let none : set ≡ no_set = number_unique (none_is n) in
         record { values = λ g sized stack list. f ∙ rw (placed, counts, none, e, k, stands here e) }
 
-    pub values_wants : cause ≡ Wants → Expects o table at.top set → r ≡ stop syntax place 0 steps set → Values o table reply r
+    pub values_wants : h.cause ≡ Wants → Expects o table at.top set → r ≡ stop syntax place 0 steps set → Values o table reply r
     unfolding slr_values outcome_in stage_in reason_in
-    values_wants k h f =
-        record { values = λ g sized stack list. f ∙ rw (placed, counts, h.given g sized, e, k, stands here e) }
+    values_wants k want f =
+        record { values = λ g sized stack list. f ∙ rw (placed, counts, want.given g sized, e, k, stands here e) }
 
 outcome_height : (reply : Reply) (stack list : List ℕ) → (slr_final (outcome_in reply stack list)).height ≡ (stage_of reply).deepest
 unfolding slr_final outcome_in stage_in stage_of
-outcome_height (Taken at) stack list = refl
-outcome_height (Stopped cause at) stack list = refl
+outcome_height (Ok at) stack list = refl
+outcome_height (Err h) stack list = refl
 
 -- the values and the most states held are the answer
 pub answers_at : {o : Outline} (table : List ℕ) {reply : Reply} {at : Stage} {values r : Answer}

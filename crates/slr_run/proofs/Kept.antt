@@ -9,6 +9,7 @@ use lib.ListN.{length}
 use Rattle.grammar.specs.Grammar.{Grammar}
 use Rattle.answers.specs.declared.Answer.{Answer}
 use Rattle.answers.specs.Answers.{done, refusal, stop, at_depth}
+use Rattle.answers.specs.Refusals.{number_of}
 use Rattle.answers.specs.Refusals.{room, syntax}
 use Rattle.answers.specs.Buffers.{over, cleared}
 use Rattle.book.specs.Judging.{Refuses, misread, useless_one, Serves}
@@ -103,7 +104,7 @@ unfolding refusal
 refusal_early n place detail = record { steps = refl; depth = refl }
 
 refuses_early : {book : List ℕ} {a : Answer} → Refuses book a → Early a
-refuses_early (misread {number = n} {place = k} e) = refusal_early n k 0
+refuses_early (misread {why = w} {place = k} e) = refusal_early (number_of w) k 0
 refuses_early (useless_one {A = A} e l) = refusal_early 6 A 0
 
 barred_early : {g : Grammar} {table tokens stack : List ℕ} {a : Answer} → SlrBarred g table tokens stack a → Early a

@@ -13,7 +13,7 @@ use Rattle.slr_run.specs.Deciding.{Turns}
 use Rattle.slr_run.specs.Reducing.{reduced_to, finished, finished_stack, Offered}
 use Rattle.slr_run.specs.declared.Ending.TheVariants.{Shift}
 use Rattle.slr_run.specs.declared.Ending.{Ending}
-use Rattle.slr_run.specs.declared.Reply.{Reply}
+use Rattle.slr_run.specs.Stages.{Reply}
 use Rattle.slr_run.specs.declared.Stage.{Stage}
 use Rattle.slr_run.specs.declared.Turn.TheVariants.{Reduce, Finish}
 use Rattle.slr_run.specs.declared.Turn.{Turn}

@@ -1,6 +1,6 @@
 -- A run on the grammar that an index finds in a book: what the checks admit, what the machine goes by, and the outcome.
+use Rattle.std.specs.Prelude.{Ok, Err}
 use mathlib.Core.Path.{◌≡◌, refl, sym, ◌∙◌, ap, subst}
-use mathlib.Core.Logic.{◌≢◌}
 use mathlib.Core.List.{List}
 use Prim.Native.Nat.{ℕ, zero, suc, ◌+◌, ◌*◌, ◌%◌, ◌^◌, ◌<◌}
 use native.Mathlib.Decide.{dec_lt}
@@ -9,27 +9,25 @@ use native.Mathlib.Omega.{arith}
 use lib.Arith.{digits_lt, digits_mod}
 use lib.ListN.{length, get_or, replicate}
 use Rattle.grammar.specs.Grammar.{Grammar, Column, token, endmark, WellFormed}
-use Rattle.answers.specs.Answers.{done, refusal}
 use Rattle.answers.specs.declared.Answer.{Answer}
 use Rattle.answers.specs.Buffers.{counted, cleared, over}
-use Rattle.answers.specs.Checks.{passes, stops, goes}
-use Rattle.answers.proofs.Promise.{checked_goes}
-use Rattle.book.specs.Judging.{Judged}
-use Rattle.book.specs.declared.Reading.{Reading}
-use Rattle.book.specs.Columns.{production_at, productions_from, outline_in, outlined, Lefts, Lengths}
+use Rattle.reader.specs.Fields.{left_at, length_at}
+use Rattle.book.specs.Judging.{Indexes}
+use Rattle.book.specs.declared.Index.{Index}
+use Rattle.book.specs.Columns.{production_at, productions_from, outlined, grammar_in, Gathered}
 use Rattle.book.specs.declared.columns.Outline.{Outline}
-use Rattle.book.proofs.Promise.{production_found, production_missing, outlined_sized, is_of_rule, judged_done, judged_refused, reading_grammar, serves_well_formed}
+use Rattle.book.proofs.Promise.{production_found, production_missing, outlined_sized, is_of_rule, reading_grammar, serves_well_formed}
 use Rattle.stack.proofs.Promise.{length_symbols}
 use Rattle.slr.specs.Cells.{action_in, move_in}
 use Rattle.slr.specs.RoomMachine.{Setting, SlrOffered, left_in, size_in, setting_of, slr_run}
 use Rattle.slr.specs.Ends.{slr_final}
 use Rattle.slr_run.specs.Fitting.{NumberFits}
-use Rattle.slr_run.specs.Running.{slr_ran, slr_answered, SlrBarred, bad_table, too_long, strange, SlrAdmits, SlrRunOutcome}
-use Rattle.slr_run.specs.Checking.{columns_in, rows_of, Counts, SlrChecked, CheckedFor}
+use Rattle.slr_run.specs.Running.{slr_ran, slr_answered, SlrAdmits, SlrRunOutcome}
+use Rattle.slr_run.specs.Checking.{columns_in, rows_of, Counts, CheckedFor}
 use Rattle.slr_run.specs.Stages.{numbers_of, setting_by, number_at, Grounds, stage_of}
 use Rattle.slr_run.specs.Reducing.{Ended}
 use Rattle.slr_run.specs.Answering.{Answers, RanFor}
-use Rattle.slr_run.specs.declared.Reply.{Reply}
+use Rattle.slr_run.specs.Stages.{Reply}
 
 count_from : (book places : List ℕ) (n i : ℕ) → length (productions_from book places n i) ≡ n
 unfolding productions_from
@@ -42,37 +40,18 @@ unfolding outlined
 outline_counts book places o =
     record { tokens = refl; nonterminals = refl; productions = count_from book places o.productions 0 }
 
--- a refusal before steps has a number
-barred_some : {g : Grammar} {table tokens stack : List ℕ} {a : Answer} → SlrBarred g table tokens stack a → a.number ≢ 0
-unfolding refusal
-barred_some (bad_table m) e = omega arith
-barred_some (too_long f h) e = omega arith
-barred_some (strange f h s) e = omega arith
-barred_some (SlrBarred.no_stack f h k l) e = omega arith
-
-module _ {g : Grammar} {table tokens stack : List ℕ} where
-  checked_barred : {a : Answer} → SlrChecked g table tokens stack a → a.number ≢ 0 → SlrBarred g table tokens stack a
-  unfolding done
-  checked_barred (passes d) n = absurd (d refl)
-  checked_barred (stops d h) n = h
-  checked_barred (goes d h) n = absurd (n refl)
-
-  checked_admits : {a : Answer} → SlrChecked g table tokens stack a → a.number ≡ 0 → SlrAdmits g table tokens stack
-  checked_admits h e = (checked_goes (λ a b. barred_some b) h e).1
-
 module _ (book places : List ℕ) (o : Outline) (table tokens stack : List ℕ) where
   abbrev g : Grammar
   g = outlined book places o
 
-  module _ {a : Answer} (check : CheckedFor o table tokens (length stack) a) where
-    pub ran_barred : {list : List ℕ} → a.number ≢ 0 → RanFor g table tokens stack list a stack list
-    ran_barred n =
-        record {
-          served = λ serves. SlrRunOutcome.barred serves (checked_barred (check.checked g (outline_counts book places o) stack refl) n);
-        }
+  pub ran_barred : {list : List ℕ} {a : Answer}
+      → CheckedFor o table tokens (length stack) (Err a)
+      → RanFor g table tokens stack list a stack list
+  ran_barred check =
+      record { served = λ serves. SlrRunOutcome.barred serves (check.checked g (outline_counts book places o) stack refl) }
 
-    pub ran_admits : a.number ≡ 0 → SlrAdmits g table tokens stack
-    ran_admits e = checked_admits (check.checked g (outline_counts book places o) stack refl) e
+  pub ran_admits : CheckedFor o table tokens (length stack) (Ok tt) → SlrAdmits g table tokens stack
+  ran_admits check = check.checked g (outline_counts book places o) stack refl
 
   pub admitted_known : SlrAdmits g table tokens stack → (i : ℕ) → i < length tokens → get_or tokens i 0 < o.tokens
   unfolding outlined
@@ -81,7 +60,7 @@ module _ (book places : List ℕ) (o : Outline) (table tokens stack : List ℕ) 
   -- what the checks and the judging leave to the steps
   pub admitted_grounds : {lefts : List ℕ}
       → WellFormed g
-      → Lefts book places o lefts
+      → Gathered (left_at book) places o.productions lefts
       → SlrAdmits g table tokens stack
       → Grounds o table lefts
   unfolding outlined
@@ -104,7 +83,7 @@ module _ (book places : List ℕ) (o : Outline) (table tokens stack : List ℕ) 
       fits_at s c col inside =
           rw (digits_mod s col, count_from book places o.productions 0) at (admits.fits.cells (s * columns_in o + c) inside)
 
-  module _ {lefts lengths : List ℕ} (left_column : Lefts book places o lefts) (length_column : Lengths book places o lengths) where
+  module _ {lefts lengths : List ℕ} (left_column : Gathered (left_at book) places o.productions lefts) (length_column : Gathered (length_at book) places o.productions lengths) where
     left_same : (p : ℕ) → get_or lefts p 0 ≡ left_in g p
     unfolding left_in production_at
     left_same p = go (dec_lt p o.productions)
@@ -167,25 +146,13 @@ module _ (book places : List ℕ) (o : Outline) (table tokens stack : List ℕ) 
           let lists = ends.lists ∙ ap (λ (x : SlrOffered). over (slr_final x).listed list) ran_is in
           rw (answer, cells, lists) (record { served = λ serves. SlrRunOutcome.ended serves admits })
 
-pub run_formed : {book : List ℕ} {reading : Reading}
-    → Judged book reading
-    → {o : Outline}
-    → o ≡ outline_in reading
-    → reading.answer.number ≡ 0
-    → WellFormed (outlined book reading.places o)
-run_formed judged outlines none =
-    let (g, serves, same) = judged_done judged none in
-    rw outlines (subst WellFormed (sym (reading_grammar serves same)) (serves_well_formed serves))
+-- what judging gives of a book that it does not refuse
+module _ {book : List ℕ} {i : Index} (x : Indexes book i) where
+  pub run_formed : WellFormed (grammar_in book i)
+  run_formed = subst WellFormed (sym (reading_grammar x.serves x.index)) (serves_well_formed x.serves)
 
-module _ {book table tokens stack list : List ℕ} {reading : Reading} (judged : Judged book reading) where
-  pub run_refused : reading.answer.number ≢ 0 → SlrRunOutcome book table tokens stack list reading.answer stack list
-  run_refused n = SlrRunOutcome.refused (judged_refused judged n).0
-
-  module _ {o : Outline} (outlines : o ≡ outline_in reading) (none : reading.answer.number ≡ 0) where
-    pub run_served : {r : Answer} {stack' list' : List ℕ}
-        → RanFor (outlined book reading.places o) table tokens stack list r stack' list'
-        → SlrRunOutcome book table tokens stack list r stack' list'
-    run_served {r} {stack'} {list'} on =
-        let (g, serves, same) = judged_done judged none in
-        let told = rw outlines at on in
-        (subst (λ (g : Grammar). RanFor g table tokens stack list r stack' list') (reading_grammar serves same) told).served serves
+  pub run_served : {table tokens stack list : List ℕ} {r : Answer} {stack' list' : List ℕ}
+      → RanFor (grammar_in book i) table tokens stack list r stack' list'
+      → SlrRunOutcome book table tokens stack list r stack' list'
+  run_served {table} {tokens} {stack} {list} {r} {stack'} {list'} on =
+      (subst (λ (g : Grammar). RanFor g table tokens stack list r stack' list') (reading_grammar x.serves x.index) on).served x.serves

@@ -16,8 +16,8 @@ use Rattle.slr.specs.RoomMachine.{Setting, SlrOffered, slr_begun, slr_run_from, 
 use Rattle.slr.specs.Ends.{slr_final}
 use Rattle.slr_run.specs.Stages.{setting_by, column_at, held_by, stage_in, Held, stage_of, outcome_in}
 use Rattle.slr_run.specs.Reducing.{goes_on, continued, Kept, Offered, Ended}
-use Rattle.slr_run.specs.declared.Reply.TheVariants.{Taken, Stopped}
-use Rattle.slr_run.specs.declared.Reply.{Reply}
+use Rattle.std.specs.Prelude.{[], Ok, Err}
+use Rattle.slr_run.specs.Stages.{Reply}
 use Rattle.slr_run.specs.declared.Stage.{Stage}
 use Rattle.slr_run.proofs.Told.{under_end, under_token}
 use Rattle.slr_run.proofs.Staged.{kept_on}
@@ -56,11 +56,11 @@ module _ (T : ℕ) (tokens : List ℕ) (known : (i : ℕ) → i < length tokens 
       let bad : ◌≡◌ {A = ℕ} 0 1 = cc in omega arith
 
 stopped_told : (m : Setting) (w : List ℕ) (x : Reply) (stack list : List ℕ)
-    → ((y : Stage) → x ≢ Taken y)
+    → ((y : Stage) → x ≢ Ok y)
     → continued m w x stack list ≡ outcome_in x stack list
 unfolding continued outcome_in
-stopped_told m w (Taken y) stack list n = absurd (n y refl)
-stopped_told m w (Stopped cause y) stack list n = refl
+stopped_told m w (Ok y) stack list n = absurd (n y refl)
+stopped_told m w (Err h) stack list n = refl
 
 module _ (m : Setting) (rows : ℕ) (tokens stack₀ list₀ : List ℕ) where
   pub record Running (at : Stage) (stack list : List ℕ) : Type 0 where
@@ -106,8 +106,8 @@ module _ (m : Setting) (rows : ℕ) (tokens stack₀ list₀ : List ℕ) where
 
     listed_final : (x : Reply) → slr_run m tokens ≡ outcome_in x stack' list' → (slr_final (slr_run m tokens)).listed ≡ take (stage_of x).listed list'
     unfolding outcome_in slr_final stage_in stage_of
-    listed_final (Taken at) e = ap (λ (o : SlrOffered). (slr_final o).listed) e
-    listed_final (Stopped cause at) e = ap (λ (o : SlrOffered). (slr_final o).listed) e
+    listed_final (Ok at) e = ap (λ (o : SlrOffered). (slr_final o).listed) e
+    listed_final (Err h) e = ap (λ (o : SlrOffered). (slr_final o).listed) e
 
     -- what the last column comes to is what the run comes to
     ends : slr_run m tokens ≡ outcome_in r stack' list' → Ended m tokens stack₀ list₀ r stack' list'
@@ -123,14 +123,19 @@ module _ (m : Setting) (rows : ℕ) (tokens stack₀ list₀ : List ℕ) where
           list_length = kept.list_length;
         }
 
-    pub running_stopped : ((x : Stage) → r ≢ Taken x) → Ended m tokens stack₀ list₀ r stack' list'
+    -- the end mark is the last column, whatever becomes of it
+    pub running_over : length tokens ≤ at.matched → Ended m tokens stack₀ list₀ r stack' list'
+    unfolding continued outcome_in goes_on
+    running_over h = ends (goes ∙ rw (drop_of_length-le tokens {i = at.matched} h) (over r))
+      where
+        over : (x : Reply) → continued m [] x stack' list' ≡ outcome_in x stack' list'
+        over (Ok y) = refl
+        over (Err y) = refl
+
+    pub running_stopped : ((x : Stage) → r ≢ Ok x) → Ended m tokens stack₀ list₀ r stack' list'
     running_stopped other = ends (goes ∙ stopped_told m rest r stack' list' other)
 
-    pub running_over : {x : Stage} → r ≡ Taken x → length tokens ≤ at.matched → Ended m tokens stack₀ list₀ r stack' list'
-    unfolding continued outcome_in goes_on
-    running_over {x} e h = ends (goes ∙ rw (e, drop_of_length-le tokens {i = at.matched} h))
-
-    pub running_next : {x : Stage} → r ≡ Taken x → at.matched < length tokens → Running x stack' list' × (x.matched ≡ at.matched + 1)
+    pub running_next : {x : Stage} → r ≡ Ok x → at.matched < length tokens → Running x stack' list' × (x.matched ≡ at.matched + 1)
     unfolding continued goes_on stage_of
     running_next {x} e h =
         let matched : x.matched ≡ at.matched + 1 = offered.gains x e (token_next T tokens known is h) in

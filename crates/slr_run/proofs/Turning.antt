@@ -19,7 +19,8 @@ use Rattle.slr_run.specs.declared.Cause.TheVariants.{FullList, FullStack, Wants}
 use Rattle.slr_run.specs.declared.Cause.{Cause}
 use Rattle.slr_run.specs.declared.Ending.TheVariants.{Shift, Accept, Stop}
 use Rattle.slr_run.specs.declared.Ending.{Ending}
-use Rattle.slr_run.specs.declared.Reply.TheVariants.{Taken, Stopped}
+use Rattle.std.specs.Prelude.{Ok}
+use Rattle.slr_run.specs.Stages.{halted}
 use Rattle.slr_run.specs.declared.Stage.{Stage}
 use Rattle.slr_run.specs.declared.Turn.TheVariants.{Reduce, Finish}
 use Rattle.slr_run.specs.declared.Turn.{Turn}
@@ -112,7 +113,7 @@ module _ (m : Setting) (rows : ℕ) (c : Column) (at₀ : Stage) (stack₀ list�
     -- the run stops where it stands
     stops : (cause : Cause)
         → ((w : List ℕ) → front w ≡ c → slr_run_from m w here ≡ stopped (reason_in cause at) here)
-        → Offered m rows c at₀ stack₀ list₀ (Stopped cause at) stack list
+        → Offered m rows c at₀ stack₀ list₀ (halted cause at) stack list
     unfolding continued stage_of
     stops cause h =
         record {
@@ -126,7 +127,7 @@ module _ (m : Setting) (rows : ℕ) (c : Column) (at₀ : Stage) (stack₀ list�
         }
 
     -- the end mark is accepted
-    accepted : m.cell at.top c ≡ some accept → c ≡ endmark → Offered m rows c at₀ stack₀ list₀ (Taken at) stack list
+    accepted : m.cell at.top c ≡ some accept → c ≡ endmark → Offered m rows c at₀ stack₀ list₀ (Ok at) stack list
     unfolding continued goes_on stage_of stage_in
     accepted says end =
         record {
@@ -145,7 +146,7 @@ module _ (m : Setting) (rows : ℕ) (c : Column) (at₀ : Stage) (stack₀ list�
         → c ≡ token s
         → j < rows
         → suc (length (held_by stack (at.height - 1))) < m.room
-        → Offered m rows c at₀ stack₀ list₀ (Taken (shifted_to j at)) (set stack at.height j) list
+        → Offered m rows c at₀ stack₀ list₀ (Ok (shifted_to j at)) (set stack at.height j) list
     unfolding continued goes_on stage_of stage_in shifted_to
     shifted_on {s} {j} says next row tall =
         record {

@@ -10,9 +10,9 @@ use Rattle.slr.specs.RoomMachine.{Setting}
 use Rattle.slr_run.specs.Checking.{rows_of}
 use Rattle.slr_run.specs.Stages.{setting_by, column_at}
 use Rattle.slr_run.specs.Reducing.{Offered, Ended}
-use Rattle.slr_run.specs.declared.Cause.{Cause}
-use Rattle.slr_run.specs.declared.Reply.TheVariants.{Taken, Stopped}
-use Rattle.slr_run.specs.declared.Reply.{Reply}
+use Rattle.std.specs.Prelude.{Ok, Err}
+use Rattle.slr_run.specs.Stages.{Reply}
+use Rattle.slr_run.specs.declared.Halt.{Halt}
 use Rattle.slr_run.specs.declared.Stage.{Stage}
 use Rattle.slr_run.proofs.Strings.{ColumnOf, column_low, Running, running_stopped, running_over, running_next, setting_same}
 
@@ -58,23 +58,21 @@ module _ (o : Outline) (lefts lengths table tokens stack₀ list₀ : List ℕ) 
             list_length = told_of.list_length;
           }
 
-      pub walk_stopped : (entry : List ℕ) {cause : Cause} {x : Stage}
+      pub walk_stopped : (entry : List ℕ) {h : Halt}
           → stack₀ ≡ set entry 0 0
-          → r ≡ Stopped cause x
+          → r ≡ Err h
           → Ended (setting_by o lefts lengths table (counted entry) (counted list₀)) tokens entry list₀ r stack' list'
       walk_stopped entry put e =
           lent entry put
           (running_stopped setting (rows_of o table) tokens stack₀ list₀ o.tokens known w column_is offered
           (λ y f. let bad : ◌≡◌ {A = ℕ} 0 1 = cc in omega arith))
 
-      pub walk_over : (entry : List ℕ) {x : Stage}
+      pub walk_over : (entry : List ℕ)
           → stack₀ ≡ set entry 0 0
-          → r ≡ Taken x
           → length tokens ≤ at.matched
-          → Ended (setting_by o lefts lengths table (counted entry) (counted list₀)) tokens entry list₀ (Taken x) stack' list'
-      walk_over entry put e h =
-          subst (λ (y : Reply). Ended (setting_by o lefts lengths table (counted entry) (counted list₀)) tokens entry list₀ y stack' list') e
-          (lent entry put (running_over setting (rows_of o table) tokens stack₀ list₀ o.tokens known w column_is offered e h))
+          → Ended (setting_by o lefts lengths table (counted entry) (counted list₀)) tokens entry list₀ r stack' list'
+      walk_over entry put h =
+          lent entry put (running_over setting (rows_of o table) tokens stack₀ list₀ o.tokens known w column_is offered h)
 
-      pub walk_next : {x : Stage} → r ≡ Taken x → at.matched < length tokens → Walking x stack' list' × (x.matched ≡ at.matched + 1)
+      pub walk_next : {x : Stage} → r ≡ Ok x → at.matched < length tokens → Walking x stack' list' × (x.matched ≡ at.matched + 1)
       walk_next e h = running_next setting (rows_of o table) tokens stack₀ list₀ o.tokens known w column_is offered e h

@@ -9,8 +9,7 @@ use Rattle.book.specs.Columns.{Outlines}
 use Rattle.book.specs.Judging.{Serves}
 use Rattle.book.specs.declared.columns.Outline.{Outline}
 use Rattle.slr_run.specs.Running.{slr_filled_below, slr_expected, slr_values, slr_answered, SlrRunOutcome}
-use Rattle.slr_run.specs.Stages.{outcome_in}
-use Rattle.slr_run.specs.declared.Reply.{Reply}
+use Rattle.slr_run.specs.Stages.{Reply, outcome_in}
 
 -- the filled columns of a state's row below a column are marked, and then that one too
 pub record WithColumn (o : Outline) (table : List ℕ) (state column : ℕ) (before after : Set) : Type 0 where

@@ -1,14 +1,11 @@
 -- What is checked before steps, by the numbers of an outline: the table, the number of tokens, the tokens, a stack
 -- cell.
 -- Document 02, W12. Only contracts inside the crate cite what stands here.
-use Rattle.std.specs.Prelude.{◌≡◌, List, ℕ, ◌+◌, ◌*◌, ◌/◌, ◌%◌, ◌≤◌, length, get_or}
+use Rattle.std.specs.Prelude.{⊤, Option, MatchOption, Result, ◌≡◌, List, ℕ, ◌+◌, ◌*◌, ◌/◌, ◌%◌, ◌≤◌, length, get_or}
 use Rattle.grammar.specs.Grammar.{Grammar}
-use Rattle.answers.specs.Answers.{done}
-use Rattle.answers.specs.Checks.{Checked}
+use Rattle.answers.specs.Checks.{Tested}
 use Rattle.answers.specs.declared.Answer.{Answer}
 use Rattle.book.specs.declared.columns.Outline.{Outline}
-use Rattle.table.specs.declared.fitting.Fitting.{Fitting}
-use Rattle.table.specs.declared.fitting.Fitting.TheVariants.{Fit, MisfitAt}
 use Rattle.slr.specs.Cells.{empty_cell, most_states}
 use Rattle.slr_run.specs.Fitting.{NumberFits, SlrFits, SlrMisfit}
 use Rattle.slr_run.specs.Running.{SlrBarred, SlrAdmits}
@@ -42,20 +39,19 @@ pub record WholeRows (o : Outline) (table : List ℕ) (rows : ℕ) : Type 0 wher
   pub few : rows ≤ most_states
 
 -- a table that fits, or the place of refusal 9
-pub data TableChecked (g : Grammar) (table : List ℕ) : Fitting → Type 0 where
-  fit : SlrFits g table → TableChecked g table Fit
-  misfit : {k : ℕ} → SlrMisfit g table k → TableChecked g table (MisfitAt k)
+abbrev pub TableChecked : (g : Grammar) (table : List ℕ) → Option ℕ → Type 0
+TableChecked g table r = MatchOption r (SlrFits g table) (SlrMisfit g table)
 
 -- of every grammar with these numbers
-pub record TableCheck (o : Outline) (table : List ℕ) (r : Fitting) : Type 0 where
+pub record TableCheck (o : Outline) (table : List ℕ) (r : Option ℕ) : Type 0 where
   pub checked : (g : Grammar) → Counts o g → TableChecked g table r
 
 -- barred with the refusal, or admitted
-abbrev pub SlrChecked : (g : Grammar) (table tokens stack : List ℕ) → Answer → Type 0
-SlrChecked g table tokens stack = Checked (done 0) (SlrBarred g table tokens stack) (SlrAdmits g table tokens stack)
+abbrev pub SlrChecked : (g : Grammar) (table tokens stack : List ℕ) → Result ⊤ Answer → Type 0
+SlrChecked g table tokens stack = Tested (SlrBarred g table tokens stack) (SlrAdmits g table tokens stack)
 
 -- whatever the stack, if it has so many cells
-pub record CheckedFor (o : Outline) (table tokens : List ℕ) (cells : ℕ) (r : Answer) : Type 0 where
+pub record CheckedFor (o : Outline) (table tokens : List ℕ) (cells : ℕ) (r : Result ⊤ Answer) : Type 0 where
   pub checked : (g : Grammar)
       → Counts o g
       → (stack : List ℕ)

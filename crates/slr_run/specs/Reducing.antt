@@ -1,16 +1,14 @@
 -- One column offered to a run, and a whole token string, as the code has it: what becomes of counts and buffers.
 -- Document 02, W12. Only contracts inside the crate cite what stands here.
-use Rattle.std.specs.Prelude.{◌≡◌, ◌≢◌, List, [], ◌∷◌, ℕ, ◌+◌, ◌≤◌, max, length, drop, set}
+use Rattle.std.specs.Prelude.{Ok, Err, ◌≡◌, ◌≢◌, List, [], ◌∷◌, ℕ, ◌+◌, ◌≤◌, max, length, drop, set}
 use Rattle.grammar.specs.Grammar.{Column, endmark}
 use Rattle.grammar.specs.Machine.{front}
 use Rattle.answers.specs.Buffers.{over, counted}
 use Rattle.slr.specs.RoomMachine.{Setting, Progress, SlrOffered, taken, stopped, slr_run_from, slr_run}
 use Rattle.slr.specs.Ends.{slr_final}
-use Rattle.slr_run.specs.Stages.{Held, stage_in, stage_of, reason_in, outcome_in}
+use Rattle.slr_run.specs.Stages.{Reply, halted, Held, stage_in, stage_of, reason_in, outcome_in}
 use Rattle.slr_run.specs.declared.Ending.TheVariants.{Shift, Accept, Stop}
 use Rattle.slr_run.specs.declared.Ending.{Ending}
-use Rattle.slr_run.specs.declared.Reply.TheVariants.{Taken, Stopped}
-use Rattle.slr_run.specs.declared.Reply.{Reply}
 use Rattle.slr_run.specs.declared.Stage.{Stage}
 
 -- the counts after a reduction that keeps the states up to cell `base` and pushes a state
@@ -37,9 +35,9 @@ shifted_to state at =
 
 -- what the reply is, and what the stack holds then
 unfoldable pub finished : Ending → Stage → Reply
-finished (Shift state) at = Taken (shifted_to state at)
-finished Accept at = Taken at
-finished (Stop cause) at = Stopped cause at
+finished (Shift state) at = Ok (shifted_to state at)
+finished Accept at = Ok at
+finished (Stop cause) at = halted cause at
 
 unfoldable pub finished_stack : Ending → Stage → List ℕ → List ℕ
 finished_stack (Shift state) at stack = set stack at.height state
@@ -52,8 +50,8 @@ goes_on m [] s = taken s
 goes_on m (t ∷ w) s = slr_run_from m w s
 
 unfoldable pub continued : Setting → List ℕ → Reply → (stack list : List ℕ) → SlrOffered
-continued m w (Taken at) stack list = goes_on m w (stage_in at stack list)
-continued m w (Stopped cause at) stack list = stopped (reason_in cause at) (stage_in at stack list)
+continued m w (Ok at) stack list = goes_on m w (stage_in at stack list)
+continued m w (Err h) stack list = stopped (reason_in h.cause h.at) (stage_in h.at stack list)
 
 -- the list beyond what is listed is as it was, and no buffer has another length
 pub record Kept (at : Stage) (stack₀ list₀ stack list : List ℕ) : Type 0 where
@@ -71,7 +69,7 @@ pub record Offered (m : Setting) (rows : ℕ) (c : Column) (at₀ : Stage) (stac
   pub listed : (stage_of r).listed ≤ counted list
   pub further : at₀.listed ≤ (stage_of r).listed
   pub kept : Kept (stage_of r) stack₀ list₀ stack list
-  pub gains : (at : Stage) → r ≡ Taken at → c ≢ endmark → at.matched ≡ at₀.matched + 1
+  pub gains : (at : Stage) → r ≡ Ok at → c ≢ endmark → at.matched ≡ at₀.matched + 1
   pub few : (stage_of r).matched ≤ at₀.matched + 1
 
 -- the whole string is offered, before the stack is cleared

@@ -1,6 +1,6 @@
 -- Where a run stands as the code has it: its counts, the states in the stack's first cells and the list.
 -- Document 02, W12. Only contracts inside the crate cite what stands here.
-use Rattle.std.specs.Prelude.{◌≡◌, true, false, List, [], ◌∷◌, ℕ, zero, suc, ◌+◌, ◌-◌, ◌*◌, ◌≤◌, ◌<◌, ltb, length, get_or, take}
+use Rattle.std.specs.Prelude.{Result, Ok, Err, ◌≡◌, true, false, List, [], ◌∷◌, ℕ, zero, suc, ◌+◌, ◌-◌, ◌*◌, ◌≤◌, ◌<◌, ltb, length, get_or, take}
 use Rattle.grammar.specs.Grammar.{Grammar, Column, token, endmark}
 use Rattle.answers.specs.Buffers.{counted}
 use Rattle.book.specs.declared.columns.Outline.{Outline}
@@ -11,8 +11,7 @@ use Rattle.slr_run.specs.Checking.{columns_in, rows_of}
 use Rattle.slr_run.specs.Fitting.{NumberFits}
 use Rattle.slr_run.specs.declared.Cause.TheVariants.{FullList, FullStack, Wants}
 use Rattle.slr_run.specs.declared.Cause.{Cause}
-use Rattle.slr_run.specs.declared.Reply.TheVariants.{Taken, Stopped}
-use Rattle.slr_run.specs.declared.Reply.{Reply}
+use Rattle.slr_run.specs.declared.Halt.{Halt}
 use Rattle.slr_run.specs.declared.Stage.{Stage}
 
 -- a grammar of which only T and N are told, which is all that cells and moves go by
@@ -79,11 +78,18 @@ reason_in FullList at = full_list
 reason_in FullStack at = full_stack
 reason_in Wants at = wants at.top
 
+-- what became of a column, or of a run: where it stands, or why it stops and where
+abbrev pub Reply : Type 0
+Reply = Result Stage Halt
+
+abbrev pub halted : Cause → Stage → Reply
+halted cause at = Err (record { cause = cause; at = at })
+
 unfoldable pub stage_of : Reply → Stage
-stage_of (Taken at) = at
-stage_of (Stopped cause at) = at
+stage_of (Ok at) = at
+stage_of (Err h) = h.at
 
 -- the outcome that a reply tells of
 unfoldable pub outcome_in : Reply → (stack list : List ℕ) → SlrOffered
-outcome_in (Taken at) stack list = taken (stage_in at stack list)
-outcome_in (Stopped cause at) stack list = stopped (reason_in cause at) (stage_in at stack list)
+outcome_in (Ok at) stack list = taken (stage_in at stack list)
+outcome_in (Err h) stack list = stopped (reason_in h.cause h.at) (stage_in h.at stack list)

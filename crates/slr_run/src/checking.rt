@@ -1,18 +1,17 @@
 // What is checked of a run before its steps: the table, the number of tokens, the tokens, a stack cell.
 ghost use Rattle.std.specs.Prelude.{◌≡◌, ◌+◌, ◌≤◌, length, get_or};
 ghost use Rattle.sets.specs.Calls.{Decides};
-ghost use Rattle.answers.specs.Lowest.{FirstFailing};
+ghost use Rattle.answers.specs.Lowest.{FailingIn};
 ghost use Rattle.slr.specs.Cells.{most_states};
 ghost use Rattle.slr_run.specs.Fitting.{NumberFits};
 ghost use Rattle.slr_run.specs.Checking.{columns_in, RowFits, CellFits, WholeRows, TableCheck, CheckedFor};
 
 use answers::limits::LONGEST_STRING;
-use answers::refusals::{LIMIT, ROOM, STACK_ROOM, TABLE, TOKEN};
-use answers::{Answer, done, refusal};
+use answers::refusals::{Lent, Refusal};
+use answers::{Answer, refusal};
 use book::columns::Outline;
 use run::checking::first_above;
 use slr::{ACCEPT, EMPTY, MOST_STATES, REDUCE};
-use table::fitting::Fitting;
 
 // How many columns a row has: the tokens, the end mark, the nonterminals.
 pub(crate) fn columns_of(outline: Outline) -> usize
@@ -45,78 +44,73 @@ fn number_fits(outline: Outline, rows: usize, column: usize, number: u16) -> boo
     number - REDUCE < outline.productions as u16
 }
 
-// The first column of the row that begins at a cell whose number does not fit, or the number of columns.
-fn first_unfit(table: &[u16], base: usize, columns: usize, outline: Outline, rows: usize) -> usize
+// The first column of the row that begins at a cell whose number does not fit.
+fn first_unfit(
+    table: &[u16],
+    base: usize,
+    columns: usize,
+    outline: Outline,
+    rows: usize,
+) -> Option<usize>
     requires { (rows ≤ most_states) × (base + columns ≤ length table.now) }
-    ensures { FirstFailing (RowFits outline rows table.now base) columns result }
+    ensures { FailingIn (RowFits outline rows table.now base) columns result }
 {
-    let mut column: usize = 0;
-    while column < columns {
+    for column in 0..columns {
         if !number_fits(outline, rows, column, table[base + column]) {
-            return column;
+            return Some(column);
         }
-        column += 1;
     }
-    column
+    None
 }
 
-// The first cell that does not fit, row by row, or the length.
-fn first_misfit(table: &[u16], outline: Outline, rows: usize) -> usize
+// The first cell that does not fit, row by row.
+fn first_misfit(table: &[u16], outline: Outline, rows: usize) -> Option<usize>
     requires { WholeRows outline table.now rows }
-    ensures { FirstFailing (CellFits outline rows table.now) (length table.now) result }
+    ensures { FailingIn (CellFits outline rows table.now) (length table.now) result }
 {
     let columns = columns_of(outline);
-    let mut base: usize = 0;
-    while base < table.len() {
-        let column = first_unfit(table, base, columns, outline, rows);
-        if column < columns {
-            return base + column;
+    for row in 0..rows {
+        let base = row * columns;
+        if let Some(column) = first_unfit(table, base, columns, outline, rows) {
+            return Some(base + column);
         }
-        base += columns;
     }
-    base
+    None
 }
 
-// Whether a table fits every grammar with these numbers, and the place of refusal 9 where it does not.
-fn check_table(table: &[u16], outline: Outline) -> Fitting
+// The place of refusal 9 where a table does not fit the grammars with these numbers: its length where it has not whole
+// rows, no row or too many, or else its first cell that does not fit.
+fn misfit(table: &[u16], outline: Outline) -> Option<usize>
     ensures { TableCheck outline table.now result }
 {
     let columns = columns_of(outline);
     let rows = table.len() / columns;
-    if table.len() % columns != 0 {
-        return Fitting::MisfitAt(table.len());
+    if table.len() % columns != 0 || rows == 0 || MOST_STATES < rows {
+        return Some(table.len());
     }
-    if rows == 0 {
-        return Fitting::MisfitAt(table.len());
-    }
-    if MOST_STATES < rows {
-        return Fitting::MisfitAt(table.len());
-    }
-    let misfit = first_misfit(table, outline, rows);
-    if misfit < table.len() {
-        Fitting::MisfitAt(misfit)
-    } else {
-        Fitting::Fit
-    }
+    first_misfit(table, outline, rows)
 }
 
-// The refusal of a run before steps, or done.
-pub(crate) fn check(outline: Outline, table: &[u16], tokens: &[u8], cells: usize) -> Answer
+// What a run is refused with before its steps.
+pub(crate) fn check(
+    outline: Outline,
+    table: &[u16],
+    tokens: &[u8],
+    cells: usize,
+) -> Result<(), Answer>
     ensures { CheckedFor outline table.now tokens.now cells result }
 {
-    let fitting = check_table(table, outline);
-    if let Fitting::MisfitAt(place) = fitting {
-        return refusal(TABLE, place as u64, 0);
+    if let Some(place) = misfit(table, outline) {
+        return Err(refusal(Refusal::Table, place as u64, 0));
     }
     if LONGEST_STRING < tokens.len() {
-        return refusal(LIMIT, LONGEST_STRING as u64, 0);
+        return Err(refusal(Refusal::Limit, LONGEST_STRING as u64, 0));
     }
-    let strange = first_above(tokens, outline.tokens);
-    if strange < tokens.len() {
-        return refusal(TOKEN, strange as u64, 0);
+    if let Some(strange) = first_above(tokens, outline.tokens) {
+        return Err(refusal(Refusal::Token, strange as u64, 0));
     }
     if cells == 0 {
-        return refusal(ROOM, 0, STACK_ROOM);
+        return Err(refusal(Refusal::Room, 0, Lent::Stack.detail()));
     }
-    done(0)
+    Ok(())
 }

@@ -7,7 +7,8 @@ ghost use Rattle.slr_run.specs.Deciding.{Turns, Reduction};
 
 use crate::checking::columns_of;
 use crate::{Cause, Ending, Stage, Turn};
-use book::columns::{Outline, gathered};
+use answers::buffers::cell_or;
+use book::columns::Outline;
 use slr::{ACCEPT, EMPTY, REDUCE};
 use stack::counts;
 
@@ -50,12 +51,12 @@ fn reduction(
         at.listed
         result }
 {
-    let size = gathered(lengths, p) as usize;
+    let size = cell_or(lengths, p as usize, 0) as usize;
     if at.height <= size {
         return Turn::Finish(Ending::Stop(Cause::Wants));
     }
     let base = at.height - 1 - size;
-    let column = outline.tokens as usize + 1 + gathered(lefts, p) as usize;
+    let column = outline.tokens as usize + 1 + cell_or(lefts, p as usize, 0) as usize;
     let to = number_in(table, outline, stack[base], column);
     if to == EMPTY {
         return Turn::Finish(Ending::Stop(Cause::Wants));

@@ -42,9 +42,9 @@ pub(crate) enum Turn {
     Finish(Ending),
 }
 
-// What became of a column: it is taken, or the run stops.
+// Why a run stops, and where it stands then.
 #[derive(Clone, Copy)]
-pub(crate) enum Reply {
-    Taken(Stage),
-    Stopped(Cause, Stage),
+pub(crate) struct Halt {
+    pub cause: Cause,
+    pub at: Stage,
 }

@@ -7,9 +7,9 @@ ghost use Rattle.slr_run.specs.Reducing.{reduced_to, finished, finished_stack, O
 ghost use Rattle.slr_run.specs.declared.Ending.TheVariants as endings;
 
 use crate::deciding::decide;
-use crate::{Ending, Reply, Stage, Turn};
+use crate::{Ending, Halt, Stage, Turn};
 use book::columns::Outline;
-use stack::{counts, greater};
+use stack::counts;
 
 // The counts after a reduction that keeps the states up to cell `base` and pushes a state.
 fn reduced_to(state: u8, base: usize, at: Stage) -> Stage
@@ -22,12 +22,12 @@ fn reduced_to(state: u8, base: usize, at: Stage) -> Stage
         height,
         listed: at.listed + 1,
         matched: at.matched,
-        deepest: greater(at.deepest, height),
+        deepest: at.deepest.max(height),
     }
 }
 
 // The reductions end: a state that is shifted to is pushed.
-fn finish(ending: Ending, stack: &mut [u8], at: Stage) -> Reply
+fn finish(ending: Ending, stack: &mut [u8], at: Stage) -> Result<Stage, Halt>
     requires { ((state : ℕ) → ending ≡ endings.Shift state → at.height < length stack.old)
         × (at.matched < 2 ^ 63) }
     ensures { (result ≡ finished ending at) × (stack.new ≡ finished_stack ending at stack.old) }
@@ -37,16 +37,16 @@ fn finish(ending: Ending, stack: &mut [u8], at: Stage) -> Reply
             let below = at.height;
             stack[below] = state;
             let height = below + 1;
-            Reply::Taken(Stage {
+            Ok(Stage {
                 top: state,
                 height,
                 listed: at.listed,
                 matched: at.matched + 1,
-                deepest: greater(at.deepest, height),
+                deepest: at.deepest.max(height),
             })
         }
-        Ending::Accept => Reply::Taken(at),
-        Ending::Stop(cause) => Reply::Stopped(cause, at),
+        Ending::Accept => Ok(at),
+        Ending::Stop(cause) => Err(Halt { cause, at }),
     }
 }
 
@@ -60,7 +60,7 @@ pub(crate) fn reduce_all(
     stack: &mut [u8],
     list: &mut [u8],
     at: Stage,
-) -> Reply
+) -> Result<Stage, Halt>
     requires { Grounds outline table.now lefts.now
         × (column ≤ outline.tokens)
         × Held (rows_of outline table.now) at stack.old

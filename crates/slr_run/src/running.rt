@@ -2,7 +2,7 @@
 ghost use Rattle.std.specs.Prelude.{◌≡◌, ℕ, ◌≤◌, ◌<◌, length, get_or};
 ghost use Rattle.grammar.specs.Grammar.{WellFormed};
 ghost use Rattle.answers.specs.Buffers.{counted};
-ghost use Rattle.book.specs.Columns.{outlined};
+ghost use Rattle.book.specs.Columns.{grammar_in};
 ghost use Rattle.slr_run.specs.Stages.{setting_by, Grounds};
 ghost use Rattle.slr_run.specs.Reducing.{Ended};
 ghost use Rattle.slr_run.specs.Answering.{RanFor};
@@ -11,20 +11,12 @@ ghost use Rattle.slr_run.specs.Running.{SlrRunOutcome};
 use crate::answering::answer_of;
 use crate::checking::check;
 use crate::reducing::reduce_all;
-use crate::{Reply, Stage};
+use crate::{Halt, Stage};
 use answers::Answer;
-use answers::refusals::DONE;
-use book::columns::{Outline, gather_lefts, gather_lengths, outline_of};
+use book::Index;
+use book::columns::{Outline, gather_lefts, gather_lengths};
 use book::judging::judge;
 use stack::clear;
-
-// The column of token i; past the last token it is the end mark's.
-fn column_of(tokens: &[u8], i: usize, last: u8) -> u8
-    ensures { (i < length tokens.now → result ≡ get_or tokens.now i 0)
-        × (length tokens.now ≤ i → result ≡ last) }
-{
-    if i < tokens.len() { tokens[i] } else { last }
-}
 
 // From state 0 on, the tokens are offered one by one, then the end mark.
 fn run_all(
@@ -35,7 +27,7 @@ fn run_all(
     tokens: &[u8],
     stack: &mut [u8],
     list: &mut [u8],
-) -> Reply
+) -> Result<Stage, Halt>
     requires { Grounds outline table.now lefts.now
         × (1 ≤ length stack.old)
         × ((i : ℕ) → i < length tokens.now → get_or tokens.now i 0 < outline.tokens) }
@@ -62,33 +54,25 @@ fn run_all(
         matched: 0,
         deepest: 1,
     };
-    loop {
-        let i = at.matched;
-        let column = column_of(tokens, i, outline.tokens);
-        let reply = reduce_all(table, outline, lefts, lengths, column, stack, list, at);
-        let Reply::Taken(next) = reply else {
-            return reply;
-        };
-        if tokens.len() <= i {
-            return reply;
-        }
-        at = next;
+    for token in tokens {
+        at = reduce_all(table, outline, lefts, lengths, *token, stack, list, at)?;
     }
+    let last = outline.tokens;
+    reduce_all(table, outline, lefts, lengths, last, stack, list, at)
 }
 
 // The checks, and the steps where these admit them; after that every stack cell is 0.
 fn run_on(
     book: &[u8],
-    places: &[u16],
-    outline: Outline,
+    index: &Index,
     table: &[u16],
     tokens: &[u8],
     stack: &mut [u8],
     list: &mut [u8],
 ) -> Answer
-    requires { WellFormed (outlined book.now places.now outline) }
+    requires { WellFormed (grammar_in book.now index.now) }
     ensures { RanFor
-        (outlined book.now places.now outline)
+        (grammar_in book.now index.now)
         table.now
         tokens.now
         stack.old
@@ -97,12 +81,12 @@ fn run_on(
         stack.new
         list.new }
 {
-    let checked = check(outline, table, tokens, stack.len());
-    if checked.number != DONE {
-        return checked;
+    let outline = index.outline;
+    if let Err(barred) = check(outline, table, tokens, stack.len()) {
+        return barred;
     }
-    let lefts = gather_lefts(book, places, outline);
-    let lengths = gather_lengths(book, places, outline);
+    let lefts = gather_lefts(book, index);
+    let lengths = gather_lengths(book, index);
     let reply = run_all(table, outline, &lefts, &lengths, tokens, stack, list);
     clear(stack);
     answer_of(table, outline, reply)
@@ -120,12 +104,8 @@ pub fn run(book: &[u8], table: &[u16], tokens: &[u8], stack: &mut [u8], list: &m
         stack.new
         list.new }
 {
-    let reading = judge(book);
-    let judged = reading.answer;
-    if judged.number != DONE {
-        return judged;
+    match judge(book) {
+        Ok(index) => run_on(book, &index, table, tokens, stack, list),
+        Err(refused) => refused,
     }
-    let places = reading.places;
-    let outline = outline_of(reading);
-    run_on(book, &places, outline, table, tokens, stack, list)
 }

@@ -1,129 +1,81 @@
 // What this program prints of a book: its sets, lookaheads, beginnings, table and the check of it.
+ghost use Rattle.std.specs.Prelude.{◌<◌};
+
 use crate::checks::show_checks;
-use answers::Answer;
+use answers::refusals::DONE;
+use book::Index;
 use book::judging::judge;
-use reader::fields::{byte_at, length_at, place_at};
-use sets::load;
+use first::forms::Trail;
+use reader::fields::{SYMBOLS, length_at};
 use std::io;
+use table::VACANT;
 
-fn show_answer(rt: &impl Print, word: &str, answer: Answer) -> io::Result<()> {
-    println!(rt;
-        "{word} {} {} {}",
-        answer.number, answer.place, answer.detail
-    )
-}
-
-// A set without the end of its line.
-fn begin_set(rt: &impl Print, word: &str, n: usize, set: u64) -> io::Result<()> {
-    print!(rt; "{word} {n} {set:016x}")
-}
-
-fn show_set(rt: &impl Print, word: &str, n: usize, set: u64) -> io::Result<()> {
-    begin_set(rt, word, n, set)?;
-    rt.print("\n")
+// A line for each of the first `count` sets of a family.
+fn show_sets(rt: &impl Print, word: &str, family: &[u64], count: usize) -> io::Result<()> {
+    for (n, set) in family.iter().take(count).enumerate() {
+        println!(rt; "{word} {n} {set:016x}")?;
+    }
+    Ok(())
 }
 
 // A set, and how many leading symbols can vanish.
-fn show_counted(rt: &impl Print, word: &str, n: usize, set: u64, vanishing: u64) -> io::Result<()> {
-    begin_set(rt, word, n, set)?;
-    println!(rt; " {vanishing}")
+fn show_trail(rt: &impl Print, word: &str, p: usize, trail: Trail) -> io::Result<()> {
+    println!(rt; "{word} {p} {:016x} {}", trail.set.word, trail.vanishing)
 }
 
-fn show_sets(rt: &impl Print, word: &str, family: &[u64], count: usize) -> io::Result<()> {
-    for n in 0..count {
-        let set = load(family, n);
-        show_set(rt, word, n, set.word)?;
-    }
-    Ok(())
-}
-
-fn show_lookaheads(rt: &impl Print, book: &[u8], count: usize) -> io::Result<()> {
+fn show_lookaheads(rt: &impl Print, book: &[u8], count: u8) -> io::Result<()> {
     for p in 0..count {
-        let found = follow::lookahead(book, p as u64);
-        let set = found.set;
-        show_counted(rt, "ahead", p, set.word, found.vanishing)?;
-    }
-    Ok(())
-}
-
-// FIRST of the right side that takes `size` bytes from `from` on.
-fn show_first_of(
-    rt: &impl Print,
-    book: &[u8],
-    p: usize,
-    from: usize,
-    size: usize,
-) -> io::Result<()> {
-    if from <= book.len() {
-        if size <= book.len() - from {
-            let end = from + size;
-            let found = first::first_of(book, &book[from..end]);
-            let set = found.set;
-            show_counted(rt, "begin", p, set.word, found.vanishing)?;
+        if let Ok(ahead) = follow::lookahead(book, u64::from(p)) {
+            show_trail(rt, "ahead", p as usize, ahead)?;
         }
     }
     Ok(())
 }
 
-fn show_beginnings(rt: &impl Print, book: &[u8], count: usize) -> io::Result<()> {
-    let reading = judge(book);
-    let places = reading.places;
-    for p in 0..count {
-        let at = place_at(&places, p) as usize;
-        show_first_of(rt, book, p, at + 4, length_at(book, at) as usize)?;
+// FIRST of the right side of each production.
+fn show_beginnings(rt: &impl Print, book: &[u8], index: &Index) -> io::Result<()> {
+    let count = index.outline.productions as usize;
+    for (p, place) in index.places.iter().take(count).enumerate() {
+        let at = *place as usize;
+        let from = at + SYMBOLS;
+        let end = from + length_at(book, at) as usize;
+        if let Some(right) = book.get(from..end) {
+            if let Ok(begin) = first::first_of(book, right) {
+                show_trail(rt, "begin", p, begin)?;
+            }
+        }
     }
     Ok(())
 }
 
-fn show_cell(rt: &impl Print, cell: u8) -> io::Result<()> {
-    if cell == 255 {
-        rt.print(" -")
-    } else {
-        print!(rt; " {cell}")
-    }
-}
-
-fn show_cells(rt: &impl Print, cells: &[u8], columns: usize) -> io::Result<()> {
-    for i in 0..columns {
-        show_cell(rt, byte_at(cells, i, 0))?;
+fn show_row(rt: &impl Print, row: usize, cells: &[u8]) -> io::Result<()> {
+    print!(rt; "row {row}")?;
+    for cell in cells {
+        if *cell == VACANT {
+            rt.print(" -")?;
+        } else {
+            print!(rt; " {cell}")?;
+        }
     }
     rt.print("\n")
 }
 
-fn show_row(rt: &impl Print, cells: &[u8], row: usize, columns: usize) -> io::Result<()> {
-    print!(rt; "row {row}")?;
-    if row < 64 {
-        if columns <= 64 {
-            let from = row * columns;
-            if from <= cells.len() {
-                show_cells(rt, &cells[from..], columns)?;
-            }
-        }
+fn show_rows(rt: &impl Print, cells: &[u8], columns: usize) -> io::Result<()>
+    requires { 0 < columns }
+{
+    for (row, cells) in cells.chunks(columns).enumerate() {
+        show_row(rt, row, cells)?;
     }
     Ok(())
 }
 
-fn show_rows(rt: &impl Print, cells: &[u8], rows: usize, columns: usize) -> io::Result<()> {
-    for row in 0..rows {
-        show_row(rt, cells, row, columns)?;
-    }
-    Ok(())
-}
-
-fn show_table_checks(
-    rt: &impl Print,
-    book: &[u8],
-    cells: &mut [u8],
-    rows: usize,
-    columns: usize,
-) -> io::Result<()> {
-    if rows <= 64 {
-        if columns <= 64 {
-            let size = rows * columns;
-            if size <= cells.len() {
-                show_checks(rt, book, &mut cells[..size])?;
-            }
-        }
+// The rows of a table without conflict, and the check of it.
+fn show_table(rt: &impl Print, book: &[u8], index: &Index, cells: &mut [u8]) -> io::Result<()> {
+    let columns = index.outline.tokens as usize + 1;
+    let size = columns.saturating_mul(index.outline.nonterminals as usize);
+    if let Some(table) = cells.get_mut(..size) {
+        show_rows(rt, table, columns)?;
+        show_checks(rt, book, index, table)?;
     }
     Ok(())
 }
@@ -132,21 +84,18 @@ pub(crate) fn show(rt: &impl Print, book: &[u8]) -> io::Result<()> {
     let mut first = [0u64; 64];
     let mut follow = [0u64; 64];
     let mut cells = [0u8; 4032];
-    let columns = byte_at(book, 0, 2) as usize + 1;
-    let rows = byte_at(book, 0, 3) as usize;
-    let count = byte_at(book, 0, 5) as usize;
-    let worked = follow::sets(book, &mut first, &mut follow);
+    follow::sets(book, &mut first, &mut follow);
     let built = table::build(book, &mut first, &mut follow, &mut cells);
-    show_answer(rt, "build", built)?;
-    if worked.number == 0 {
+    println!(rt; "build {} {} {}", built.number, built.place, built.detail)?;
+    if let Ok(index) = judge(book) {
+        let rows = index.outline.nonterminals as usize;
         show_sets(rt, "first", &first, rows)?;
         show_sets(rt, "follow", &follow, rows)?;
-        show_lookaheads(rt, book, count)?;
-        show_beginnings(rt, book, count)?;
-    }
-    if built.number == 0 {
-        show_rows(rt, &cells, rows, columns)?;
-        show_table_checks(rt, book, &mut cells, rows, columns)?;
+        show_lookaheads(rt, book, index.outline.productions)?;
+        show_beginnings(rt, book, &index)?;
+        if built.number == DONE {
+            show_table(rt, book, &index, &mut cells)?;
+        }
     }
     Ok(())
 }

@@ -6,10 +6,11 @@ use Prim.Native.Nat.{ℕ, suc, ◌+◌, ◌-◌, ◌*◌, ◌^◌, ◌≤◌, �
 use native.Mathlib.Nat.{pow-zero, pow-suc}
 use native.Mathlib.Decide.{dec_lt}
 use native.Mathlib.Omega.{arith}
-use borrow.Author.Tests.{lt-ltb, le-leb, lt-leb, leb-true, ltb-true}
+use borrow.Author.Tests.{le-ltb, lt-ltb, le-leb, lt-leb, leb-true, ltb-true}
 use lib.Dec.{leb, ltb}
 use lib.ListN.{length, get_or, drop, get_or-eq_default, drop_of_length-le}
 use lib.Seq.{drop-cons}
+use Rattle.std.specs.Int.{is_in_range}
 use Rattle.text.specs.Text.{decimal}
 use Rattle.text.specs.Numeral.{DecimalDigit, Each, digit_value, value}
 use Rattle.text.specs.Reading.{is_digit, leading_digits, most_read, number_at}
@@ -55,16 +56,14 @@ grown_value (b ∷ digits) v all =
     let counts : digit_value b ≡ b - 48 = digit_value_low (omega (arith, all.0)) in
     grown_value digits (10 * v + (b - 48)) all.1 ∙ rw (pow-suc, counts) (omega arith)
 
-pub digit_below : (b : ℕ) → b < 48 → false ≡ is_digit b
+-- std's test of a range
+pub digit_in_range : (b : ℕ) → is_in_range 48 57 b ≡ is_digit b
 unfolding is_digit
-digit_below b low = rw (lt-leb 48 b low)
-
-pub digit_from : (b : ℕ) → 48 ≤ b → ltb b 58 ≡ is_digit b
-unfolding is_digit
-digit_from b high = rw (le-leb 48 b high)
-
-pub digit_past : (text : List ℕ) (i : ℕ) → length text ≤ i → false ≡ is_digit (get_or text i 0)
-digit_past text i past = digit_below (get_or text i 0) (omega (arith, get_or-eq_default text 0 {n = i} past))
+digit_in_range b = by (dec_lt b 58)
+  where
+    by : Dec (b < 58) → is_in_range 48 57 b ≡ leb 48 b && ltb b 58
+    by (yes low) = rw (le-leb b 57 (omega arith), lt-ltb b 58 low)
+    by (no high) = rw (lt-leb b 57 (omega arith), le-ltb b 58 (omega arith))
 
 leading_digit : (b : ℕ) (text : List ℕ) → is_digit b ≡ true → leading_digits (b ∷ text) ≡ b ∷ leading_digits text
 unfolding leading_digits

@@ -33,10 +33,8 @@ pub fn put_all(out: &mut [u8], at: usize, text: &[u8]) -> usize
     ensures { Put out.old at text.now out.new result }
 {
     let mut place = at;
-    let mut i = 0;
-    while i < text.len() {
-        place = put(out, place, text[i]);
-        i += 1;
+    for byte in text {
+        place = put(out, place, *byte);
     }
     place
 }
@@ -69,9 +67,7 @@ pub fn hexadecimal(out: &mut [u8], at: usize, n: u64) -> usize
     ensures { Put out.old at (hexadecimal n) out.new result }
 {
     let mut place = at;
-    let mut left: u64 = 16;
-    while 0 < left {
-        left -= 1;
+    for left in (0..16u64).rev() {
         place = put(out, place, digit((n >> (4 * left)) % 16));
     }
     place
@@ -81,18 +77,14 @@ pub fn hexadecimal(out: &mut [u8], at: usize, n: u64) -> usize
 pub fn is_digit(byte: u8) -> bool
     ensures { result ≡ is_digit byte }
 {
-    if byte < b'0' { false } else { byte < b'0' + 10 }
+    byte.is_ascii_digit()
 }
 
-// Whether a digit stands at the place.
+// Whether a digit stands at the place; past the end stands 0, which is none.
 fn digit_at(text: &[u8], at: usize) -> bool
     ensures { result ≡ is_digit (get_or text.now at 0) }
 {
-    if at < text.len() {
-        is_digit(text[at])
-    } else {
-        false
-    }
+    is_digit(text.get(at).copied().unwrap_or(0))
 }
 
 // The number with one digit more.
@@ -100,8 +92,7 @@ fn with_digit(value: u64, byte: u8) -> u64
     requires { (value ≤ most_read) × (48 ≤ byte) }
     ensures { result ≡ min (10 * value + (byte - 48)) most_read }
 {
-    let more = 10 * value + (byte - b'0') as u64;
-    if more < MOST_READ { more } else { MOST_READ }
+    (10 * value + u64::from(byte - b'0')).min(MOST_READ)
 }
 
 // The number that the digits from `at` on spell, all that stand there; none spell 0.

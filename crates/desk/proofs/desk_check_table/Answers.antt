@@ -6,11 +6,11 @@ use Rattle.desk.proofs.Calls.{answered_call}
 use Rattle.desk.proofs.desk_check_table.Goals as goal
 
 pub returns-then-answer-lt-ANSWER_SIZE : goal.returns-then-answer-lt-ANSWER_SIZE
-returns-then-answer-lt-ANSWER_SIZE c = record { call = short (λ lent. omega (arith, answer_size_is)) }
+returns-then-answer-lt-ANSWER_SIZE c = rw c.number.ensures (record { call = short (λ lent. omega (arith, answer_size_is)) })
 
-pub write_answer-requires : goal.write_answer-requires
-write_answer-requires c = omega (arith, answer_size_is)
+pub tell-requires : goal.tell-requires
+tell-requires c = omega (arith, answer_size_is)
 
 pub returns : goal.returns
 returns c =
-    record { call = answered_call c.check-checked.result (omega (arith, answer_size_is)) c.check-checked.ensures c.write_answer.ensures }
+    record { call = answered_call c.check-checked.result (omega (arith, answer_size_is)) c.check-checked.ensures c.tell.ensures.number c.tell.ensures.bytes }

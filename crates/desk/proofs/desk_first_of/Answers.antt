@@ -9,17 +9,19 @@ use Rattle.desk.proofs.desk_first_of.Goals as goal
 
 pub returns-then-set-lt1 : goal.returns-then-set-lt1
 returns-then-set-lt1 c =
-    record {
+    rw c.number.ensures
+    (record {
       call =
           short (λ lent.
           ⊎_elim (λ w. omega (arith, lent.cell))
           (⊎_elim (λ w. omega (arith, lent.count, ltb-true)) (λ w. omega (arith, answer_size_is, lent.bytes, ltb-true)))
           c.then-set-lt1.either);
-    }
+    })
 
-pub write_answer-requires : goal.write_answer-requires
-write_answer-requires c = omega (arith, answer_size_is, ltb-false)
+pub tell_trail-requires : goal.tell_trail-requires
+tell_trail-requires c =
+    record { cell = omega arith; count = omega (arith, ltb-false); bytes = omega (arith, answer_size_is, ltb-false) }
 
 pub returns : goal.returns
 returns c =
-    record { call = set_call c.first_of-found.result (record { cell = omega arith; count = omega (arith, ltb-false); bytes = omega (arith, answer_size_is, ltb-false) }) c.first_of-found.ensures c.write_answer.ensures }
+    record { call = set_call c.first_of-found.result (record { cell = omega arith; count = omega (arith, ltb-false); bytes = omega (arith, answer_size_is, ltb-false) }) c.first_of-found.ensures c.tell_trail.ensures }

@@ -13,8 +13,9 @@ slice_bounds-list-end c =
 pub returns : goal.returns
 returns c =
     let past : longest_book < length c.args.book.now = c.requires.beginning in
+    rw c.unwrap_or.ensures
     record {
-      within = listed_within c.list-listed.ensures;
+      within = listed_within c.list.ensures;
       listing = λ input same.
-          beginning_listed (length c.args.book.now) past input c.requires.room (rw (← same) at c.list-listed.ensures);
+          beginning_listed (length c.args.book.now) past input c.requires.room (rw (← same) at c.list.ensures);
     }

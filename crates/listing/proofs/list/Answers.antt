@@ -27,5 +27,4 @@ shape_of-out c = put_length c.put_all.ensures
 
 pub returns : goal.returns
 returns c =
-    rw c.done.ensures
     (listed_by c.write-size.ensures enough c.if-out-size.false c.put_all.ensures)

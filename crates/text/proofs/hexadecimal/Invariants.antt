@@ -1,12 +1,8 @@
 -- `text::hexadecimal` meets its contract: the digits that are left, written from here on, make the whole.
-use Prim.Native.Nat.{◌≤◌}
 use Rattle.text.specs.Text.{hex_digits, hexadecimal}
 use Rattle.text.proofs.Writing.{Completes}
 use Rattle.text.proofs.hexadecimal.Given as goal
 
 abbrev pub invariant-loop-left : goal.invariant-loop-left
 invariant-loop-left l =
-    (l.left ≤ 16) × Completes l.initial.out l.at (hexadecimal l.n) l.out l.place (hex_digits l.left l.n)
-
-abbrev pub decreases-loop-left : goal.decreases-loop-left
-decreases-loop-left l = l.left
+    Completes l.initial.out l.at (hexadecimal l.n) l.out l.place (hex_digits l.left l.n)

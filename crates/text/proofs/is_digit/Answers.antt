@@ -1,9 +1,7 @@
--- Below '0' there is no digit; from there on a digit is below ':'.
-use Rattle.text.proofs.ReadingDigits.{digit_below, digit_from}
+-- std's test of the range from '0' to '9' is the one of the definition.
+use mathlib.Core.Path.{◌∙◌}
+use Rattle.text.proofs.ReadingDigits.{digit_in_range}
 use Rattle.text.proofs.is_digit.Goals as goal
 
-pub returns-then-byte-lt48 : goal.returns-then-byte-lt48
-returns-then-byte-lt48 c = digit_below c.args.byte c.if-byte-lt48.true
-
-pub returns-else-byte-lt48 : goal.returns-else-byte-lt48
-returns-else-byte-lt48 c = digit_from c.args.byte c.if-byte-lt48.false
+pub returns : goal.returns
+returns c = c.is_ascii_digit.ensures.value ∙ digit_in_range c.args.byte

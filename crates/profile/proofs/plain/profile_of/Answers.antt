@@ -1,14 +1,16 @@
 -- Refused, or the lowest production that breaks the profile, or none.
-use Rattle.profile.proofs.Breaking.{profile_refused, profile_unfit, profile_fits}
+use Rattle.std.proofs.lemmas.Result.{err_from_is_err_and}
+use Rattle.profile.specs.Breaking.{refused}
+use Rattle.profile.proofs.Breaking.{profile_unfit, profile_fits}
 use Rattle.profile.proofs.plain.profile_of.Goals as goal
 
-pub returns-then-judged-ne-DONE : goal.returns-then-judged-ne-DONE
-returns-then-judged-ne-DONE c = profile_refused c.if-judged-ne-DONE.true
+pub returns-in_err-index : goal.returns-in_err-index
+returns-in_err-index c =
+    let p = err_from_is_err_and c.from_residual.result c.from_residual.ensures.1 in
+    rw (p.1, p.2) (refused c.in_err-index.ensures)
 
-pub returns-then-broken-outline : goal.returns-then-broken-outline
-returns-then-broken-outline c =
-    profile_unfit c.if-judged-ne-DONE.false c.outline_of-outline.ensures c.first_break-broken.ensures c.if-broken-outline.true c.refusal.ensures
+pub returns-in-Some : goal.returns-in-Some
+returns-in-Some c = profile_unfit c.in_ok-index.ensures c.in-Some.ensures c.refusal.ensures
 
-pub returns-else-broken-outline : goal.returns-else-broken-outline
-returns-else-broken-outline c =
-    profile_fits c.if-judged-ne-DONE.false c.outline_of-outline.ensures c.first_break-broken.ensures c.if-broken-outline.false c.done.ensures
+pub returns-in-None : goal.returns-in-None
+returns-in-None c = profile_fits c.in_ok-index.ensures c.in-None.ensures

@@ -8,11 +8,11 @@ use Rattle.showing.proofs.Parts.{put_behind}
 use Rattle.showing.proofs.lines.set_line.Goals as goal
 
 pub returns : goal.returns
-unfolding set_line
+unfolding set_line set_text
 returns c =
     let text = set_text (number c.args.set) in
     put_behind c.args.name.now (numbered (c.args.n ∷ [])) (text ++ (newline ∷ [])) c.numbers-named.ensures
-    (put_then text (newline ∷ []) c.set_behind-place.ensures c.put.ensures)
+    (put_then text (newline ∷ []) (rw c.word.ensures at c.spaced-place.ensures) c.put.ensures)
 
 pub shape_of-out : goal.shape_of-out
 shape_of-out c = put_length (returns c)

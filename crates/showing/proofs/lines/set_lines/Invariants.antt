@@ -1,11 +1,9 @@
 -- `showing::lines::set_lines` meets its contract: the lines that are left, written from here on, make the whole.
-use Prim.Native.Nat.{◌-◌}
-use lib.ListN.{length}
-use Rattle.showing.proofs.Rows.{SetsShown}
+use lib.ListN.{drop}
+use Rattle.text.proofs.Promise.{Completes}
+use Rattle.showing.specs.Lines.{set_lines}
 use Rattle.showing.proofs.lines.set_lines.Given as goal
 
 abbrev pub invariant-loop-n : goal.invariant-loop-n
-invariant-loop-n l = SetsShown l.name l.family l.initial.out l.at l.out l.place l.n
-
-abbrev pub decreases-loop-n : goal.decreases-loop-n
-decreases-loop-n l = length l.family - l.n
+invariant-loop-n l =
+    Completes l.initial.out l.at (set_lines l.name 0 l.family) l.out l.place (set_lines l.name l.n (drop l.n l.family))

@@ -1,4 +1,5 @@
-use borrow.Author.Rules.{rules}
+use Prim.Native.Nat.{◌+◌}
+use native.Mathlib.Omega.{arith}
 use Rattle.sets.proofs.Promise.{none_is}
 use Rattle.slr_run.specs.Running.{slr_filled_below}
 use Rattle.slr_run.proofs.Expected.{columns_over}
@@ -6,10 +7,12 @@ use Rattle.slr_run.proofs.answering.expects.Goals as goal
 
 pub loop-column-init : goal.loop-column-init
 unfolding slr_filled_below
-loop-column-init c = (search rules, λ g sized. none_is c.none-columns.ensures)
+loop-column-init c g sized = none_is c.none-columns.ensures
 
 pub loop-column-preserved : goal.loop-column-preserved
-loop-column-preserved c = (search rules, λ g sized. c.with_column-columns.ensures.filled g sized (c.loop-column.invariant.1 g sized))
+loop-column-preserved c g sized = c.with_column-columns.ensures.filled g sized (c.loop-column.invariant g sized)
 
-pub returns : goal.returns
-returns c = columns_over _ _ c.loop-column-test.false c.loop-column.invariant.0 c.loop-column.invariant.1
+pub returns-2 : goal.returns-2
+returns-2 c =
+    columns_over c.args.table.now c.args.state {j = c.loop-column.column + 1} (omega arith) (omega arith)
+    (λ g sized. c.with_column-columns.ensures.filled g sized (c.loop-column.invariant g sized))

@@ -1,6 +1,5 @@
 -- The invariant: the columns passed are collected.
 use mathlib.Core.Path.{◌≡◌}
-use Prim.Native.Nat.{◌+◌, ◌-◌, ◌≤◌}
 use Rattle.grammar.specs.Grammar.{Grammar}
 use Rattle.sets.specs.Calls.{number}
 use Rattle.book.specs.Columns.{Outlines}
@@ -9,7 +8,4 @@ use Rattle.slr_run.proofs.answering.expects.Given as goal
 
 abbrev pub invariant-loop-column : goal.invariant-loop-column
 invariant-loop-column l =
-    (l.column ≤ l.last + 1) × ((g : Grammar) → Outlines l.outline g → number l.columns ≡ slr_filled_below g l.table l.state l.column)
-
-abbrev pub decreases-loop-column : goal.decreases-loop-column
-decreases-loop-column l = l.last + 1 - l.column
+    (g : Grammar) → Outlines l.outline g → number l.columns ≡ slr_filled_below g l.table l.state l.column

@@ -3,10 +3,10 @@ use mathlib.Core.Path.{sym, ap}
 use Rattle.slr_run.specs.Stages.{stage_of}
 use Rattle.slr_run.proofs.answering.stage_of.Goals as goal
 
-pub returns-in-Taken : goal.returns-in-Taken
+pub returns-in-Ok : goal.returns-in-Ok
 unfolding stage_of
-returns-in-Taken c = sym (ap stage_of c.in-Taken.is)
+returns-in-Ok c = sym (ap stage_of c.in-Ok.is)
 
-pub returns-in-Stopped : goal.returns-in-Stopped
+pub returns-in-Err : goal.returns-in-Err
 unfolding stage_of
-returns-in-Stopped c = sym (ap stage_of c.in-Stopped.is)
+returns-in-Err c = sym (ap stage_of c.in-Err.is)

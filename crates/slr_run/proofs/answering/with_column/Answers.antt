@@ -10,8 +10,8 @@ overflow_mul-row c = omega (arith, row_bound c.args.state c.columns_of.result (s
 pub overflow_add-row : goal.overflow_add-row
 overflow_add-row c = omega (arith, row_bound c.args.state c.columns_of.result (search rules) (search rules))
 
-pub returns-then-number_at : goal.returns-then-number_at
-returns-then-number_at c = column_vacant _ _ _ _ c.columns_of.ensures c.number_at.ensures c.if-number_at.true
+pub returns-then-cell_or : goal.returns-then-cell_or
+returns-then-cell_or c = column_vacant _ _ _ _ c.columns_of.ensures c.cell_or.ensures c.if-cell_or.true
 
-pub returns-else-number_at : goal.returns-else-number_at
-returns-else-number_at c = column_filled _ _ _ _ c.columns_of.ensures c.number_at.ensures c.if-number_at.false c.with.ensures c.column_bit.ensures
+pub returns-else-cell_or : goal.returns-else-cell_or
+returns-else-cell_or c = column_filled _ _ _ _ c.columns_of.ensures c.cell_or.ensures c.if-cell_or.false c.with.ensures c.column_bit.ensures

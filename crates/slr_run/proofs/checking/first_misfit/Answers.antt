@@ -1,32 +1,27 @@
 use native.Mathlib.Omega.{arith}
-use Rattle.slr_run.proofs.Rowwise.{rowwise_begun, row_inside, rowwise_found, rowwise_next, rowwise_over}
+use Rattle.slr_run.proofs.Rowwise.{row_inside, rowwise_found, rowwise_next, rowwise_over}
 use Rattle.slr_run.proofs.checking.first_misfit.Goals as goal
 
-pub loop-base-init : goal.loop-base-init
-loop-base-init c = rowwise_begun _ _ _
+pub overflow_mul-base : goal.overflow_mul-base
+overflow_mul-base c =
+    omega (arith, row_inside _ _ _ c.loop-row.row c.columns_of-columns.ensures c.requires c.loop-row-test.true)
 
-pub first_unfit-column-requires : goal.first_unfit-column-requires
-first_unfit-column-requires c =
-    (c.requires.few, omega (arith, row_inside _ _ _ c.loop-base.invariant c.requires c.loop-base-test.true, c.columns_of-columns.ensures))
+pub first_unfit-requires : goal.first_unfit-requires
+first_unfit-requires c =
+    (c.requires.few, row_inside _ _ _ c.loop-row.row c.columns_of-columns.ensures c.requires c.loop-row-test.true)
 
 pub overflow_add-result : goal.overflow_add-result
-overflow_add-result c = omega (arith, row_inside _ _ _ c.loop-base.invariant c.requires c.loop-base-test.true, c.columns_of-columns.ensures)
+overflow_add-result c =
+    omega (arith, c.in-Some.ensures.inside, row_inside _ _ _ c.loop-row.row c.columns_of-columns.ensures c.requires c.loop-row-test.true)
 
-pub returns-then-column-columns : goal.returns-then-column-columns
-returns-then-column-columns c =
-    let inside = row_inside _ _ _ c.loop-base.invariant c.requires c.loop-base-test.true in
-    rowwise_found _ _ _ c.loop-base.invariant c.columns_of-columns.ensures (omega (arith, inside, c.columns_of-columns.ensures)) c.first_unfit-column.ensures c.if-column-columns.true
+pub returns-in-Some : goal.returns-in-Some
+returns-in-Some c =
+    rowwise_found _ _ _ c.loop-row.row c.columns_of-columns.ensures c.requires c.loop-row-test.true c.loop-row.invariant
+    c.in-Some.ensures
 
-pub overflow_add-base : goal.overflow_add-base
-overflow_add-base c = omega (arith, row_inside _ _ _ c.loop-base.invariant c.requires c.loop-base-test.true, c.columns_of-columns.ensures)
-
-pub loop-base-smaller : goal.loop-base-smaller
-loop-base-smaller c = omega (arith, row_inside _ _ _ c.loop-base.invariant c.requires c.loop-base-test.true, c.columns_of-columns.ensures)
-
-pub loop-base-preserved : goal.loop-base-preserved
-loop-base-preserved c =
-    let inside = row_inside _ _ _ c.loop-base.invariant c.requires c.loop-base-test.true in
-    rowwise_next _ _ _ c.loop-base.invariant c.columns_of-columns.ensures (omega (arith, inside, c.columns_of-columns.ensures)) c.first_unfit-column.ensures c.if-column-columns.false
+pub loop-row-preserved : goal.loop-row-preserved
+loop-row-preserved c =
+    rowwise_next c.args.outline c.args.rows c.args.table.now c.loop-row.row c.columns_of-columns.ensures c.loop-row.invariant c.in_default.ensures
 
 pub returns : goal.returns
-returns c = rowwise_over _ _ _ c.loop-base.invariant c.loop-base-test.false
+returns c = rowwise_over _ _ _ c.requires c.loop-row-test.false c.loop-row.invariant

@@ -1,11 +1,6 @@
--- The invariant: whole rows are passed, and their cells fit.
-use Prim.Native.Nat.{◌-◌}
-use lib.ListN.{length}
+-- The invariant: the cells of the rows that are passed fit.
 use Rattle.slr_run.proofs.Rowwise.{Rowwise}
 use Rattle.slr_run.proofs.checking.first_misfit.Given as goal
 
-abbrev pub invariant-loop-base : goal.invariant-loop-base
-invariant-loop-base l = Rowwise l.outline l.rows l.table l.base
-
-abbrev pub decreases-loop-base : goal.decreases-loop-base
-decreases-loop-base l = length l.table - l.base
+abbrev pub invariant-loop-row : goal.invariant-loop-row
+invariant-loop-row l = Rowwise l.outline l.rows l.table l.row

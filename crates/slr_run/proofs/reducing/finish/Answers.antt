@@ -11,7 +11,7 @@ overflow_add-height c = let inside = c.requires.0 _ c.in-Shift.is in search rule
 
 pub returns-in-Shift : goal.returns-in-Shift
 unfolding finished finished_stack shifted_to
-returns-in-Shift c = (rw (c.in-Shift.is, c.greater.ensures), rw c.in-Shift.is)
+returns-in-Shift c = (rw (c.in-Shift.is, c.max.ensures), rw c.in-Shift.is)
 
 pub returns-in-Accept : goal.returns-in-Accept
 unfolding finished finished_stack

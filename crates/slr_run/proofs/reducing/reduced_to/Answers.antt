@@ -4,4 +4,4 @@ use Rattle.slr_run.proofs.reducing.reduced_to.Goals as goal
 
 pub returns : goal.returns
 unfolding reduced_to
-returns c = rw c.greater.ensures
+returns c = rw c.max.ensures

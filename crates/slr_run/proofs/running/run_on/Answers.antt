@@ -2,21 +2,21 @@
 use Rattle.slr_run.proofs.Served.{ran_barred, ran_admits, admitted_known, admitted_grounds, ended_countable, ran_ended}
 use Rattle.slr_run.proofs.running.run_on.Goals as goal
 
-pub returns-then-checked-ne-DONE : goal.returns-then-checked-ne-DONE
-returns-then-checked-ne-DONE c =
-    ran_barred c.args.book.now c.args.places.now c.args.outline c.args.table.now c.args.tokens.now c.args.stack.now c.check-checked.ensures c.if-checked-ne-DONE.true
+pub returns-in-Err : goal.returns-in-Err
+returns-in-Err c =
+    ran_barred c.args.book.now c.args.index.now.places c.args.index.now.outline c.args.table.now c.args.tokens.now c.args.stack.now c.in-Err.ensures
 
 pub run_all-reply-requires : goal.run_all-reply-requires
 run_all-reply-requires c =
-    let admits = ran_admits c.args.book.now c.args.places.now c.args.outline c.args.table.now c.args.tokens.now c.args.stack.now c.check-checked.ensures c.if-checked-ne-DONE.false in
-    (admitted_grounds c.args.book.now c.args.places.now c.args.outline c.args.table.now c.args.tokens.now c.args.stack.now c.requires c.gather_lefts-lefts.ensures admits, admits.stacked, admitted_known c.args.book.now c.args.places.now c.args.outline c.args.table.now c.args.tokens.now c.args.stack.now admits)
+    let admits = ran_admits c.args.book.now c.args.index.now.places c.args.index.now.outline c.args.table.now c.args.tokens.now c.args.stack.now c.in_default.ensures in
+    (admitted_grounds c.args.book.now c.args.index.now.places c.args.index.now.outline c.args.table.now c.args.tokens.now c.args.stack.now c.requires c.gather_lefts-lefts.ensures admits, admits.stacked, admitted_known c.args.book.now c.args.index.now.places c.args.index.now.outline c.args.table.now c.args.tokens.now c.args.stack.now admits)
 
 pub answer_of-requires : goal.answer_of-requires
 answer_of-requires c =
-    let admits = ran_admits c.args.book.now c.args.places.now c.args.outline c.args.table.now c.args.tokens.now c.args.stack.now c.check-checked.ensures c.if-checked-ne-DONE.false in
-    ended_countable c.args.book.now c.args.places.now c.args.outline c.args.table.now c.args.tokens.now c.args.stack.now c.gather_lefts-lefts.ensures c.gather_lengths-lengths.ensures c.args.list.now c.run_all-reply.ensures admits
+    let admits = ran_admits c.args.book.now c.args.index.now.places c.args.index.now.outline c.args.table.now c.args.tokens.now c.args.stack.now c.in_default.ensures in
+    ended_countable c.args.book.now c.args.index.now.places c.args.index.now.outline c.args.table.now c.args.tokens.now c.args.stack.now c.gather_lefts-lefts.ensures c.gather_lengths-lengths.ensures c.args.list.now c.run_all-reply.ensures admits
 
 pub returns : goal.returns
 returns c =
-    let admits = ran_admits c.args.book.now c.args.places.now c.args.outline c.args.table.now c.args.tokens.now c.args.stack.now c.check-checked.ensures c.if-checked-ne-DONE.false in
-    ran_ended c.args.book.now c.args.places.now c.args.outline c.args.table.now c.args.tokens.now c.args.stack.now c.gather_lefts-lefts.ensures c.gather_lengths-lengths.ensures c.args.list.now c.run_all-reply.ensures admits c.clear.ensures c.answer_of.ensures
+    let admits = ran_admits c.args.book.now c.args.index.now.places c.args.index.now.outline c.args.table.now c.args.tokens.now c.args.stack.now c.in_default.ensures in
+    ran_ended c.args.book.now c.args.index.now.places c.args.index.now.outline c.args.table.now c.args.tokens.now c.args.stack.now c.gather_lefts-lefts.ensures c.gather_lengths-lengths.ensures c.args.list.now c.run_all-reply.ensures admits c.clear.ensures c.answer_of.ensures
