@@ -1,17 +1,16 @@
 -- The first cell that two productions claim: what one production more does to it and to the columns claimed so far, and
 -- the two lowest claimants of a cell that has two.
-use mathlib.Core.Path.{◌≡◌, refl, sym, ap, ◌∙◌, subst}
+use mathlib.Core.Path.{◌≡◌, sym, ap, ◌∙◌, subst}
 use mathlib.Core.Bool.{Bool, true, false, ◌&&◌, false≢true}
 use mathlib.Core.Logic.{◌⊎◌, inl, inr, ◌≢◌}
 use mathlib.Core.List.{List}
 use Prim.Native.Nat.{ℕ, ◌+◌, ◌*◌, ◌%◌, ◌≤◌, ◌<◌}
 use native.Mathlib.Decide.{ℕ_discrete, dec_lt}
-use native.Mathlib.Nat.{div-add-mod', mod-lt}
+use native.Mathlib.Nat.{mod-lt}
 use native.Mathlib.Omega.{arith}
-use lib.Arith.{digits_div, digits_mod}
 use lib.ListN.{length}
 use Rattle.std.specs.Option.{option_or}
-use Rattle.std.specs.Prelude.{Option, Some, None, IsSome, unwrap_or}
+use Rattle.std.specs.Prelude.{Option, Some, None, unwrap_or}
 use Rattle.sets.specs.Sets.{member, Disjoint, united, column_place}
 use Rattle.sets.specs.Calls.{Decides, set_at, stored}
 use Rattle.sets.proofs.Promise.{decided, member_none, or_left, or_right, or_cases, stored_there, stored_elsewhere}

@@ -1,16 +1,12 @@
 -- From what is found to what is promised: FIRST of a book's grammar, and FIRST of a symbol string.
-use mathlib.Core.Path.{subst}
 use mathlib.Core.List.{List}
 use Prim.Native.Nat.{ℕ}
 use lib.ListN.{length}
-use Rattle.grammar.specs.Grammar.{Grammar}
 use Rattle.sets.specs.Sets.{empty_string, only}
 use Rattle.answers.specs.declared.Answer.{Answer}
 use Rattle.answers.specs.Lowest.{LowestAt}
 use Rattle.book.specs.declared.Index.{Index}
 use Rattle.book.specs.Judging.{Indexes}
-use Rattle.book.proofs.Promise.{serves_unique}
-use Rattle.first.specs.Numbers.{FirstFamily}
 use Rattle.first.specs.declared.forms.Trail.{Trail}
 use Rattle.first.specs.Trail.{Trailed, form_of}
 use Rattle.first.specs.Steps.{FirstFound}

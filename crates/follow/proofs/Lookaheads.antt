@@ -1,10 +1,10 @@
 -- The lookaheads of the records, filled in one after the other, are those of the grammar's productions.
-use mathlib.Core.Path.{◌≡◌, refl, sym, ◌∙◌}
+use mathlib.Core.Path.{◌≡◌, refl, ◌∙◌}
 use mathlib.Core.List.{List}
 use Prim.Native.Nat.{ℕ, ◌+◌, ◌<◌}
 use native.Mathlib.Omega.{arith}
-use lib.ListN.{set, replicate, length-set, length-replicate}
-use lib.Seq.{ext_get_or, get_or-set_same, get_or-set_other}
+use lib.ListN.{set, replicate, length-set}
+use lib.Seq.{get_or-set_same, get_or-set_other}
 use borrow.Author.Count.{below_more}
 use Rattle.grammar.specs.Grammar.{Grammar}
 use Rattle.answers.specs.Limits.{most_productions}
