@@ -153,6 +153,6 @@ pub fn write(book: &[u8], sheet: &mut [u8]) -> Answer
 {
     match read(book) {
         Ok(_) => write_read(book, sheet),
-        Err(fault) => refusal(fault.why, fault.place as u64, 0),
+        Err(fault) => Answer::from(fault),
     }
 }
