@@ -1,6 +1,6 @@
 -- The answers of document 01, "Refusals and their numbers": number, place, detail, steps, expected set; and the depth
 -- of document 02, W7. Fields not named are 0.
-use Rattle.std.specs.Prelude.{ℕ}
+use Rattle.std.specs.Prelude.{ℕ, Result, Ok, Err}
 use Rattle.sets.specs.declared.Set.{Set}
 pub use Rattle.sets.specs.Calls.{no_set}
 use Rattle.answers.specs.declared.Answer.{Answer}
@@ -19,6 +19,11 @@ refusal number place detail =
 unfoldable pub stop : (number place detail steps : ℕ) → Set → Answer
 stop number place detail steps expected =
     record { number = number; place = place; detail = detail; steps = steps; expected = expected; depth = 0 }
+
+-- what comes to something is done, or it is refused with its answer
+abbrev pub told : {A : Type 0} → Result A Answer → Answer
+told (Ok _) = done 0
+told (Err a) = a
 
 -- the same answer, with the most stack cells held at any moment
 unfoldable pub at_depth : ℕ → Answer → Answer

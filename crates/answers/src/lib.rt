@@ -58,6 +58,16 @@ pub fn stop(why: Refusal, place: u64, detail: u64, steps: u64, expected: Set) ->
     }
 }
 
+// What a call answers that comes to something or is refused: done, or the refusal.
+pub fn told<T: Copy>(outcome: Result<T, Answer>) -> Answer
+    ensures { result ≡ answers.told outcome }
+{
+    match outcome {
+        Ok(_) => done(0),
+        Err(refused) => refused,
+    }
+}
+
 // The same answer, with this depth.
 pub fn at_depth(answer: Answer, depth: u64) -> Answer
     ensures { result ≡ answers.at_depth depth answer }

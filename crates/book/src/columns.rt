@@ -1,5 +1,5 @@
 // The columns of an index: by production its left side, its right side's length and first byte.
-ghost use Rattle.std.specs.Prelude.{◌≡◌, ◌+◌, get_or};
+ghost use Rattle.std.specs.Prelude.{◌≡◌, ◌+◌, ◌*◌, get_or};
 ghost use Rattle.sets.specs.Calls.{Decides};
 ghost use Rattle.book.specs.Columns.{Gathered, Lefts, Lengths, Heads, IsOf};
 
@@ -14,6 +14,22 @@ pub struct Outline {
     pub nonterminals: u8,
     pub start: u8,
     pub productions: u8,
+}
+
+impl Outline {
+    // How many columns a row of the table has: one for each token, and the end mark's.
+    pub fn columns(self) -> usize
+        ensures { result ≡ self.tokens + 1 }
+    {
+        self.tokens as usize + 1
+    }
+
+    // How many cells the table has.
+    pub fn cells(self) -> usize
+        ensures { result ≡ self.nonterminals * (self.tokens + 1) }
+    {
+        self.nonterminals as usize * self.columns()
+    }
 }
 
 // The byte that stands at distance `more` in the record of each production, by the production's number; 0 from P on.

@@ -1,16 +1,15 @@
 // Whether a table is the one that building gives, whoever made it; no table is made for that.
 #![tactic(auto)]
 
-ghost use Rattle.follow.specs.Checks.{answered};
+ghost use Rattle.answers.specs.Answers.{told};
 ghost use Rattle.checker.specs.Calls.{CheckOutcome, CheckedWithFirst};
 ghost use Rattle.checker.specs.Checking.{Comparable};
 
 use crate::contests::{conflict_at, first_contested};
 use crate::differences::first_different;
 use answers::refusals::Refusal;
-use answers::{Answer, refusal};
+use answers::{Answer, refusal, told};
 use book::Index;
-use follow::checks::answer_of;
 use follow::work_out;
 use table::fitting::check_table;
 
@@ -20,7 +19,7 @@ mod differences;
 // A table that fits its book, by the lookaheads: the first conflict, else the first cell that differs, else none.
 fn compare(book: &[u8], index: &Index, ahead: &[u64], table: &[u8]) -> Result<(), Answer>
     requires { Comparable book.now index.now ahead.now table.now }
-    ensures { CheckOutcome book.now table.now (answered result) }
+    ensures { CheckOutcome book.now table.now (told result) }
 {
     let mut claimed = [0u64; 64];
     if let Some(cell) = first_contested(book, index, ahead, table.len(), &mut claimed) {
@@ -34,7 +33,7 @@ fn compare(book: &[u8], index: &Index, ahead: &[u64], table: &[u8]) -> Result<()
 
 // The refusal of the book, then of a table that does not fit, then what the two are compared for.
 fn check_all(book: &[u8], table: &[u8], first: &mut [u64; 64]) -> Result<(), Answer>
-    ensures { CheckedWithFirst book.now table.now (answered result) first.new }
+    ensures { CheckedWithFirst book.now table.now (told result) first.new }
 {
     let mut follow = [0u64; 64];
     let mut ahead = [0u64; 128];
@@ -49,7 +48,7 @@ fn check_all(book: &[u8], table: &[u8], first: &mut [u64; 64]) -> Result<(), Ans
 pub fn check_with_first(book: &[u8], table: &[u8], first: &mut [u64; 64]) -> Answer
     ensures { CheckedWithFirst book.now table.now result first.new }
 {
-    answer_of(check_all(book, table, first))
+    told(check_all(book, table, first))
 }
 
 // The refusals 1 to 6 of the book, then 9, 8 or 17 of the table; done exactly if the table is built without conflict.

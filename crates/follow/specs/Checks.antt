@@ -1,8 +1,8 @@
 -- The checks of the calls with the refusal that each gives: room for the sets, and a production's number.
 -- Document 01, "Refusals and their numbers": 7 and 12.
-use Rattle.std.specs.Prelude.{ℕ, ◌≤◌, ◌<◌, ⊤, Result, Ok, Err}
+use Rattle.std.specs.Prelude.{ℕ, ◌≤◌, ◌<◌, ⊤, Result}
 use Rattle.answers.specs.declared.Answer.{Answer}
-use Rattle.answers.specs.Answers.{done, refusal}
+use Rattle.answers.specs.Answers.{refusal}
 use Rattle.answers.specs.Refusals as refusals
 use Rattle.answers.specs.Checks.{Tested, Because, Either, Lacking}
 
@@ -20,8 +20,3 @@ Unnumbered production productions = Because (productions ≤ production) (refusa
 
 abbrev pub Numbered : (production productions : ℕ) → Result ⊤ Answer → Type 0
 Numbered production productions = Tested (Unnumbered production productions) (production < productions)
-
--- what a call answers: the refusal that stopped it, or done
-abbrev pub answered : Result ⊤ Answer → Answer
-answered (Ok _) = done 0
-answered (Err a) = a

@@ -1,10 +1,9 @@
-// The checks of the calls: room for the sets, and a production's number; and what a call answers after its checks.
-ghost use Rattle.std.specs.Prelude.{◌≡◌};
-ghost use Rattle.follow.specs.Checks.{SetsRoomed, Numbered, answered};
+// The checks of the calls: room for the sets, and a production's number.
+ghost use Rattle.follow.specs.Checks.{SetsRoomed, Numbered};
 
 use answers::buffers::check_room;
 use answers::refusals::{Lent, Refusal};
-use answers::{Answer, done, refusal};
+use answers::{Answer, refusal};
 
 // Both set buffers have room for N sets.
 pub fn sets_room(first: usize, follow: usize, n: usize) -> Result<(), Answer>
@@ -22,15 +21,5 @@ pub(crate) fn numbered(production: u64, productions: u8) -> Result<(), Answer>
         Ok(())
     } else {
         Err(refusal(Refusal::Production, production, 0))
-    }
-}
-
-// The refusal that stopped a call, or done.
-pub fn answer_of(outcome: Result<(), Answer>) -> Answer
-    ensures { result ≡ answered outcome }
-{
-    match outcome {
-        Ok(()) => done(0),
-        Err(answer) => answer,
     }
 }

@@ -4,14 +4,14 @@
 ghost use Rattle.std.specs.Prelude.{◌≡◌, replicate};
 ghost use Rattle.answers.specs.Limits.{most_nonterminals};
 ghost use Rattle.follow.specs.Calls.{SetsOutcome, LookaheadOutcome};
-ghost use Rattle.follow.specs.Checks.{answered};
+ghost use Rattle.answers.specs.Answers.{told};
 ghost use Rattle.follow.specs.WorkedOut.{WorkedOut};
 ghost use Rattle.follow.specs.Walks.{SetsFound};
 
 use crate::ahead::{fill_ahead, lookahead_at};
-use crate::checks::{answer_of, numbered, sets_room};
+use crate::checks::{numbered, sets_room};
 use crate::follow::follows;
-use answers::Answer;
+use answers::{Answer, told};
 use answers::buffers::write_front;
 use book::Index;
 use first::find_first;
@@ -34,7 +34,7 @@ fn find_sets(book: &[u8], first: &mut [u64; 64], follow: &mut [u64; 64]) -> Resu
 
 // The sets of a book with room for them, or the refusal.
 fn write_sets(book: &[u8], first: &mut [u64], follow: &mut [u64]) -> Result<(), Answer>
-    ensures { SetsOutcome book.now first.old follow.old (answered result)
+    ensures { SetsOutcome book.now first.old follow.old (told result)
         first.new follow.new }
 {
     let mut begins = [0u64; 64];
@@ -53,7 +53,7 @@ pub fn sets(book: &[u8], first: &mut [u64], follow: &mut [u64]) -> Answer
     ensures { SetsOutcome book.now first.old follow.old result
         first.new follow.new }
 {
-    answer_of(write_sets(book, first, follow))
+    told(write_sets(book, first, follow))
 }
 
 // The sets of each nonterminal and the lookahead of each production, all that a table is built from; how many symbols

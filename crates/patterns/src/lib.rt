@@ -7,7 +7,7 @@ ghost use Rattle.patterns.specs.Gathering.{TablesFit, FillOutcome};
 use crate::gathering::gather;
 use crate::tables::{FOLLOW_LENGTH, READERS_LENGTH};
 use answers::refusals::Refusal;
-use answers::{Answer, done, refusal};
+use answers::{Answer, done, refusal, told};
 
 mod gathering;
 pub mod tables;
@@ -59,8 +59,5 @@ pub fn judge(patterns: &[u8], lengths: &[u64]) -> Answer
 {
     let mut readers = [0u64; 1];
     let mut follow = [0u64; 1];
-    match gather(patterns, lengths, &mut readers, &mut follow) {
-        Ok(()) => done(0),
-        Err(answer) => answer,
-    }
+    told(gather(patterns, lengths, &mut readers, &mut follow))
 }

@@ -146,7 +146,7 @@ pub(crate) fn enter(
         → Serves book.now g
         → Entered g table.old result table.new }
 {
-    let cells = index.outline.nonterminals as usize * (index.outline.tokens as usize + 1);
+    let cells = index.outline.cells();
     if cells <= FEW {
         tabulate::<FEW>(book, index, ahead, cells, table)
     } else {

@@ -15,13 +15,6 @@ pub fn cell_at(table: &[u8], i: usize) -> u8
     cell_or(table, i, VACANT)
 }
 
-// How many cells a table of the grammar has.
-fn table_size(outline: Outline) -> usize
-    ensures { result ≡ outline.nonterminals * (outline.tokens + 1) }
-{
-    outline.nonterminals as usize * (outline.tokens as usize + 1)
-}
-
 // Whether cell i is vacant or holds a production of its row.
 fn cell_fits(lefts: &[u8], outline: Outline, table: &[u8], i: usize) -> bool
     requires { i < outline.nonterminals * (outline.tokens + 1) }
@@ -54,7 +47,7 @@ fn first_misfit(book: &[u8], index: &Index, table: &[u8]) -> Option<usize>
 pub fn check_table(book: &[u8], index: &Index, table: &[u8]) -> Result<(), usize>
     ensures { TableFitting (grammar_in book.now index.now) table.now result }
 {
-    if table.len() != table_size(index.outline) {
+    if table.len() != index.outline.cells() {
         return Err(table.len());
     }
     match first_misfit(book, index, table) {

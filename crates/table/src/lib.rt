@@ -1,14 +1,14 @@
 // The LL(1) table of a book: its cells, its first conflict, and building it.
 #![tactic(auto)]
 
-ghost use Rattle.follow.specs.Checks.{answered};
+ghost use Rattle.answers.specs.Answers.{told};
 ghost use Rattle.table.specs.Calls.{BuildOutcome};
 
 use crate::claims::enter;
-use answers::Answer;
 use answers::buffers::{check_room, write_front};
 use answers::refusals::Lent;
-use follow::checks::{answer_of, sets_room};
+use answers::{Answer, told};
+use follow::checks::sets_room;
 use follow::work_out;
 
 mod claims;
@@ -25,7 +25,7 @@ fn write_all(
     follow: &mut [u64],
     table: &mut [u8],
 ) -> Result<(), Answer>
-    ensures { BuildOutcome book.now first.old follow.old table.old (answered result)
+    ensures { BuildOutcome book.now first.old follow.old table.old (told result)
         first.new follow.new table.new }
 {
     let mut begins = [0u64; 64];
@@ -33,9 +33,8 @@ fn write_all(
     let mut ahead = [0u64; 128];
     let index = work_out(book, &mut begins, &mut ends, &mut ahead)?;
     let n = index.outline.nonterminals as usize;
-    let cells = n * (index.outline.tokens as usize + 1);
     sets_room(first.len(), follow.len(), n)?;
-    check_room(table.len(), cells, Lent::Table)?;
+    check_room(table.len(), index.outline.cells(), Lent::Table)?;
     enter(book, &index, &ahead, table)?;
     write_front(&begins[..n], first);
     write_front(&ends[..n], follow);
@@ -47,5 +46,5 @@ pub fn build(book: &[u8], first: &mut [u64], follow: &mut [u64], table: &mut [u8
     ensures { BuildOutcome book.now first.old follow.old table.old result
         first.new follow.new table.new }
 {
-    answer_of(write_all(book, first, follow, table))
+    told(write_all(book, first, follow, table))
 }

@@ -1,9 +1,18 @@
 -- `patterns::judge` meets its contract.
-use Rattle.patterns.specs.Calls.{refused, accepted}
+use mathlib.Core.List.{List}
+use Prim.Native.Nat.{ℕ}
+use Rattle.std.specs.Prelude.{Result, Ok, Err, ⊤}
+use Rattle.answers.specs.declared.Answer.{Answer}
+use Rattle.answers.specs.Answers.{told}
+use Rattle.patterns.specs.Calls.{JudgePatterns, refused, accepted}
+use Rattle.patterns.specs.Gathering.{GatherOutcome}
 use Rattle.patterns.proofs.judge.Goals as goal
 
-pub returns-in-Ok : goal.returns-in-Ok
-returns-in-Ok c = rw c.done.ensures (accepted c.in-Ok.ensures.accepted)
+judged : {patterns lengths : List ℕ} (readers follow xs ys : List ℕ) (r : Result ⊤ Answer)
+    → GatherOutcome patterns lengths readers follow xs ys r
+    → JudgePatterns patterns lengths (told r)
+judged readers follow xs ys (Ok _) gathered = accepted gathered.accepted
+judged readers follow xs ys (Err a) refuses = refused refuses
 
-pub returns-in-Err : goal.returns-in-Err
-returns-in-Err c = refused c.in-Err.ensures
+pub returns : goal.returns
+returns c = rw c.told.ensures (judged _ _ _ _ _ c.gather.ensures)
