@@ -136,14 +136,6 @@ module _ (book : List ℕ) (index : Index) (table tokens stack₀ list₀ : List
       }
 
   module _ {at : Progress} {stack list : List ℕ} (w : Running at stack list) where
-    pub running_ready : length tokens < 2 ^ 63 → Ready at stack list
-    running_ready h =
-        record {
-          height = omega (arith, w.holds.height, w.holds.highest, w.holds.stack_room);
-          listed = omega (arith, w.holds.listed, w.holds.list_room);
-          matched = omega (arith, w.inside);
-        }
-
     -- the offer of what comes next
     abbrev rest : List ℕ
     rest = drop at.matched tokens
