@@ -3,7 +3,7 @@ use Rattle.std.specs.Prelude.{Option, Some, None, Ok, Err}
 use mathlib.Core.Path.{◌≡◌, refl, sym, ◌∙◌, ap, subst, subst₂}
 use mathlib.Core.List.{List, [], ◌∷◌}
 use mathlib.Core.Option as math
-use Prim.Native.Nat.{ℕ, suc, ◌+◌, ◌-◌, ◌%◌, ◌^◌, ◌≤◌, ◌<◌, min}
+use Prim.Native.Nat.{ℕ, suc, ◌+◌, ◌-◌, ◌%◌, ◌≤◌, ◌<◌, min}
 use native.Mathlib.Numerals.{add-one}
 use native.Mathlib.Omega.{arith}
 use lib.ListN.{length, get_or, drop, set, replicate, length-append, length-set, drop_of_length-le}
@@ -24,7 +24,7 @@ use Rattle.stack.specs.Ahead.{column_in}
 use Rattle.stack.specs.Stack.{stacked}
 use Rattle.stack.proofs.Promise.{length_over, over_over, nonterminal_spelled, stacked_open, length_stacked, stacked_again}
 use Rattle.offer.specs.Strings.{Stepped, ran, StringOutcome, ended}
-use Rattle.offer.specs.Offering.{Holds, Ready, Offering, OfferedAt}
+use Rattle.offer.specs.Offering.{Holds, Offering, OfferedAt}
 use Rattle.offer.specs.Resuming.{progress_of, reported}
 use Rattle.offer.specs.declared.Progress.{Progress}
 use Rattle.offer.specs.Reply.{Reply}

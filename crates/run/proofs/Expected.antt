@@ -4,7 +4,7 @@ use mathlib.Core.Path.{◌≡◌, refl, ◌∙◌, ap}
 use mathlib.Core.Logic.{◌≢◌}
 use mathlib.Core.Bool.{false, and-false, or-false}
 use mathlib.Core.List.{List}
-use Prim.Native.Nat.{ℕ, suc, ◌+◌, ◌*◌, ◌≤◌, ◌<◌}
+use Prim.Native.Nat.{ℕ, ◌+◌, ◌*◌, ◌<◌}
 use native.Mathlib.Decide.{dec_lt}
 use native.Mathlib.Numerals.{add-one}
 use native.Mathlib.Omega.{arith}
