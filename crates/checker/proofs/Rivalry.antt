@@ -1,17 +1,16 @@
 -- The first cell that two productions claim: what one production more does to it and to the columns claimed so far, and
 -- the two lowest claimants of a cell that has two.
-use mathlib.Core.Path.{◌≡◌, refl, sym, ap, ◌∙◌, subst}
+use mathlib.Core.Path.{◌≡◌, sym, ap, ◌∙◌, subst}
 use mathlib.Core.Bool.{Bool, true, false, ◌&&◌, false≢true}
 use mathlib.Core.Logic.{◌⊎◌, inl, inr, ◌≢◌}
 use mathlib.Core.List.{List}
 use Prim.Native.Nat.{ℕ, ◌+◌, ◌*◌, ◌%◌, ◌≤◌, ◌<◌}
 use native.Mathlib.Decide.{ℕ_discrete, dec_lt}
-use native.Mathlib.Nat.{div-add-mod', mod-lt}
+use native.Mathlib.Nat.{mod-lt}
 use native.Mathlib.Omega.{arith}
-use lib.Arith.{digits_div, digits_mod}
 use lib.ListN.{length}
 use Rattle.std.specs.Option.{option_or}
-use Rattle.std.specs.Prelude.{Option, Some, None, IsSome, unwrap_or}
+use Rattle.std.specs.Prelude.{Option, Some, None, unwrap_or}
 use Rattle.sets.specs.Sets.{member, Disjoint, united, column_place}
 use Rattle.sets.specs.Calls.{Decides, set_at, stored}
 use Rattle.sets.proofs.Promise.{decided, member_none, or_left, or_right, or_cases, stored_there, stored_elsewhere}
@@ -67,25 +66,6 @@ module _ {row x y tokens : ℕ} where
 
   pub apart_shared : (bound : ℕ) → Disjoint x y → LowestIn (Shared row x y tokens) bound None
   apart_shared bound apart = none_shared bound (λ column inside b. apart _ b.in_one b.in_other)
-
-  module _ {column : ℕ} (lowest : LowestAt (λ c. Both x y (column_place c tokens)) (tokens + 1) column) where
-    -- a cell of the row before that of the first column shared is not shared
-    before_column : (i : ℕ) → i < row * (tokens + 1) + column → ¬ Shared row x y tokens i
-    before_column i below s =
-        let whole : row * (tokens + 1) + i % (tokens + 1) ≡ i = rw (sym s.of_row) (div-add-mod' i (tokens + 1)) in
-        lowest.earlier (i % (tokens + 1)) (omega arith) s.both
-
-    pub first_column : (bound : ℕ) → row * (tokens + 1) + column < bound → LowestIn (Shared row x y tokens) bound (Some (row * (tokens + 1) + column))
-    first_column bound below =
-        let inside : column < tokens + 1 = lowest.inside in
-        record {
-          inside = below;
-          holds = record { of_row = digits_div row inside; both = rw (digits_mod row inside) lowest.holds };
-          earlier = before_column;
-        }
-
-    pub past_column : (bound : ℕ) → bound ≤ row * (tokens + 1) + column → LowestIn (Shared row x y tokens) bound None
-    past_column bound past i below = before_column i (omega arith)
 
 module _ {left look : ℕ → ℕ} where
   -- before the first production no column is claimed
@@ -202,51 +182,29 @@ module _ {left look : ℕ → ℕ} where
   pub contested_none : (tokens : ℕ) {cells : ℕ} → LowestIn (λ i. Twice (claims_before left look tokens 0 i)) cells None
   contested_none tokens i below t = omega (arith, t.claims_one.below)
 
--- where C holds of two numbers below the count, the lowest and the lowest behind it are rivals
-module _ {C : ℕ → Type 0} {count : ℕ} (twice : Twice (Before count C)) where
-  pub lowest_there : (r : Option ℕ) → LowestIn (From 0 C) count r → IsSome r
-  lowest_there None none =
-      absurd (none twice.one twice.claims_one.below (record { reached = omega arith; claim = twice.claims_one.claim }))
-  lowest_there (Some p) lowest = refl
+-- the lowest claimant of those below the count, and the lowest behind it, are rivals
+module _ {C : ℕ → Type 0} {count p q : ℕ} (lowest : LowestAt (From 0 C) count p) (next : LowestAt (From (p + 1) C) count q) where
+  not_before : {r : ℕ} → Before count C r → p ≤ r
+  not_before {r} b = go (dec_lt r p)
+    where
+      go : Dec (r < p) → p ≤ r
+      go (yes h) = absurd (lowest.earlier r h (record { reached = omega arith; claim = b.claim }))
+      go (no n) = omega arith
 
-  module _ {p : ℕ} (lowest : LowestAt (From 0 C) count p) where
-    not_before : {q : ℕ} → Before count C q → p ≤ q
-    not_before {q} b = go (dec_lt q p)
-      where
-        go : Dec (q < p) → p ≤ q
-        go (yes h) = absurd (lowest.earlier q h (record { reached = omega arith; claim = b.claim }))
-        go (no n) = omega arith
-
-    -- one of the two lies behind the lowest
-    behind : (q : ℕ) × (p < q) × Before count C q
-    behind = go (ℕ_discrete twice.one p)
-      where
-        go : Dec (twice.one ≡ p) → (q : ℕ) × (p < q) × Before count C q
-        go (yes e) =
-            let other : twice.other ≢ p = λ f. twice.distinct (e ∙ sym f) in
-            (twice.other, omega (arith, not_before twice.claims_other), twice.claims_other)
-        go (no d) = (twice.one, omega (arith, not_before twice.claims_one), twice.claims_one)
-
-    pub next_there : (r : Option ℕ) → LowestIn (From (p + 1) C) count r → IsSome r
-    next_there None none =
-        let (q, order, b) = behind in
-        absurd (none q b.below (record { reached = omega arith; claim = b.claim }))
-    next_there (Some q) next = refl
-
-    pub rivals : {q : ℕ} → LowestAt (From (p + 1) C) count q → Rivals (Before count C) p q
-    rivals {q} next =
-        record {
-          lowest = record { below = lowest.inside; claim = lowest.holds.claim };
-          next = record { below = next.inside; claim = next.holds.claim };
-          order = omega (arith, next.holds.reached);
-          others = λ r b. go r b (ℕ_discrete r p) (dec_lt r q);
-        }
-      where
-        go : (r : ℕ) → Before count C r → Dec (r ≡ p) → Dec (r < q) → (r ≡ p) ⊎ (q ≤ r)
-        go r b (yes e) h = inl e
-        go r b (no d) (yes h) =
-            absurd (next.earlier r h (record { reached = omega (arith, not_before b); claim = b.claim }))
-        go r b (no d) (no n) = inr (omega arith)
+  pub rivals : Rivals (Before count C) p q
+  rivals =
+      record {
+        lowest = record { below = lowest.inside; claim = lowest.holds.claim };
+        next = record { below = next.inside; claim = next.holds.claim };
+        order = omega (arith, next.holds.reached);
+        others = λ r b. go r b (ℕ_discrete r p) (dec_lt r q);
+      }
+    where
+      go : (r : ℕ) → Before count C r → Dec (r ≡ p) → Dec (r < q) → (r ≡ p) ⊎ (q ≤ r)
+      go r b (yes e) h = inl e
+      go r b (no d) (yes h) =
+          absurd (next.earlier r h (record { reached = omega (arith, not_before b); claim = b.claim }))
+      go r b (no d) (no n) = inr (omega arith)
 
 -- two answers on one bit, taken together
 pub both_decided : (x y bit : ℕ) {r s : Bool}
@@ -263,14 +221,6 @@ both_decided x y bit {r} {s} e f = decided (r && s) (λ h. holds r s e f h) (λ 
     told : member bit x ≡ r → member bit y ≡ s → Both x y bit → r && s ≡ true
     told e f b = rw (sym e ∙ b.in_one, sym f ∙ b.in_other)
 
--- a production of the row claims what its lookahead says
-pub claimant_decided : (left look : ℕ → ℕ) (row bit p : ℕ) {r : Bool}
-    → left p ≡ row
-    → r ≡ member bit (look p)
-    → Decides r (ClaimsAt left look row bit p)
-claimant_decided left look row bit p {r} sided told =
-    decided r (λ h. record { of_row = sided; has_bit = sym told ∙ h }) (λ k. told ∙ k.has_bit)
-
 -- what adding the claims of a production comes to
 pub claims_added : {row ahead tokens bound before union : ℕ} {r : Option ℕ} {claimed claimed' : List ℕ}
     → before ≡ set_at claimed row
@@ -285,24 +235,15 @@ claims_added {row} {ahead} {tokens} {bound} {r = r} {claimed = claimed} was join
     }
 
 -- the claimants of a contested cell, sought by its row and the bit of its column
-module _ (left look : ℕ → ℕ) (tokens cell : ℕ) {count bit : ℕ}
-    (twice : Twice (claims_before left look tokens count cell)) (column : bit ≡ bit_of tokens cell) where
-  abbrev Sought : ℕ → Option ℕ → Type 0
-  Sought from = LowestIn (From from (ClaimsAt left look (row_of tokens cell) bit)) count
+module _ (left look : ℕ → ℕ) (tokens cell : ℕ) {count bit : ℕ} (column : bit ≡ bit_of tokens cell) where
+  claimed : {from r : ℕ}
+      → LowestAt (From from (ClaimsAt left look (row_of tokens cell) bit)) count r
+      → LowestAt (From from (claims left look tokens cell)) count r
+  claimed {from} {r} = subst (λ (b : ℕ). LowestAt (From from (ClaimsAt left look (row_of tokens cell) b)) count r) column
 
-  claimed : (from : ℕ) (r : Option ℕ) → Sought from r → LowestIn (From from (claims left look tokens cell)) count r
-  claimed from r = subst (λ (b : ℕ). LowestIn (From from (ClaimsAt left look (row_of tokens cell) b)) count r) column
-
-  pub claimant_there : (r : Option ℕ) → Sought 0 r → IsSome r
-  claimant_there r lowest = lowest_there twice r (claimed 0 r lowest)
-
-  module _ (p : ℕ) (lowest : Sought 0 (Some p)) where
-    pub next_claimant : (r : Option ℕ) → Sought (p + 1) r → IsSome r
-    next_claimant r next = next_there twice (claimed 0 (Some p) lowest) r (claimed (p + 1) r next)
-
-    pub conflict_told : (q : ℕ) {a : Answer}
-        → Sought (p + 1) (Some q)
-        → a ≡ refusal refusals.conflict cell (p * 256 + q)
-        → Disputed (claims_before left look tokens count cell) cell a
-    conflict_told q next told =
-        rw told (disputed (rivals twice (claimed 0 (Some p) lowest) (claimed (p + 1) (Some q) next)))
+  pub conflict_told : {p q : ℕ} {a : Answer}
+      → LowestAt (From 0 (ClaimsAt left look (row_of tokens cell) bit)) count p
+      → LowestAt (From (p + 1) (ClaimsAt left look (row_of tokens cell) bit)) count q
+      → a ≡ refusal refusals.conflict cell (p * 256 + q)
+      → Disputed (claims_before left look tokens count cell) cell a
+  conflict_told lowest next told = rw told (disputed (rivals (claimed lowest) (claimed next)))

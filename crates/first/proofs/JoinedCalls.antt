@@ -22,7 +22,7 @@ use Rattle.first.specs.Numbers.{IsSet}
 use Rattle.first.specs.Calls.{FirstRefused, FirstTold, FirstOutcome}
 use Rattle.first.specs.Calls as calls
 use Rattle.first.specs.Joined.{FirstJoined}
-use Rattle.first.proofs.SetAnswers.{mapped_at, images_unique}
+use Rattle.first.proofs.Outcomes.{mapped_at, images_unique}
 use Rattle.first.proofs.Joined.{first_joined}
 
 -- the bytes spell the form in the grammar

@@ -7,7 +7,7 @@ pub mod Additions
 pub mod Closed
 pub mod Unique
 pub mod OfBook
-pub mod SetAnswers
+pub mod Outcomes
 pub mod Coming
 pub mod Joined
 pub mod JoinedCalls

@@ -27,9 +27,8 @@ unfoldable pub use Rattle.first.proofs.Worked.{places_test, rows_test}
 pub use Rattle.first.proofs.Trail.{every_symbol_fits, join_stops, single_empty, single_token, token_set_lem}
 pub use Rattle.first.proofs.Trail.{trail_fits}
 pub use Rattle.first.proofs.Additions.{sound_none, sound_stored, sound_united}
-pub use Rattle.first.proofs.SetAnswers.{first_outcome_unique, first_worked_out_unique, set_for_unique}
+pub use Rattle.first.proofs.Outcomes.{first_outcome_unique, first_worked_out_unique, set_for_unique}
 pub use Rattle.first.proofs.Vanishing.{vanishing_is}
-pub use Rattle.first.proofs.Served.{first_given}
 pub use Rattle.first.proofs.Examples.{house_first_sets_lem}
 pub use Rattle.first.proofs.Joined.{trail_append, trail_joined, at_empty, first_joined}
 pub use Rattle.first.proofs.JoinedCalls.{first_of_joined, first_of_split}

@@ -1,16 +1,12 @@
 -- From what is found to what is promised: FIRST of a book's grammar, and FIRST of a symbol string.
-use mathlib.Core.Path.{subst}
 use mathlib.Core.List.{List}
 use Prim.Native.Nat.{ℕ}
 use lib.ListN.{length}
-use Rattle.grammar.specs.Grammar.{Grammar}
 use Rattle.sets.specs.Sets.{empty_string, only}
 use Rattle.answers.specs.declared.Answer.{Answer}
 use Rattle.answers.specs.Lowest.{LowestAt}
 use Rattle.book.specs.declared.Index.{Index}
 use Rattle.book.specs.Judging.{Indexes}
-use Rattle.book.proofs.Promise.{serves_unique}
-use Rattle.first.specs.Numbers.{FirstFamily}
 use Rattle.first.specs.declared.forms.Trail.{Trail}
 use Rattle.first.specs.Trail.{Trailed, form_of}
 use Rattle.first.specs.Steps.{FirstFound}
@@ -29,14 +25,6 @@ module _ {book : List ℕ} {index : Index} where
       → FirstFound book index.places index.outline.productions first
       → FirstServed book first index
   found_first given found = record { given = given; family = found.found given.grammar (given_lists given) }
-
-  -- is FIRST of the grammar, however the book is known to serve it
-  pub first_given : {first : List ℕ}
-      → FirstServed book first index
-      → (given : Indexes book index)
-      → FirstFamily given.grammar first
-  first_given {first} found given =
-      subst (λ (g : Grammar). FirstFamily g first) (serves_unique found.given.serves given.serves) found.family
 
   module _ {symbols : List ℕ} (given : Indexes book index) where
     stranger_first : {i : ℕ}

@@ -29,7 +29,7 @@ use Rattle.first.proofs.Additions as additions
 use Rattle.first.proofs.Closed as closed
 use Rattle.first.proofs.Coming as coming
 use Rattle.first.proofs.Unique as unique
-use Rattle.first.proofs.SetAnswers as answers
+use Rattle.first.proofs.Outcomes as answers
 use Rattle.first.proofs.Joined as joins
 use Rattle.first.proofs.JoinedCalls as calls
 use Rattle.first.proofs.WholeCalls as whole

@@ -1,10 +1,10 @@
 -- The lookaheads of the records, filled in one after the other, are those of the grammar's productions.
-use mathlib.Core.Path.{◌≡◌, refl, sym, ◌∙◌}
+use mathlib.Core.Path.{◌≡◌, refl, ◌∙◌}
 use mathlib.Core.List.{List}
 use Prim.Native.Nat.{ℕ, ◌+◌, ◌<◌}
 use native.Mathlib.Omega.{arith}
-use lib.ListN.{set, replicate, length-set, length-replicate}
-use lib.Seq.{ext_get_or, get_or-set_same, get_or-set_other}
+use lib.ListN.{set, replicate, length-set}
+use lib.Seq.{get_or-set_same, get_or-set_other}
 use borrow.Author.Count.{below_more}
 use Rattle.grammar.specs.Grammar.{Grammar}
 use Rattle.answers.specs.Limits.{most_productions}
@@ -35,11 +35,6 @@ module _ {book places fs ys : List ℕ} where
             (rw (get_or-set_same cells n x 0 (omega (arith, filled.sized))) (is ∙ looks));
         beyond = λ p past. rw (get_or-set_other cells n p x 0 (λ same. omega arith)) (filled.beyond p (omega arith));
       }
-
-  pub ahead_empty : (cells : List ℕ) → AheadFilled book places fs ys 0 cells → cells ≡ replicate most_productions 0
-  ahead_empty cells filled =
-      ext_get_or 0 cells (replicate most_productions 0) (filled.sized ∙ sym (length-replicate {A = ℕ} most_productions 0))
-      (λ p h. filled.beyond p (omega arith) ∙ sym (no_member most_productions p))
 
   pub ahead_found : {cells : List ℕ} {count : ℕ} {g : Grammar} → Lists book places count g → FirstFamily g fs → FollowFamily g ys
       → AheadFilled book places fs ys count cells → Lookaheads g cells

@@ -2,7 +2,8 @@
 use mathlib.Core.Path.{◌≡◌, ◌∙◌}
 use mathlib.Core.Logic.{◌≢◌}
 use mathlib.Core.List.{List, [], ◌∷◌}
-use Prim.Native.Nat.{ℕ, suc, ◌≤◌, ◌<◌}
+use Prim.Native.Nat.{ℕ, suc, ◌+◌, ◌≤◌, ◌<◌}
+use native.Mathlib.Numerals.{add-one}
 use native.Mathlib.Omega.{arith}
 use lib.ListN.{get_or}
 use Rattle.std.specs.Prelude.{Ok, Err}
@@ -66,7 +67,7 @@ module _ (text : List ℕ) (at n : ℕ) {readers : List ℕ} where
         }
 
     pub no_class_single : {place : ℕ} {after : List ℕ}
-        → NoClass text (suc at) place
+        → NoClass text (at + 1) place
         → SingleRead text at n readers (Err place) after
     no_class_single n =
         record {
@@ -76,7 +77,7 @@ module _ (text : List ℕ) (at n : ℕ) {readers : List ℕ} where
                 inside = omega (arith, n.inside, mark_inside text at opens);
                 stopped =
                     record {
-                      same = λ around a start. class_opens text room around a at opens ∙ n.stopped room around a;
+                      same = λ around a start. class_opens text room around a at opens ∙ rw add-one at (n.stopped room around a);
                     };
               };
         }

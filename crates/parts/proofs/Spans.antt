@@ -3,7 +3,8 @@ use mathlib.Core.Path.{◌≡◌, ◌∙◌}
 use mathlib.Core.Logic.{◌≢◌}
 use mathlib.Core.List.{List}
 use mathlib.Core.Option.{none}
-use Prim.Native.Nat.{ℕ, suc, ◌≤◌, ◌<◌, max, pred}
+use Prim.Native.Nat.{ℕ, suc, ◌+◌, ◌≤◌, ◌<◌, max, pred}
+use native.Mathlib.Numerals.{add-one}
 use native.Mathlib.Omega.{arith}
 use lib.ListN.{length, get_or}
 use Rattle.std.specs.Prelude.{Ok, Err}
@@ -58,13 +59,13 @@ module _ (text : List ℕ) (at : ℕ) where
       to_the_dash room around a c =
           class_letter_passes text room around a at c l ∙ dash_passes text room around a low.at c low.byte here
 
-      pub span_cut : {place : ℕ} → LetterRead text (suc low.at) special_in_class (Err place) → NoElement text at place
+      pub span_cut : {place : ℕ} → LetterRead text (low.at + 1) special_in_class (Err place) → NoElement text at place
       span_cut h =
           record {
             moved = omega (arith, letter_behind l, letter_ahead h);
             inside = omega (arith, letter_ahead h, mark_inside text low.at here);
             stopped = λ room around a c goes.
-                to_the_dash room around a c ∙ range_stops text room around a (suc low.at) c low.byte h;
+                to_the_dash room around a c ∙ range_stops text room around a (suc low.at) c low.byte (rw add-one at h);
           }
 
       module _ {high : Letter} (h : LetterRead text (suc low.at) special_in_class (Ok high)) where

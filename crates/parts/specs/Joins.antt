@@ -1,5 +1,6 @@
 -- What a sign, the end of a group, two parts in turn and either of two make of a part. Working definitions.
-use Rattle.std.specs.Prelude.{◌≡◌, Bool, true, false, cond, ◌&&◌, ◌||◌, ◌≢◌, List, ℕ, ◌+◌, ◌≤◌, ◌<◌, get_or, Result, Ok, Err}
+use Rattle.std.specs.Prelude.{◌≡◌, Bool, true, false, cond, ◌&&◌, ◌||◌, ◌≢◌, List, ℕ, ◌+◌, ◌≤◌, ◌<◌, get_or}
+use Rattle.std.specs.Prelude.{Result, Ok, Err}
 use Rattle.sets.specs.Sets.{Exactly, united}
 use Rattle.sets.specs.Words.{places}
 use Rattle.answers.specs.Limits.{most_positions, position_words, point_words}

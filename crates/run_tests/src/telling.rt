@@ -1,6 +1,6 @@
 // What this program prints of a run, and the other calls that must agree with it.
 use crate::comparing::{judged_alike, offers_alike};
-use answers::refusals::{DONE, ROOM, SYNTAX};
+use answers::refusals::{DONE, Refusal};
 use book::judging::judge;
 use expand::expand;
 use reader::fields::byte_at;
@@ -69,7 +69,9 @@ fn listed(steps: u64, tokens: usize, left: usize) -> usize {
 
 // Whether the run was refused before steps is said by its number; the calls on a judged book do not check the string.
 fn in_steps(number: u64) -> bool {
-    number == DONE as u64 || number == ROOM as u64 || number == SYNTAX as u64
+    number == DONE as u64
+        || number == Refusal::Room.number() as u64
+        || number == Refusal::Syntax.number() as u64
 }
 
 // A line where a run on the judged book, or offers in turn, do not say what the run says.
@@ -82,12 +84,13 @@ fn show_whether_alike(
     stack: &[u8],
     list: &[u8],
 ) -> io::Result<()> {
-    let reading = judge(book);
-    if !judged_alike(book, reading, table, tokens, words, stack, list) {
-        show_word(rt, "differs judged\n")?;
-    }
-    if !offers_alike(book, reading, table, tokens, words, list) {
-        show_word(rt, "differs offered\n")?;
+    if let Ok(index) = judge(book) {
+        if !judged_alike(book, index, table, tokens, words, stack, list) {
+            show_word(rt, "differs judged\n")?;
+        }
+        if !offers_alike(book, index, table, tokens, words, list) {
+            show_word(rt, "differs offered\n")?;
+        }
     }
     Ok(())
 }
@@ -135,7 +138,7 @@ fn show_built(rt: &impl Print, book: &[u8], tokens: &[u8]) -> io::Result<()> {
     let mut cells = [0u8; 4032];
     let size = cells_of(byte_at(book, 0, 3), byte_at(book, 0, 2));
     let built = table::build(book, &mut first, &mut follow, &mut cells);
-    if built.number == 0 {
+    if built.number == DONE {
         show_on(rt, book, &cells, size, tokens)?;
     }
     Ok(())

@@ -30,7 +30,7 @@ fn read_formed(sheet: &[u8], book: &mut [u8]) -> Answer
 {
     match judge(sheet, head_in(sheet)) {
         Ok(_) => read_good(sheet, book),
-        Err(fault) => refusal(fault.why, fault.place as u64, 0),
+        Err(fault) => Answer::from(fault),
     }
 }
 

@@ -15,7 +15,7 @@ use answers::{Answer, done, refusal};
 use reader::fields::{
     NONTERMINALS, PRODUCTIONS, START, SYMBOLS, TOKENS, byte_at, left_at, length_at,
 };
-use reader::spelling::read;
+use reader::walk::read;
 use text::{decimal, put};
 
 // No sheet of a book is longer.
@@ -153,6 +153,6 @@ pub fn write(book: &[u8], sheet: &mut [u8]) -> Answer
 {
     match read(book) {
         Ok(_) => write_read(book, sheet),
-        Err(fault) => refusal(fault.why, fault.place as u64, 0),
+        Err(fault) => Answer::from(fault),
     }
 }

@@ -14,5 +14,4 @@ overflow_cast-cell c =
 pub returns : goal.returns
 returns c =
     conflict_told (left_of c.args.book.now c.args.index.now.places) (set_at c.args.ahead.now) c.args.index.now.outline.tokens c.args.cell
-    c.requires.2 c.column_bit-bit.ensures c.unwrap-lowest.result (rw c.unwrap-lowest.ensures at c.claimant.ensures)
-    c.unwrap-next.result (rw c.unwrap-next.ensures at c.claimant-2.ensures) c.refusal.ensures
+    c.column_bit-bit.ensures (rw c.unwrap-lowest.ensures at c.claimant.ensures) (rw c.unwrap-next.ensures at c.claimant-2.ensures) c.refusal.ensures

@@ -1,5 +1,5 @@
 use mathlib.Core.Path.{sym, ◌∙◌}
-use Rattle.std.proofs.lemmas.Result.{err_from_is_err_and}
+use borrow.Author.Rules.{rules}
 use Rattle.parts.proofs.ClassParts.{class_first, class_more, class_stops, class_end}
 use Rattle.parts.proofs.classes.class.Goals as goal
 
@@ -7,10 +7,7 @@ pub loop-readers-init : goal.loop-readers-init
 loop-readers-init c = (c.element.auto.readers, class_first c.in_ok-next.ensures)
 
 pub returns-in_err-next-2 : goal.returns-in_err-next-2
-returns-in_err-next-2 c =
-    let p = err_from_is_err_and c.from_residual-in_err-next-2.result c.from_residual-in_err-next-2.ensures.1 in
-    rw (p.1, p.2)
-    (class_stops c.loop-readers.invariant.1 (λ e. c.loop-readers-test.true (c.byte_at.ensures ∙ e)) c.in_err-next-2.ensures)
+returns-in_err-next-2 c = search (rules, class_stops)
 
 pub loop-readers-preserved : goal.loop-readers-preserved
 loop-readers-preserved c = (

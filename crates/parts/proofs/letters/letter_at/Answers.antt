@@ -1,15 +1,13 @@
 -- `parts::letters::letter_at` meets its contract: each return is one of the cases of `LetterRead`.
 use mathlib.Core.Path.{sym, ◌∙◌}
+use borrow.Author.Rules.{rules}
 use native.Mathlib.Numerals.{add-one}
 use Rattle.std.proofs.lemmas.Result.{err_from_is_err_and}
 use Rattle.parts.specs.Letters.{letter_plain, letter_escaped, letter_mark, letter_missing, letter_cut_off}
 use Rattle.parts.proofs.letters.letter_at.Goals as goal
 
 pub returns-in_err-byte : goal.returns-in_err-byte
-returns-in_err-byte c =
-    let p = err_from_is_err_and c.from_residual.result c.from_residual.ensures.1 in
-    let ended = c.in_err-byte.ensures in
-    rw (p.1, p.2, ended.1) (letter_missing ended.0)
+returns-in_err-byte c = search (rules, letter_missing)
 
 pub returns-in_err-byte-2 : goal.returns-in_err-byte-2
 returns-in_err-byte-2 c =

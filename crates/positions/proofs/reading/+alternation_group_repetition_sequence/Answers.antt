@@ -1,4 +1,4 @@
-use Rattle.std.proofs.Common.{◌≡◌, ◌-◌, suc, sym, ◌∙◌, arith, add-one}
+use Rattle.std.proofs.Common.{rules, ◌≡◌, ◌-◌, suc, sym, ◌∙◌, arith, add-one}
 use Rattle.std.proofs.lemmas.Result.{err_from_is_err_and}
 use Rattle.parts.specs.Reading.{ItemPassed, Meant}
 use Rattle.positions.proofs.Repetitions.{repetition_read}
@@ -8,9 +8,7 @@ use Rattle.positions.proofs.reading.+alternation_group_repetition_sequence.Goals
 use Rattle.positions.proofs.reading.+alternation_group_repetition_sequence.Goals.{repetition-then-byte_at-eq-OPEN_GROUP+in_ok-item, repetition-else-byte_at-eq-OPEN_GROUP+in_ok-item-2}
 
 pub alternation-returns-in_err-whole : goal.alternation-returns-in_err-whole
-alternation-returns-in_err-whole t c =
-    let p = err_from_is_err_and c.from_residual.result c.from_residual.ensures.1 in
-    rw (p.1, p.2) (alternation_unread c.in_err-whole.ensures)
+alternation-returns-in_err-whole t c = search (rules, alternation_unread)
 
 pub alternation-loop-readers-init : goal.alternation-loop-readers-init
 alternation-loop-readers-init t c =

@@ -9,5 +9,5 @@ read_good-requires c =
 
 pub returns-in-Err : goal.returns-in-Err
 returns-in-Err c =
-    rw c.refusal.ensures
+    rw c.from.ensures
     (judged_refused _ c.requires (rw c.head_in.ensures at c.judge.ensures) c.in-Err.is)

@@ -8,5 +8,5 @@ write_read-requires c = verdict_reads _ c.read.ensures c.in-Ok.is
 
 pub returns-in-Err : goal.returns-in-Err
 returns-in-Err c =
-    rw c.refusal.ensures
+    rw c.from.ensures
     (misread (verdict_refused _ c.read.ensures c.in-Err.is))

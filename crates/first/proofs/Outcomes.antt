@@ -7,7 +7,7 @@ use native.Mathlib.Decide.{dec_lt}
 use native.Mathlib.Omega.{arith}
 use lib.ListN.{length, get_or}
 use Rattle.std.specs.Prelude.{Result, Ok, Err}
-use Rattle.grammar.specs.Grammar.{Form, Grammar, Member, Every, nothing, each, Known, First}
+use Rattle.grammar.specs.Grammar.{Form, Grammar, Member, First}
 use Rattle.grammar.proofs.Vanishing.{vanishes_unique}
 use Rattle.sets.specs.Calls.{number}
 use Rattle.sets.proofs.Promise.{exactly_unique, number_unique}
@@ -19,7 +19,6 @@ use Rattle.book.specs.declared.Index.{Index}
 use Rattle.reader.specs.Book.{symbol_of}
 use Rattle.book.specs.Judging.{Serves}
 use Rattle.book.proofs.Promise.{refuses_unique, refuses_not_serves, serves_unique, indexes_unique}
-use Rattle.reader.proofs.Promise.{symbol_of_known}
 use Rattle.first.specs.declared.forms.Trail.{Trail}
 use Rattle.first.specs.Numbers.{FirstFamily}
 use Rattle.first.specs.Calls.{FirstServed, FirstWorkedOut, FirstResult, SetFor, FirstStranger, FirstRefused, FirstTold, FirstOutcome}
@@ -61,17 +60,6 @@ images_unique [] [] e = refl
 images_unique [] (y ∷ ys) e = let bad : ◌≡◌ {A = ℕ} 0 1 = cc in absurd (omega arith)
 images_unique (x ∷ xs) [] e = let bad : ◌≡◌ {A = ℕ} 0 1 = cc in absurd (omega arith)
 images_unique (x ∷ xs) (y ∷ ys) e = let rest : xs ≡ ys = images_unique xs ys (cc) in cc
-
--- a symbol string that spells a form has symbols of the grammar only
-pub spelled_known : {g : Grammar} (symbols : List ℕ) (α : Form)
-    → map (symbol_of g.tokens g.nonterminals) symbols ≡ map some α
-    → Every (Known g) α
-spelled_known [] [] e = nothing
-spelled_known [] (s ∷ α) e = let bad : ◌≡◌ {A = ℕ} 0 1 = cc in absurd (omega arith)
-spelled_known (b ∷ symbols) [] e = let bad : ◌≡◌ {A = ℕ} 0 1 = cc in absurd (omega arith)
-spelled_known {g} (b ∷ symbols) (s ∷ α) e =
-    let here : symbol_of g.tokens g.nonterminals b ≡ some s = cc in
-    each (symbol_of_known b here).1 (spelled_known symbols α (cc))
 
 module _ (book symbols : List ℕ) where
   -- a string that spells a form has no stranger
