@@ -69,4 +69,6 @@ pub record MakesRun (book : List ℕ) (reading : Result Index Answer) (table sta
   pub answer : a ≡ at_depth deepest (values_on book reading table r)
   pub list : list' ≡ offered_list
   pub stack_cleared : {index : Index} → reading ≡ Ok index → stack' ≡ cleared offered_stack
-  pub stack_kept : {answer : Answer} → reading ≡ Err answer → (stack' ≡ stack) × (offered_stack ≡ start_on reading stack)
+  pub stack_kept : {answer : Answer}
+      → reading ≡ Err answer
+      → (stack' ≡ stack) × (offered_stack ≡ start_on reading stack)

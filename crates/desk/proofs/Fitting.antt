@@ -1,4 +1,5 @@
 -- Every answer fits its five words, wherever the book and the table are shorter than 2 ^ 64.
+use Rattle.std.specs.Prelude.{⊤, Result, Ok, Err}
 use mathlib.Core.List.{List}
 use mathlib.Core.Option.{Option, some, none}
 use Prim.Native.Nat.{ℕ, zero, suc, ◌+◌, ◌*◌, ◌^◌, ◌≤◌, ◌<◌}
@@ -16,19 +17,19 @@ use Rattle.sets.proofs.Promise.{added_fits}
 use Rattle.answers.specs.declared.Answer.{Answer}
 use Rattle.answers.specs.Answers.{done, refusal, stop, at_depth}
 use Rattle.answers.specs.Buffers.{counted}
+use Rattle.answers.specs.Refusals.{number_of}
 use Rattle.patterns.specs.Calls.{JudgePatterns}
 use Rattle.patterns.specs.Calls as patterns
 use Rattle.patterns.proofs.Promise.{refuses_bounded}
-use Rattle.pieces.specs.declared.Ending.{Ending}
-use Rattle.pieces.specs.declared.Ending.TheVariants.{Whole, NoToken, NoRoom}
-use Rattle.pieces.specs.Cut.{Piece, Cut, answer_of}
+use Rattle.pieces.specs.declared.Stuck.TheVariants.{NoToken, NoRoom}
+use Rattle.pieces.specs.Cut.{Ending, Piece, Cut, answer_of}
 use Rattle.pieces.specs.Calls.{CutWithOutcome}
 use Rattle.pieces.proofs.Promise.{pieces_few, place_inside}
 use Rattle.cut.specs.Calls.{CutOutcome}
 use Rattle.cut.specs.Calls as cuts
 use Rattle.reader.specs.Book.{Limits}
-use Rattle.reader.proofs.Promise.{refused_kinds, read_limits}
-use Rattle.book.specs.Judging.{Refuses, misread, useless_one, refusing, index_of, Judged, refuses, serves}
+use Rattle.reader.proofs.Promise.{refused_within, read_limits}
+use Rattle.book.specs.Judging.{Refuses, misread, useless_one}
 use Rattle.book.proofs.Promise.{serves_limits}
 use Rattle.first.specs.declared.forms.Trail.{Trail}
 use Rattle.desk.specs.Desk.{JudgeOutcome, refused, served, answer_in}
@@ -46,7 +47,7 @@ use Rattle.machine.specs.Machine.{Offered, final}
 use Rattle.machine.specs.declared.Reason.{Reason}
 use Rattle.machine.specs.declared.Reason.TheVariants.{FullList, FullStack, WantsEnd, WantsToken, WantsRow}
 use Rattle.machine.specs.Expansion.{expansion, Course}
-use Rattle.machine.specs.declared.Upshot.{Upshot}
+use Rattle.machine.specs.declared.Obstacle.{Obstacle}
 use Rattle.machine.specs.Room.{right_of}
 use Rattle.machine.proofs.Promise.{Counted, run_steps, run_inside, expand_steps}
 use Rattle.offer.specs.Stops.{marking, filled_below, expected, run_answer}
@@ -74,7 +75,7 @@ size_bounded {g} l =
     mul-le-mul l.nonterminals_fit columns
 
 pub refused_fits : {book : List ℕ} {a : Answer} → length book < 2 ^ 64 → Refuses book a → FitsWords a
-refused_fits {book} short (misread {number = n} e) = refusal_fits n (omega (arith, (refused_kinds book e).within)) (omega arith)
+refused_fits {book} short (misread {why = w} e) = refusal_fits (number_of w) (omega (arith, refused_within book e)) (omega arith)
 refused_fits {book} short (useless_one e h) = refusal_fits 6 (omega (arith, h.inside, (read_limits book e).nonterminals_fit)) (omega arith)
 
 misfit_bounded : {g : Grammar} {table : List ℕ} {k : ℕ} → Limits g → Misfit g table k → length table < 2 ^ 64 → k < 2 ^ 64
@@ -147,7 +148,7 @@ run_fits b t (running.refused r) = refused_fits b r
 run_fits b t (running.barred s r) = barred_fits (serves_limits s) t r
 run_fits {table = table} {tokens} {stack} {list} b t (running.ended {g = g} s a) = ran_fits g table tokens stack list a.short a.stacked
 
-told_by_fits : {s : Course} {e : Upshot} {a : Answer} → ToldBy s e a → s.used < 2 ^ 64 → s.moves < 2 ^ 64 → s.height < 2 ^ 64 → FitsWords a
+told_by_fits : {s : Course} {e : Result ⊤ Obstacle} {a : Answer} → ToldBy s e a → s.used < 2 ^ 64 → s.moves < 2 ^ 64 → s.height < 2 ^ 64 → FitsWords a
 unfolding done stop at_depth
 told_by_fits finished h k d = record { place = omega arith; detail = omega arith; steps = k; expected = omega arith; depth = d }
 told_by_fits misfitting h k d = record { place = h; detail = omega arith; steps = k; expected = omega arith; depth = d }
@@ -203,26 +204,26 @@ check_fits b t (checks.differs s f n d) = refusal_fits 17 (omega (arith, d.insid
 check_fits b t (checks.passed p) = done_fits 0 (omega arith)
 
 -- of a lookahead
-pub lookahead_fits : {book : List ℕ} {production : ℕ} (r : Result Trail Answer)
+pub lookahead_fits : (book : List ℕ) (production : ℕ) (r : Result Trail Answer)
     → length book < 2 ^ 64
     → production < 2 ^ 64
     → LookaheadOutcome book production r
     → FitsWords (answer_in r)
 unfolding answer_in
-lookahead_fits (Ok t) b p told = done_fits 0 (omega arith)
-lookahead_fits (Err a) b p (follow_calls.refused r) = refused_fits b r
-lookahead_fits (Err a) b p (follow_calls.no_production s h) = refusal_fits 12 p (omega arith)
+lookahead_fits book production (Ok t) b p found = done_fits 0 (omega arith)
+lookahead_fits book production (Err a) b p (follow_calls.refused r) = refused_fits b r
+lookahead_fits book production (Err a) b p (follow_calls.no_production s h) = refusal_fits 12 p (omega arith)
 
 -- and of FIRST of a symbol string
-pub first_fits : {book symbols : List ℕ} (r : Result Trail Answer)
+pub first_fits : (book symbols : List ℕ) (r : Result Trail Answer)
     → length book < 2 ^ 64
     → FirstOutcome book symbols r
     → FitsWords (answer_in r)
 unfolding answer_in
-first_fits (Ok t) b told = done_fits 0 (omega arith)
-first_fits (Err a) b (first_calls.refused r) = refused_fits b r
-first_fits (Err a) b (first_calls.too_long s h) = refusal_fits 4 (omega arith) (omega arith)
-first_fits (Err a) b (first_calls.strange s h f) = refusal_fits 5 (omega (arith, f.inside)) (omega arith)
+first_fits book symbols (Ok t) b found = done_fits 0 (omega arith)
+first_fits book symbols (Err a) b (first_calls.refused r) = refused_fits b r
+first_fits book symbols (Err a) b (first_calls.too_long s h) = refusal_fits 4 (omega arith) (omega arith)
+first_fits book symbols (Err a) b (first_calls.strange s h f) = refusal_fits 5 (omega (arith, f.inside)) (omega arith)
 
 pub patterns_fits : {patterns lengths : List ℕ} {a : Answer}
     → length patterns < 2 ^ 64
@@ -249,9 +250,9 @@ line_fits {line = line} {pieces = pieces} {ending = ending} short cut = go endin
     steps = omega (arith, pieces_few cut)
 
     go : (e : Ending) → (answer_of e (length pieces)).place ≤ 0 + length line → FitsWords (answer_of e (length pieces))
-    go Whole h = record { place = omega arith; detail = omega arith; steps = steps; expected = omega arith; depth = omega arith }
-    go (NoToken place) h = record { place = omega arith; detail = omega arith; steps = steps; expected = omega arith; depth = omega arith }
-    go (NoRoom place) h = record { place = omega arith; detail = omega arith; steps = steps; expected = omega arith; depth = omega arith }
+    go (Ok x) h = record { place = omega arith; detail = omega arith; steps = steps; expected = omega arith; depth = omega arith }
+    go (Err (NoToken place)) h = record { place = omega arith; detail = omega arith; steps = steps; expected = omega arith; depth = omega arith }
+    go (Err (NoRoom place)) h = record { place = omega arith; detail = omega arith; steps = steps; expected = omega arith; depth = omega arith }
 
 pub cut_fits : {patterns lengths line machine tokens machine' tokens' : List ℕ} {a : Answer}
     → length patterns < 2 ^ 64

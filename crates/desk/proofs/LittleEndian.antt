@@ -1,11 +1,10 @@
 -- A number in bytes, the lowest first: as many bytes as asked for, which make the number again; and writing them one by one.
 use mathlib.Core.Path.{◌≡◌, refl, ap, ◌∙◌}
-use mathlib.Core.List.{List}
-use Prim.Native.Nat.{ℕ, zero, suc, ◌+◌, ◌-◌, ◌/◌, ◌%◌, ◌^◌, ◌<◌}
+use mathlib.Core.List.{[], ◌∷◌}
+use Prim.Native.Nat.{ℕ, zero, suc, ◌/◌, ◌%◌, ◌^◌, ◌<◌}
 use native.Mathlib.Nat.{mod-add-div, div-lt_iff_lt-mul, div-one, div-div-eq-div-mul, pow-suc, pow-succ'}
 use native.Mathlib.Omega.{arith}
-use lib.ListN.{length, get_or, set}
-use lib.Seq.{sets}
+use lib.ListN.{length, get_or}
 use Rattle.desk.specs.Desk.{little_endian}
 use Rattle.desk.specs.Demands.{value_of}
 
@@ -30,11 +29,10 @@ little_endian_value (suc width) n h =
     let rest : n / 256 < 256 ^ width = (div-lt_iff_lt-mul {k = 256} {x = n} {y = 256 ^ width} (omega arith)).1 (rw pow-suc at h) in
     rw (little_endian_value width (n / 256) rest) (mod-add-div n 256)
 
--- after i bytes, the next is written
-pub little_endian_next : (width i : ℕ) (out : List ℕ) (at n : ℕ) → i < width
-    → sets out (at + i) (little_endian (width - i) n) ≡ sets (set out (at + i) (n % 256)) (at + (i + 1)) (little_endian (width - (i + 1)) (n / 256))
+-- the eight bytes of a word, by the powers of 256
+pub eight_bytes : (n : ℕ)
+    → n % 256 ∷ n / 256 % 256 ∷ n / 65536 % 256 ∷ n / 16777216 % 256 ∷ n / 4294967296 % 256 ∷ n / 1099511627776 % 256
+    ∷ n / 281474976710656 % 256 ∷ n / 72057594037927936 % 256 ∷ []
+    ≡ little_endian 8 n
 unfolding little_endian
-little_endian_next width i out at n h =
-    let left : width - i ≡ suc (width - (i + 1)) = omega arith in
-    let place : at + (i + 1) ≡ suc (at + i) = omega arith in
-    rw (left, place)
+eight_bytes n = simp div-div-eq-div-mul

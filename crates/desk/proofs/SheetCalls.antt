@@ -7,10 +7,10 @@ use lib.ListN.{length, take}
 use Rattle.answers.specs.declared.Answer.{Answer}
 use Rattle.answers.specs.Answers.{done}
 use Rattle.answers.specs.Buffers.{over}
-use Rattle.answers.specs.Refusals.{served}
+use Rattle.answers.specs.Refusals.{number_of, served}
 use Rattle.answers.proofs.Promise.{Unique}
 use Rattle.reader.specs.Book.{bytes_of}
-use Rattle.reader.proofs.Promise.{read_written, refused_kinds, read_limits, longest_book_lem}
+use Rattle.reader.proofs.Promise.{read_written, refused_within, read_limits, longest_book_lem}
 use Rattle.sheet.specs.Calls.{Copied, WriteOutcome, ReadOutcome}
 use Rattle.sheet.specs.Calls as calls
 use Rattle.sheet.proofs.Promise.{write_outcome_unique, read_outcome_unique, fault_within, announced_fewer, longest_sheet_lem, longest_counted}
@@ -32,13 +32,13 @@ copied_fits few (calls.no_room less) = refusal_fits 7 (omega arith) (omega arith
 copied_fits {bytes} few (calls.served enough) = done_fits (length bytes) (omega arith)
 
 pub write_sheet_fits : {book sheet : List ℕ} {a : Answer} {after : List ℕ} → length book < 2 ^ 64 → WriteOutcome book sheet a after → FitsWords a
-write_sheet_fits {book} b (calls.misread {number = n} e) = refusal_fits n (omega (arith, (refused_kinds book e).within)) (omega arith)
+write_sheet_fits {book} b (calls.misread {why = w} e) = refusal_fits (number_of w) (omega (arith, refused_within book e)) (omega arith)
 write_sheet_fits {book} b (calls.written {g = g} e copied) =
     copied_fits (omega (arith, longest_sheet_lem g (read_limits book e), longest_counted)) copied
 
 pub read_sheet_fits : {sheet book : List ℕ} {a : Answer} {after : List ℕ} → length sheet < 2 ^ 64 → ReadOutcome sheet book a after → FitsWords a
 read_sheet_fits s (calls.malformed breaks) = refusal_fits 13 (omega (arith, breaks.inside)) (omega arith)
-read_sheet_fits s (calls.faulty d {number = n} told first) = refusal_fits n (omega (arith, ap length told, fault_within d first)) (omega arith)
+read_sheet_fits s (calls.faulty d {why = w} told first) = refusal_fits (number_of w) (omega (arith, ap length told, fault_within d first)) (omega arith)
 read_sheet_fits s (calls.missing d told fine few) = refusal_fits 1 s (omega arith)
 read_sheet_fits s (calls.beyond d told fine many) = refusal_fits 3 (omega (arith, ap length told, announced_fewer d)) (omega arith)
 read_sheet_fits s (calls.booked g told limits copied) =

@@ -136,7 +136,7 @@ pub lookahead_call_unique : (book : List ℕ) (production : ℕ) (cells counts a
     → (n ≡ m) × (s ≡ t) × (l ≡ k) × (x ≡ y)
 lookahead_call_unique book production cells counts answer c d =
     two_unique (SetOutcome (LookaheadOutcome book production) cells counts)
-    (set_outcome_unique (λ r q o p. lookahead_outcome_unique book production o p)) c.call d.call
+    (set_outcome_unique (λ r q o p. lookahead_outcome_unique book production r q o p)) c.call d.call
 
 pub first_call_unique : (book symbols cells counts answer : List ℕ) {n m : ℕ} {s t l k x y : List ℕ}
     → FirstCall book symbols cells counts answer n s l x
@@ -144,7 +144,7 @@ pub first_call_unique : (book symbols cells counts answer : List ℕ) {n m : ℕ
     → (n ≡ m) × (s ≡ t) × (l ≡ k) × (x ≡ y)
 first_call_unique book symbols cells counts answer c d =
     two_unique (SetOutcome (FirstOutcome book symbols) cells counts)
-    (set_outcome_unique (λ r q o p. first_outcome_unique book symbols o p)) c.call d.call
+    (set_outcome_unique (λ r q o p. first_outcome_unique book symbols r q o p)) c.call d.call
 
 pub write_sheet_call_unique : (book sheet answer : List ℕ) {n m : ℕ} {s t x y : List ℕ}
     → WriteSheetCall book sheet answer n s x
@@ -223,14 +223,15 @@ pub lookahead_call_exact : {book : List ℕ} {production : ℕ} {cells counts an
     → LentCell cells counts answer
     → LookaheadCall book production cells counts answer n s l x
     → SetOutcome (LookaheadOutcome book production) cells counts (answer_from n x) s l
-lookahead_call_exact b p lent c =
-    called_exact (λ a o. subst FitsWords o.answer (lookahead_fits o.told b p o.outcome)) lent c.call
+lookahead_call_exact {book} {production} b p lent c =
+    called_exact (λ a o. subst FitsWords o.answer (lookahead_fits book production o.told b p o.outcome)) lent c.call
 
 pub first_call_exact : {book symbols cells counts answer : List ℕ} {n : ℕ} {s l x : List ℕ} → length book < 2 ^ 64
     → LentCell cells counts answer
     → FirstCall book symbols cells counts answer n s l x
     → SetOutcome (FirstOutcome book symbols) cells counts (answer_from n x) s l
-first_call_exact b lent c = called_exact (λ a o. subst FitsWords o.answer (first_fits o.told b o.outcome)) lent c.call
+first_call_exact {book} {symbols} b lent c =
+    called_exact (λ a o. subst FitsWords o.answer (first_fits book symbols o.told b o.outcome)) lent c.call
 
 pub write_sheet_call_exact : {book sheet answer : List ℕ} {n : ℕ} {s x : List ℕ}
     → length book < 2 ^ 64

@@ -294,8 +294,8 @@ pub extern "C" fn desk_lookahead(
     if set.len() < 1 || count.len() < 1 || answer.len() < ANSWER_SIZE {
         return Refusal::Room.number();
     }
-    let found = follow::lookahead(book, production);
-    tell_trail(found, set, count, answer)
+    let ahead = follow::lookahead(book, production);
+    tell_trail(ahead, set, count, answer)
 }
 
 // FIRST of a symbol string, and how many of its leading symbols can vanish, each into the first cell of its buffer.
@@ -321,8 +321,8 @@ pub extern "C" fn desk_first_of(
     if set.len() < 1 || count.len() < 1 || answer.len() < ANSWER_SIZE {
         return Refusal::Room.number();
     }
-    let found = first::first_of(book, symbols);
-    tell_trail(found, set, count, answer)
+    let begun = first::first_of(book, symbols);
+    tell_trail(begun, set, count, answer)
 }
 
 // A token string run bottom-up on a book and a table of actions and moves.

@@ -16,13 +16,7 @@ fn write_word(out: &mut [u8], at: usize, word: u64)
     requires { at + 8 ≤ length out.old }
     ensures { out.new ≡ sets out.old at (little_endian 8 word) }
 {
-    let mut rest = word;
-    let mut i: usize = 0;
-    while i < 8 {
-        out[at + i] = (rest % 256) as u8;
-        rest /= 256;
-        i += 1;
-    }
+    out[at..at + 8].copy_from_slice(&word.to_le_bytes());
 }
 
 // Place, detail, steps, expected set and depth, of which later bytes stay; the number is what a call returns.

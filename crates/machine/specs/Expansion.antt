@@ -35,7 +35,10 @@ module _ (fits : ℕ → ℕ → Bool) (right : ℕ → Form) (room output : ℕ
   unfoldable pub writing : (Course → Expansion) → (ℕ → Form → Course → Expansion) → Form → Course → Expansion
   writing empty apply [] s = empty s
   writing empty apply (Token t ∷ α) s =
-      elim (ltb (length s.written) output) [ true ↦ writing empty apply α (wrote t s) | false ↦ ended (Err FullOutput) s ]
+      elim (ltb (length s.written) output) [
+        | true ↦ writing empty apply α (wrote t s)
+        | false ↦ ended (Err FullOutput) s
+      ]
   writing empty apply (Nonterminal A ∷ α) s = apply A α s
 
   -- a number that is no production of A does not fit; then the stack must not be too long

@@ -3,7 +3,7 @@ use Rattle.std.specs.Prelude.{Option, Some, None, Ok, Err}
 use mathlib.Core.Path.{◌≡◌, refl, sym, ◌∙◌, ap, subst, subst₂}
 use mathlib.Core.List.{List, [], ◌∷◌}
 use mathlib.Core.Option as math
-use Prim.Native.Nat.{ℕ, suc, ◌+◌, ◌-◌, ◌%◌, ◌^◌, ◌≤◌, ◌<◌, min}
+use Prim.Native.Nat.{ℕ, suc, ◌+◌, ◌-◌, ◌%◌, ◌≤◌, ◌<◌, min}
 use native.Mathlib.Numerals.{add-one}
 use native.Mathlib.Omega.{arith}
 use lib.ListN.{length, get_or, drop, set, replicate, length-append, length-set, drop_of_length-le}
@@ -24,7 +24,7 @@ use Rattle.stack.specs.Ahead.{column_in}
 use Rattle.stack.specs.Stack.{stacked}
 use Rattle.stack.proofs.Promise.{length_over, over_over, nonterminal_spelled, stacked_open, length_stacked, stacked_again}
 use Rattle.offer.specs.Strings.{Stepped, ran, StringOutcome, ended}
-use Rattle.offer.specs.Offering.{Holds, Ready, Offering, OfferedAt}
+use Rattle.offer.specs.Offering.{Holds, Offering, OfferedAt}
 use Rattle.offer.specs.Resuming.{progress_of, reported}
 use Rattle.offer.specs.declared.Progress.{Progress}
 use Rattle.offer.specs.Reply.{Reply}
@@ -136,14 +136,6 @@ module _ (book : List ℕ) (index : Index) (table tokens stack₀ list₀ : List
       }
 
   module _ {at : Progress} {stack list : List ℕ} (w : Running at stack list) where
-    pub running_ready : length tokens < 2 ^ 63 → Ready at stack list
-    running_ready h =
-        record {
-          height = omega (arith, w.holds.height, w.holds.highest, w.holds.stack_room);
-          listed = omega (arith, w.holds.listed, w.holds.list_room);
-          matched = omega (arith, w.inside);
-        }
-
     -- the offer of what comes next
     abbrev rest : List ℕ
     rest = drop at.matched tokens

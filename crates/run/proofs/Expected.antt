@@ -4,7 +4,7 @@ use mathlib.Core.Path.{◌≡◌, refl, ◌∙◌, ap}
 use mathlib.Core.Logic.{◌≢◌}
 use mathlib.Core.Bool.{false, and-false, or-false}
 use mathlib.Core.List.{List}
-use Prim.Native.Nat.{ℕ, suc, ◌+◌, ◌*◌, ◌≤◌, ◌<◌}
+use Prim.Native.Nat.{ℕ, ◌+◌, ◌*◌, ◌<◌}
 use native.Mathlib.Decide.{dec_lt}
 use native.Mathlib.Numerals.{add-one}
 use native.Mathlib.Omega.{arith}
@@ -52,10 +52,6 @@ module _ {o : Outline} {g : Grammar} (sized : Outlines o g) (table : List ℕ) (
   pub column_filled : {s : Set} {bit : ℕ} {r : Set} → cell ≢ 255 → With s bit r → bit ≡ column_place column o.tokens → number s ≡ filled_below g table A column → number r ≡ filled_below g table A (column + 1)
   unfolding filled_below
   column_filled n h place f = with_marks h ∙ rw (add-one column, cell_there ∙ held_filled refl n, filled_below, place, f, sized.tokens)
-
--- all columns are passed
-pub rows_over : {o : Outline} {g : Grammar} (sized : Outlines o g) (table : List ℕ) (A : ℕ) {x j : ℕ} → suc o.tokens ≤ j → j ≤ o.tokens + 1 → x ≡ filled_below g table A j → x ≡ filled_below g table A (g.tokens + 1)
-rows_over {o} {g} sized table A {j = j} h k e = let all : j ≡ g.tokens + 1 = omega (arith, sized.tokens) in rw (← all) e
 
 module _ {o : Outline} (table : List ℕ) {reason : Reason} {r : Set} where
   pub expects_list : reason ≡ FullList → None r → Expects o table reason r

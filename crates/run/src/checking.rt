@@ -30,12 +30,7 @@ pub fn first_above(tokens: &[u8], limit: u8) -> Option<usize>
     if highest(tokens) < limit {
         return None;
     }
-    for (i, token) in tokens.iter().enumerate() {
-        if limit <= *token {
-            return Some(i);
-        }
-    }
-    None
+    tokens.iter().position(|token| limit <= *token)
 }
 
 // The check of a token string, where each token is to be below `limit`.

@@ -24,4 +24,4 @@ tell_trail-requires c =
 
 pub returns : goal.returns
 returns c =
-    record { call = set_call c.first_of-found.result (record { cell = omega arith; count = omega (arith, ltb-false); bytes = omega (arith, answer_size_is, ltb-false) }) c.first_of-found.ensures c.tell_trail.ensures }
+    record { call = set_call c.first_of-begun.result (record { cell = omega arith; count = omega (arith, ltb-false); bytes = omega (arith, answer_size_is, ltb-false) }) c.first_of-begun.ensures c.tell_trail.ensures }

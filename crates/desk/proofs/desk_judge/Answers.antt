@@ -1,5 +1,4 @@
 -- The reading's answer is written, or the answer buffer is too short.
-use mathlib.Core.Path.{refl}
 use native.Mathlib.Omega.{arith}
 use Rattle.desk.specs.Desk.{short}
 use Rattle.desk.proofs.AnswerBytes.{answer_size_is}

@@ -1,25 +1,18 @@
-use mathlib.Core.Path.{◌≡◌, refl}
-use Prim.Native.Nat.{◌-◌}
-use native.Mathlib.Nat.{add-zero}
+-- The bytes of the word take the place of as many.
+use mathlib.Core.Path.{◌≡◌, sym, ◌∙◌}
+use mathlib.Core.List.{append_assoc}
+use Prim.Native.Nat.{◌+◌, ◌-◌}
 use native.Mathlib.Omega.{arith}
-use borrow.Author.Rules.{rules}
-use lib.ListN.{length-set}
+use lib.Seq.{sets-eq, drop-drop}
 use Rattle.desk.specs.Desk.{little_endian}
-use Rattle.desk.proofs.LittleEndian.{little_endian_next}
+use Rattle.desk.proofs.LittleEndian.{eight_bytes, little_endian_length}
 use Rattle.desk.proofs.words.write_word.Goals as goal
 
-pub loop-i-init : goal.loop-i-init
-loop-i-init c = (search rules, refl, rw add-zero)
-
-pub loop-i-preserved : goal.loop-i-preserved
-loop-i-preserved c = (
-  search rules,
-  simp length-set c.loop-i.invariant.1,
-  rw (little_endian_next 8 c.loop-i.i c.loop-i.out c.args.at c.loop-i.rest (omega arith)) at c.loop-i.invariant.2,
-)
-
 pub returns : goal.returns
-unfolding little_endian
 returns c =
-    let none : 8 - c.loop-i.i ≡ 0 = omega arith in
-    rw none at c.loop-i.invariant.2
+    let bytes : c.copy_from_slice.new.self ≡ little_endian 8 c.args.word =
+    c.copy_from_slice.ensures.after ∙ c.to_le_bytes.ensures ∙ eight_bytes c.args.word in
+    let size : c.args.at + 8 - c.args.at ≡ 8 = omega arith in
+    rw (size, bytes, drop-drop)
+    (sym (rw (little_endian_length, append_assoc) at (sets-eq (little_endian 8 c.args.word) c.args.out.now c.args.at
+    (omega (arith, little_endian_length 8 c.args.word)))))
