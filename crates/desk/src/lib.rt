@@ -9,7 +9,7 @@ ghost use Rattle.desk.specs.Plain.{PlainCall, PlainRunCall};
 
 use crate::words::{ANSWER_SIZE, tell, tell_trail};
 use answers::refusals::Refusal;
-use answers::{Answer, done};
+use answers::{Answer, told};
 use book::judging::judge;
 use expand::expand;
 use pieces::cutting::cut_with;
@@ -79,10 +79,7 @@ pub extern "C" fn desk_expand(
 fn judged(book: &[u8]) -> Answer
     ensures { JudgeOutcome book.now result }
 {
-    match judge(book) {
-        Ok(_) => done(0),
-        Err(refused) => refused,
-    }
+    told(judge(book))
 }
 
 // The refusal 1 to 6 of a book, or done, into the lent buffer.

@@ -7,9 +7,8 @@ ghost use Rattle.profile.specs.Breaking.{Profiled};
 use crate::breaks::first_break;
 use crate::heads::enter_heads;
 use answers::refusals::Refusal;
-use answers::{Answer, done, refusal};
+use answers::{Answer, refusal, told};
 use book::Index;
-use book::columns::Outline;
 use book::judging::judge;
 use run::checking::check_tokens;
 use run::running::run_judged;
@@ -30,17 +29,7 @@ fn profile_of(book: &[u8]) -> Result<Index, Answer>
 pub fn plain(book: &[u8]) -> Answer
     ensures { PlainOutcome book.now result }
 {
-    if let Err(refused) = profile_of(book) {
-        return refused;
-    }
-    done(0)
-}
-
-// How many cells the table of a book has.
-fn table_size(outline: Outline) -> usize
-    ensures { result ≡ outline.nonterminals * (outline.tokens + 1) }
-{
-    outline.nonterminals as usize * (outline.tokens as usize + 1)
+    told(profile_of(book))
 }
 
 // A run on the table of a plain book, made in these cells; it fits, and is not checked.
@@ -89,7 +78,7 @@ fn run_within<const N: usize>(
         stack.new
         list.new }
 {
-    let size = table_size(index.outline);
+    let size = index.outline.cells();
     let mut cells = vacant::<N>();
     run_entered(book, index, tokens, &mut cells[..size], stack, list)
 }
@@ -106,7 +95,7 @@ fn run_plain(book: &[u8], index: &Index, tokens: &[u8], stack: &mut [u8], list: 
         stack.new
         list.new }
 {
-    let size = table_size(index.outline);
+    let size = index.outline.cells();
     if size <= FEW {
         run_within::<FEW>(book, index, tokens, stack, list)
     } else {

@@ -1,9 +1,17 @@
 -- A book is served or refused.
-use Rattle.desk.specs.Desk.{refused, served}
+use mathlib.Core.List.{List}
+use Prim.Native.Nat.{ℕ}
+use Rattle.std.specs.Prelude.{Result, Ok, Err}
+use Rattle.answers.specs.declared.Answer.{Answer}
+use Rattle.answers.specs.Answers.{told}
+use Rattle.book.specs.declared.Index.{Index}
+use Rattle.book.specs.Judging.{Judged}
+use Rattle.desk.specs.Desk.{JudgeOutcome, refused, served}
 use Rattle.desk.proofs.judged.Goals as goal
 
-pub returns-in-Ok : goal.returns-in-Ok
-returns-in-Ok c = rw c.done.ensures (served c.in-Ok.ensures)
+outcome : {book : List ℕ} (r : Result Index Answer) → Judged book r → JudgeOutcome book (told r)
+outcome (Ok index) serves = served serves
+outcome (Err a) refuses = refused refuses
 
-pub returns-in-Err : goal.returns-in-Err
-returns-in-Err c = refused c.in-Err.ensures
+pub returns : goal.returns
+returns c = rw c.told.ensures (outcome _ c.judge.ensures)

@@ -7,8 +7,8 @@ pub vacant-cells-requires : goal.vacant-cells-requires
 vacant-cells-requires g c = omega (arith, c.requires.few)
 
 pub whole_as_front-run_entered : goal.whole_as_front-run_entered
-whole_as_front-run_entered g c = (rw c.table_size-size.ensures c.requires.fits, omega (arith, c.requires.few))
+whole_as_front-run_entered g c = (rw c.cells-size.ensures c.requires.fits, omega (arith, c.requires.few))
 
 pub run_entered-requires : goal.run_entered-requires
 run_entered-requires g c =
-    rw c.table_size-size.ensures (cells_ready c.requires.plain c.requires.fits c.vacant-cells.ensures)
+    rw c.cells-size.ensures (cells_ready c.requires.plain c.requires.fits c.vacant-cells.ensures)
