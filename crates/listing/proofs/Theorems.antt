@@ -1,5 +1,5 @@
 -- What listing promises, one page: each theorem under the sentence that it proves.
-use Rattle.std.specs.Prelude.{Result, Ok, Err, IsOk}
+use Rattle.std.specs.Prelude.{Result, Ok, Err, IsOk, IsErrAnd}
 use Rattle.std.specs.Result.{result_unwrap_or}
 use mathlib.Core.Path.{◌≡◌}
 use mathlib.Core.Logic.{◌↔◌}
@@ -46,8 +46,16 @@ module _ {book before after : List ℕ} {r : Result ℕ Answer} where
   pub listed_room : {text : List ℕ}
       → Listing book text
       → Listed book before r after
-      → (r ≡ Err (refusal room (length text) 0)) ↔ (length before < length text)
+      → IsErrAnd r (λ (a : Answer). a.number ≡ room) ↔ (length before < length text)
   listed_room = whole.listed_room
+
+  -- and then it tells how many bytes are needed
+  pub listed_short : {text : List ℕ}
+      → Listing book text
+      → Listed book before r after
+      → length before < length text
+      → r ≡ Err (refusal room (length text) 0)
+  listed_short = whole.listed_short
 
   -- with room for the longest listing it is done
   pub listed_done : most_listed ≤ length before → Listed book before r after → IsOk r

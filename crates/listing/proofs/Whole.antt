@@ -1,5 +1,5 @@
 -- How much of a listing is written: with room for the longest all of it, and none where the buffer is shorter than the listing.
-use Rattle.std.specs.Prelude.{Result, Ok, Err, IsOk}
+use Rattle.std.specs.Prelude.{Result, Ok, Err, IsOk, IsErrAnd}
 use Rattle.std.specs.Result.{result_unwrap_or}
 use mathlib.Core.Path.{◌≡◌, refl, ap}
 use mathlib.Core.Logic.{◌↔◌}
@@ -59,14 +59,23 @@ pub listed_within : {book before after : List ℕ} {r : Result ℕ Answer} → L
 listed_within {before = before} (listed {text = text} l small) = omega (arith, length-append text (drop (length text) before))
 listed_within (no_room l short) = omega arith
 
--- the buffer is too short exactly if the listing is longer
+-- 7 is given exactly if the listing is longer than the buffer
 pub listed_room : {book before after text : List ℕ} {r : Result ℕ Answer}
     → Listing book text
     → Listed book before r after
-    → (r ≡ Err (refusal room (length text) 0)) ↔ (length before < length text)
-listed_room l (listed k small) = (λ same. cc, λ short. absurd (omega (arith, ap length (listing_unique l k))))
-listed_room l (no_room k short) =
-    (λ same. omega (arith, ap length (listing_unique l k)), λ short'. rw (listing_unique l k) refl)
+    → IsErrAnd r (λ (a : Answer). a.number ≡ room) ↔ (length before < length text)
+unfolding refusal
+listed_room l (listed k small) = (λ e. absurd e, λ short. absurd (omega (arith, ap length (listing_unique l k))))
+listed_room l (no_room k short) = (λ e. omega (arith, ap length (listing_unique l k)), λ short'. refl)
+
+-- and then it tells how many bytes are needed
+pub listed_short : {book before after text : List ℕ} {r : Result ℕ Answer}
+    → Listing book text
+    → Listed book before r after
+    → length before < length text
+    → r ≡ Err (refusal room (length text) 0)
+listed_short l (listed k small) short = absurd (omega (arith, ap length (listing_unique l k)))
+listed_short l (no_room k short') short = rw (listing_unique l k) refl
 
 -- with room for the longest listing it is done
 pub listed_done : {book before after : List ℕ} {r : Result ℕ Answer}
