@@ -1,5 +1,5 @@
 pub mod Unique
-pub mod Lowest
 pub mod Checks
+pub mod Lowest
 pub mod Written
 pub mod Promise

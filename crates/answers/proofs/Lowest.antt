@@ -5,7 +5,7 @@ use native.Mathlib.Decide.{dec_lt}
 use native.Mathlib.Omega.{arith}
 use borrow.Author.Count.{below_more}
 use Rattle.std.specs.Prelude.{Option, Some, None, unwrap_or}
-use Rattle.answers.specs.Lowest.{Lowest, FirstFailing, LowestIn, FailingAt, FailingIn}
+use Rattle.answers.specs.Lowest.{Lowest, FirstFailing, LowestIn, FailingIn}
 
 -- a search has come to i and passed no number that has P
 pub record Searched (P : ℕ → Type 0) (count i : ℕ) : Type 0 where
@@ -28,12 +28,6 @@ module _ {P : ℕ → Type 0} {count : ℕ} where
     pub search_next : i < count → ¬ P i → Searched P count (i + 1)
     search_next below fails = record { within = omega arith; passed = below_more _ i s.passed fails }
 
-    pub search_found : P i → Lowest P count i
-    search_found holds = record { within = s.within; earlier = s.passed; found = λ below. holds }
-
-    pub search_over : count ≤ i → Lowest P count i
-    search_over over = record { within = s.within; earlier = s.passed; found = λ below. absurd (omega arith) }
-
     pub search_some : i < count → P i → LowestIn P count (Some i)
     search_some below holds = record { inside = below; holds = holds; earlier = s.passed }
 
@@ -46,19 +40,9 @@ module _ {P : ℕ → Type 0} {count : ℕ} where
   lowest_or_count (Some r) l =
       record { within = omega (arith, l.inside); earlier = l.earlier; found = λ below. l.holds }
 
-  -- and back
-  pub lowest_in_some : {r : ℕ} → Lowest P count r → r < count → LowestIn P count (Some r)
-  lowest_in_some l below = record { inside = below; holds = l.found below; earlier = l.earlier }
-
-  pub lowest_in_none : {r : ℕ} → Lowest P count r → count ≤ r → LowestIn P count None
-  lowest_in_none l over k below = l.earlier k (omega (arith, l.within))
-
   -- where all below i have P, the first that fails from there on
   pub fails_some : {i : ℕ} → i < count → ((k : ℕ) → k < i → P k) → ¬ P i → FailingIn P count (Some i)
   fails_some below passed fails = record { inside = below; fails = fails; earlier = passed }
-
-  pub first_fails_at : {r : ℕ} → FailingAt P count r → FirstFailing P count r
-  first_fails_at a = record { within = omega (arith, a.inside); earlier = a.earlier; fails = λ below. a.fails }
 
 -- the first that fails is one
 pub first_failing_unique : {P : ℕ → Type 0} {count r s : ℕ} → FirstFailing P count r → FirstFailing P count s → r ≡ s
@@ -68,16 +52,3 @@ first_failing_unique {r = r} {s = s} a b = go (dec_lt r s) (dec_lt s r)
     go (yes l) k = absurd (a.fails (omega (arith, b.within)) (b.earlier r l))
     go (no n) (yes l) = absurd (b.fails (omega (arith, a.within)) (a.earlier s l))
     go (no n) (no m) = omega arith
-
--- the same number is the lowest of another predicate that says the same below the count
-pub lowest_alike : {P Q : ℕ → Type 0} {count r : ℕ}
-    → ((i : ℕ) → i < count → P i → Q i)
-    → ((i : ℕ) → i < count → Q i → P i)
-    → Lowest P count r
-    → Lowest Q count r
-lowest_alike there back l =
-    record {
-      within = l.within;
-      earlier = λ i below q. l.earlier i below (back i (omega (arith, l.within)) q);
-      found = λ below. there _ below (l.found below);
-    }

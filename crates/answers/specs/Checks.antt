@@ -1,17 +1,11 @@
 -- Checks that go one after the other, each with the refusal that it gives: the first that stops is the answer.
 -- Document 01, "Refusals and their numbers".
-use Rattle.std.specs.Prelude.{◌≡◌, ◌≢◌, ℕ, ◌≤◌, ◌<◌, ⊤, Result, MatchResult}
+use Rattle.std.specs.Prelude.{ℕ, ◌≤◌, ◌<◌, ⊤, Result, MatchResult}
 use Rattle.answers.specs.declared.Answer.{Answer}
 use Rattle.answers.specs.Answers.{refusal}
-use Rattle.answers.specs.Refusals.{served, detail_of}
+use Rattle.answers.specs.Refusals.{detail_of}
 use Rattle.answers.specs.declared.refusals.Lent.{Lent}
 use Rattle.answers.specs.Refusals as refusals
-
--- an earlier refusal passes through; otherwise the check stops with its own, or goes on
-pub data Checked (before : Answer) (Bad : Answer → Type 0) (Good : Type 0) : Answer → Type 0 where
-  passes : before.number ≢ served → Checked before Bad Good before
-  stops : {a : Answer} → before.number ≡ served → Bad a → Checked before Bad Good a
-  goes : before.number ≡ served → Good → Checked before Bad Good before
 
 -- this answer, for this reason
 pub data Because (reason : Type 0) (a : Answer) : Answer → Type 0 where
@@ -25,10 +19,6 @@ pub data Either (Bad : Answer → Type 0) (Good : Type 0) (Next : Answer → Typ
 -- a buffer that has fewer cells than are wanted
 abbrev pub Lacking : (have want detail : ℕ) → Answer → Type 0
 Lacking have want detail = Because (have < want) (refusal refusals.room want detail)
-
--- the check that a buffer has room for so many cells
-abbrev pub Roomed : Answer → (have want detail : ℕ) → Answer → Type 0
-Roomed before have want detail = Checked before (Lacking have want detail) (want ≤ have)
 
 -- a check stops with a refusal of its own, or all is good
 abbrev pub Tested : (Bad : Answer → Type 0) (Good : Type 0) → Result ⊤ Answer → Type 0
