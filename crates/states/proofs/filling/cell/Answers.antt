@@ -2,7 +2,7 @@
 use mathlib.Core.Path.{◌≡◌}
 use Rattle.sets.proofs.Promise.{decides_true, decides_false}
 use Rattle.moves.specs.Tables.{set_of}
-use Rattle.states.specs.Searching.{nothing, not_there, numbered}
+use Rattle.states.specs.Sets.{nothing, not_there, numbered}
 use Rattle.states.proofs.filling.cell.Goals as goal
 use Rattle.states.proofs.filling.cell.Goals.{After-none}
 
