@@ -9,7 +9,7 @@ use Rattle.states.specs.declared.tables.Tables.{Tables}
 use Rattle.states.specs.Machine.{tables}
 use Rattle.states.specs.Sets.{states_of}
 
--- the machine of the tables
+-- the machine of the given tables
 abbrev pub machine_of : Tables → Automaton ℕ
 machine_of given = tables given.readers.now given.follow.now
 
@@ -17,13 +17,13 @@ machine_of given = tables given.readers.now given.follow.now
 abbrev pub found_in : States → List ℕ
 found_in states = states_of states.sets states.count
 
--- the states were found in the first t cells
+-- the states are those that were found in the first t cells
 pub record SearchedTo (given : Tables) (states : States) (t : ℕ) : Type 0 where
   pub cells : List (maybe.Option ℕ)
   pub found : Found (machine_of given) (found_in states) cells
   pub turns : length cells ≡ t
 
--- so were those before, which are no more
+-- so they are, and they are no fewer than before
 pub record More (given : Tables) (before : States) (t : ℕ) (after : States) : Type 0 where
   pub more : before.count ≤ after.count
   pub searched : SearchedTo given after t

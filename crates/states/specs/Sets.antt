@@ -1,7 +1,6 @@
 -- Sets of points kept one behind the other: the list of the first n, one that is sought, and one that is kept. Working
 -- definitions, which no public contract cites.
-use Rattle.std.specs.Prelude.{◌≡◌, ◌≢◌, List, [], ◌∷◌, ◌++◌, ℕ, zero, suc, ◌*◌, ◌≤◌, ◌<◌, length, Option}
-use Rattle.answers.specs.Limits.{point_words, most_states}
+use Rattle.std.specs.Prelude.{◌≡◌, ◌≢◌, List, [], ◌∷◌, ◌++◌, ℕ, zero, suc, ◌≤◌, ◌<◌, length, Option}
 use Rattle.answers.specs.Lowest.{LowestAt, LowestIn}
 use Rattle.moves.specs.Tables.{first_of, set_of}
 use Rattle.states.specs.Machine.{no_cell}
@@ -10,10 +9,6 @@ use Rattle.states.specs.Machine.{no_cell}
 unfoldable pub states_of : List ℕ → ℕ → List ℕ
 states_of sets zero = []
 states_of sets (suc n) = states_of sets n ++ (set_of sets n ∷ [])
-
--- there is room for the sets of the most states
-abbrev pub sets_room : ℕ
-sets_room = most_states * point_words
 
 -- a set of words was kept as set number i
 pub record Kept (before : List ℕ) (i : ℕ) (next after : List ℕ) : Type 0 where

@@ -9,7 +9,6 @@ use crate::NO_CELL;
 use crate::found::States;
 use crate::tables::Tables;
 use answers::limits::{BYTE_VALUES, MOST_PATTERNS, POINT_WORDS, POSITION_WORDS, ROW_CELLS};
-use moves::after;
 use points::{WORD_WIDTH, lowest, none};
 
 // An end as a cell, if it is a pattern's.
@@ -43,15 +42,7 @@ impl States {
 fn cell(states: &States, tables: &Tables, state: u16, byte: u8) -> u16
     ensures { Cell tables.now states.now state byte result }
 {
-    let mut next = [0u64; POINT_WORDS];
-    after(
-        &mut next,
-        &states.sets,
-        state,
-        tables.readers,
-        byte,
-        tables.follow,
-    );
+    let next = tables.after(&states.sets, state, byte);
     if none(&next, 0, POINT_WORDS) {
         return NO_CELL;
     }
@@ -63,7 +54,8 @@ fn cell(states: &States, tables: &Tables, state: u16, byte: u8) -> u16
 
 // The cells from one place up to another.
 fn spread(machine: &mut [u16], from: usize, to: usize, value: u16)
-    requires { (from ≤ to) × (to ≤ length machine.old) }
+    requires rising { from ≤ to }
+    requires within { to ≤ length machine.old }
     ensures { CellsSpread machine.old from to value machine.new }
 {
     machine[from..to].fill(value);
@@ -71,7 +63,8 @@ fn spread(machine: &mut [u16], from: usize, to: usize, value: u16)
 
 // The row of one state: its bytes, of which those with the same readers have the same cell, then its token.
 fn fill_row(machine: &mut [u16], states: &States, tables: &Tables, state: usize)
-    requires { (state < states.now.count) × (states.now.count * row_cells ≤ length machine.old) }
+    requires row { state < states.now.count }
+    requires room { states.now.count * row_cells ≤ length machine.old }
     ensures { RowFilled tables.now states.now state machine.old machine.new }
 {
     let at = state * ROW_CELLS;

@@ -6,23 +6,15 @@ ghost use Rattle.states.specs.Searching.{SearchedTo, OrTooMany, More, Searched};
 use crate::found::{States, TooManyStates};
 use crate::tables::Tables;
 use answers::limits::{BYTE_VALUES, MOST_STATES, POINT_WORDS};
-use moves::after;
 use points::none;
 
 // One cell of a state's row, if with it the states are not too many.
 fn turn(states: &mut States, tables: &Tables, state: u16, byte: u8) -> Result<(), TooManyStates>
-    requires { (state < states.old.count) × SearchedTo tables.now states.old (state * byte_values + byte) }
+    requires row { state < states.old.count }
+    requires searched { SearchedTo tables.now states.old (state * byte_values + byte) }
     ensures { OrTooMany tables.now (More tables.now states.old (state * byte_values + byte + 1) states.new) result }
 {
-    let mut next = [0u64; POINT_WORDS];
-    after(
-        &mut next,
-        &states.sets,
-        state,
-        tables.readers,
-        byte,
-        tables.follow,
-    );
+    let next = tables.after(&states.sets, state, byte);
     if none(&next, 0, POINT_WORDS) || states.seek(&next).is_some() {
         return Ok(());
     }
@@ -35,7 +27,8 @@ fn turn(states: &mut States, tables: &Tables, state: u16, byte: u8) -> Result<()
 
 // The row of a state, with the same answer: bytes with the same readers have the same next state.
 fn find_row(states: &mut States, tables: &Tables, state: usize) -> Result<(), TooManyStates>
-    requires { (state < states.old.count) × SearchedTo tables.now states.old (state * byte_values) }
+    requires row { state < states.old.count }
+    requires searched { SearchedTo tables.now states.old (state * byte_values) }
     ensures { OrTooMany tables.now (More tables.now states.old ((state + 1) * byte_values) states.new) result }
 {
     let mut byte = 0;

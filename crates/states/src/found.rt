@@ -16,6 +16,7 @@ use points::{none, unite};
 // The words of the sets of the most states.
 const SETS: usize = MOST_STATES * POINT_WORDS;
 
+// The sets of the states, of which the first `count` were found.
 #[derive(Drop)]
 pub(crate) struct States {
     pub(crate) sets: [u64; SETS],
@@ -36,6 +37,7 @@ impl From<TooManyStates> for Answer {
 }
 
 impl States {
+    // No state.
     pub(crate) fn new() -> States
         ensures { result.count ≡ 0 }
     {
@@ -45,8 +47,10 @@ impl States {
         }
     }
 
+    // Whether a state has this set.
     fn is_state(&self, state: usize, next: &[u64; POINT_WORDS]) -> bool
-        requires { (state < self.now.count) × AreWords next.now }
+        requires known { state < self.now.count }
+        requires words { AreWords next.now }
         ensures { Decides result (set_of self.now.sets state ≡ set_of next.now 0) }
     {
         let at = state * POINT_WORDS;

@@ -1,10 +1,11 @@
 // The two tables of a list of patterns, and up to where their bytes have the same readers.
 ghost use Rattle.std.specs.Prelude.{◌+◌, ◌*◌, ◌<◌, length, true, ◌≡◌};
 ghost use Rattle.answers.specs.Limits.{byte_values};
-ghost use Rattle.moves.specs.Tables.{readers_of};
+ghost use Rattle.moves.specs.Tables.{readers_of, NextWords};
 ghost use Rattle.states.specs.Runs.{RunEnd, Runs};
 
-use answers::limits::{BYTE_VALUES, POSITION_WORDS};
+use answers::limits::{BYTE_VALUES, POINT_WORDS, POSITION_WORDS};
+use moves::after;
 
 // Whether the next byte is seen to have the readers of this one: where the table is too short nothing is seen.
 fn same_readers(readers: &[u64], byte: usize) -> bool
@@ -20,7 +21,8 @@ fn same_readers(readers: &[u64], byte: usize) -> bool
 
 // Up to where the bytes have the readers of this one, known of the bytes above.
 fn run_end(ends: &[u16; BYTE_VALUES], readers: &[u64], byte: usize) -> u16
-    requires { (byte < byte_values) × Runs readers.now (byte + 1) ends.now }
+    requires byte { byte < byte_values }
+    requires above { Runs readers.now (byte + 1) ends.now }
     ensures { RunEnd readers.now byte result }
 {
     let next = byte + 1;
@@ -63,5 +65,14 @@ impl<'t> Tables<'t> {
             follow,
             ends,
         }
+    }
+
+    // The points that come after set number `state` of a slice of sets.
+    pub(crate) fn after(&self, sets: &[u64], state: u16, byte: u8) -> [u64; POINT_WORDS]
+        ensures { NextWords sets.now state self.now.readers.now byte self.now.follow.now result }
+    {
+        let mut next = [0u64; POINT_WORDS];
+        after(&mut next, sets, state, self.readers, byte, self.follow);
+        next
     }
 }

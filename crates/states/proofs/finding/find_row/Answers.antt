@@ -14,6 +14,6 @@ loop-byte-preserved c =
         more = omega (arith, turned.more, met);
         searched =
             search_run args.tables.now c.turn.new.states args.state c.loop-byte.byte c.from-byte.result
-            (omega (arith, turned.more, met, c.requires.0)) run turned.searched;
+            (omega (arith, turned.more, met, c.requires.row)) run turned.searched;
       },
     )

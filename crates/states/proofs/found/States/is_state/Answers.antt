@@ -8,6 +8,6 @@ use Rattle.states.proofs.found.States.is_state.Goals as goal
 
 pub returns : goal.returns
 returns c =
-    part_decides c.args.self.now.sets c.args.next.now c.args.state (search rules) c.requires.1
-    c.told-next (omega (arith, c.requires.0, c.args.self.now.few)) c.eq.result
+    part_decides c.args.self.now.sets c.args.next.now c.args.state (search rules) c.requires.words
+    c.told-next (omega (arith, c.requires.known, c.args.self.now.few)) c.eq.result
     (slice_eq-Decides Decides-eqb _ _ _ c.eq.ensures)
