@@ -16,7 +16,8 @@ end_cell end = cond (ltb end most_patterns) end no_cell
 -- the number of what comes after set number i by byte b
 pub record Cell (given : Tables) (states : States) (i b r : ℕ) : Type 0 where
   pub points : ℕ
-  pub exact : Exactly (places point_words) points (NextPoint given.readers.now given.follow.now (set_of states.sets i) b)
+  pub exact : Exactly (places point_words) points
+      (NextPoint given.readers.now given.follow.now (set_of states.sets i) b)
   pub number : Numbered states.sets states.count points r
 
 -- the cells from one place up to another hold a value, and the others stay
