@@ -28,91 +28,90 @@ use Rattle.states.specs.Searching.{machine_of, found_in, SearchedTo, Searched}
 use Rattle.states.proofs.Sets.{states_length, state_at, states_alike}
 use Rattle.states.proofs.Bytes.{exactly_repeats}
 
-module _ (readers follow : List ℕ) where
-  pub tables_lawful : Lawful (tables readers follow)
-  tables_lawful =
-      record {
-        reflexive = λ x. refl;
-        symmetric = λ x y e. sym e;
-        transitive = λ x y z e d. e ∙ d;
-        one_start = λ x y s t. s.first ∙ sym t.first;
-        one_move = λ b x x' y y' e m m'. exactly_unique y y' m.exact (rw (← e) at m'.exact);
-        both_move = λ b x x' y e m. (y, rw e at m);
-      }
+pub tables_lawful : (readers follow : List ℕ) → Lawful (tables readers follow)
+tables_lawful readers follow =
+    record {
+      reflexive = λ x. refl;
+      symmetric = λ x y e. sym e;
+      transitive = λ x y z e d. e ∙ d;
+      one_start = λ x y s t. s.first ∙ sym t.first;
+      one_move = λ b x x' y y' e m m'. exactly_unique y y' m.exact (rw (← e) at m'.exact);
+      both_move = λ b x x' y e m. (y, rw e at m);
+    }
 
-  module _ (sets : List ℕ) (n i b : ℕ) (short : b < byte_values) (row : i < n)
-      {cells : List (Option ℕ)}
-      (found : Found (tables readers follow) (states_of sets n) cells)
-      (turns : length cells ≡ i * byte_values + b) where
-    -- what follows in a cell of this row is where the row's state leads
-    cell_at : (t c y : ℕ) → t ≡ i * byte_values + c → c < byte_values
-        → Follows (tables readers follow) (states_of sets n) t y ↔ TableMove readers follow (set_of sets i) c y
-    cell_at t c y e inside =
-        follows_at {m = tables readers follow} (states_of sets n) t i c (set_of sets i) y e inside (state_at sets n i row)
+module _ (given : Tables) (states : States) (i b : ℕ) (short : b < byte_values) (row : i < states.count)
+    {cells : List (Option ℕ)}
+    (found : Found (machine_of given) (found_in states) cells)
+    (turns : length cells ≡ i * byte_values + b) where
+  -- what follows in a cell of this row is where the row's state leads
+  cell_at : (t c y : ℕ) → t ≡ i * byte_values + c → c < byte_values
+      → Follows (machine_of given) (found_in states) t y ↔ TableMove given.readers.now given.follow.now (set_of states.sets i) c y
+  cell_at t c y e inside =
+      follows_at {m = machine_of given} (found_in states) t i c (set_of states.sets i) y e inside (state_at states.sets states.count i row)
 
-    room : length cells < byte_values * length (states_of sets n)
-    room = omega (arith, states_length sets n)
+  room : length cells < byte_values * length (found_in states)
+  room = omega (arith, states_length states.sets states.count)
 
-    -- what follows in the next cell is what comes after by this byte
-    module _ (y : ℕ) (exact : Exactly (places point_words) y (NextPoint readers follow (set_of sets i) b)) where
-      follows : y ≢ 0 → Follows (tables readers follow) (states_of sets n) (length cells) y
-      follows full =
-          (cell_at (length cells) b y turns short).1 (record { exact = exact; nonempty = full })
+  -- what follows in the next cell is what comes after by this byte
+  module _ (y : ℕ) (exact : Exactly (places point_words) y (NextPoint given.readers.now given.follow.now (set_of states.sets i) b)) where
+    follows : y ≢ 0 → Follows (machine_of given) (found_in states) (length cells) y
+    follows full =
+        (cell_at (length cells) b y turns short).1 (record { exact = exact; nonempty = full })
 
-      only : (z : ℕ) → Follows (tables readers follow) (states_of sets n) (length cells) z → (z ≡ y) × (z ≢ 0)
-      only z f =
-          let moved : TableMove readers follow (set_of sets i) b z =
-          (cell_at (length cells) b z turns short).0 f in
-          (exactly_unique z y moved.exact exact, moved.nonempty)
+    only : (z : ℕ) → Follows (machine_of given) (found_in states) (length cells) z → (z ≡ y) × (z ≢ 0)
+    only z f =
+        let moved : TableMove given.readers.now given.follow.now (set_of states.sets i) b z =
+        (cell_at (length cells) b z turns short).0 f in
+        (exactly_unique z y moved.exact exact, moved.nonempty)
 
-      pub turned_nothing : y ≡ 0 → Found (tables readers follow) (states_of sets n) (cells ++ (none ∷ []))
-      turned_nothing empty = turn_nothing found room (λ z f. (only z f).1 ((only z f).0 ∙ empty))
+    pub turned_nothing : y ≡ 0 → Found (machine_of given) (found_in states) (cells ++ (none ∷ []))
+    turned_nothing empty = turn_nothing found room (λ z f. (only z f).1 ((only z f).0 ∙ empty))
 
-      pub turned_met : (j : ℕ) → y ≢ 0 → j < n → set_of sets j ≡ y
-          → Found (tables readers follow) (states_of sets n) (cells ++ (some j ∷ []))
-      turned_met j full lower e =
-          turn_met found room j y (follows full) (record { state = set_of sets j; at = state_at sets n j lower; same = sym e })
+    pub turned_met : (j : ℕ) → y ≢ 0 → j < states.count → set_of states.sets j ≡ y
+        → Found (machine_of given) (found_in states) (cells ++ (some j ∷ []))
+    turned_met j full lower e =
+        turn_met found room j y (follows full) (record { state = set_of states.sets j; at = state_at states.sets states.count j lower; same = sym e })
 
-      pub turned_new : y ≢ 0 → ((j : ℕ) → j < n → set_of sets j ≢ y)
-          → Found (tables readers follow) (states_of sets n ++ (y ∷ [])) (cells ++ (some (length (states_of sets n)) ∷ []))
-      turned_new full new = turn_new found room tables_lawful y (follows full) none_is
-        where
-          none_is : (j : ℕ) → IsState (tables readers follow) (states_of sets n) j y → ⊥
-          none_is j is =
-              let lower : j < n = omega (arith, inside (states_of sets n) j is.at, states_length sets n) in
-              new j lower (some-injective (set_of sets j) is.state (sym (state_at sets n j lower) ∙ is.at) ∙ sym is.same)
+    pub turned_new : y ≢ 0 → ((j : ℕ) → j < states.count → set_of states.sets j ≢ y)
+        → Found (machine_of given) (found_in states ++ (y ∷ [])) (cells ++ (some (length (found_in states)) ∷ []))
+    turned_new full new = turn_new found room (tables_lawful given.readers.now given.follow.now) y (follows full) none_is
+      where
+        none_is : (j : ℕ) → IsState (machine_of given) (found_in states) j y → ⊥
+        none_is j is =
+            let lower : j < states.count = omega (arith, inside (found_in states) j is.at, states_length states.sets states.count) in
+            new j lower (some-injective (set_of states.sets j) is.state (sym (state_at states.sets states.count j lower) ∙ is.at) ∙ sym is.same)
 
-    -- by a byte with the readers of the byte before the same comes after
-    module _ (above : 0 < b) (repeats : readers_of readers b ≡ readers_of readers (b - 1)) where
-      earlier : length cells - 1 ≡ i * byte_values + (b - 1)
-      earlier = omega arith
+  -- by a byte with the readers of the byte before the same comes after
+  module _ (above : 0 < b) (repeats : readers_of given.readers.now b ≡ readers_of given.readers.now (b - 1)) where
+    earlier : length cells - 1 ≡ i * byte_values + (b - 1)
+    earlier = omega arith
 
-      moved_now : (y : ℕ) → Follows (tables readers follow) (states_of sets n) (length cells - 1) y
-          → Follows (tables readers follow) (states_of sets n) (length cells) y
-      moved_now y f =
-          let moved : TableMove readers follow (set_of sets i) (b - 1) y =
-          (cell_at (length cells - 1) (b - 1) y earlier (omega arith)).0 f in
-          let exact = exactly_repeats readers follow (set_of sets i) (b - 1) b (sym repeats) moved.exact in
-          (cell_at (length cells) b y turns short).1 (record { exact = exact; nonempty = moved.nonempty })
+    moved_now : (y : ℕ) → Follows (machine_of given) (found_in states) (length cells - 1) y
+        → Follows (machine_of given) (found_in states) (length cells) y
+    moved_now y f =
+        let moved : TableMove given.readers.now given.follow.now (set_of states.sets i) (b - 1) y =
+        (cell_at (length cells - 1) (b - 1) y earlier (omega arith)).0 f in
+        let exact = exactly_repeats given.readers.now given.follow.now (set_of states.sets i) (b - 1) b (sym repeats) moved.exact in
+        (cell_at (length cells) b y turns short).1 (record { exact = exact; nonempty = moved.nonempty })
 
-      moved_before : (y : ℕ) → Follows (tables readers follow) (states_of sets n) (length cells) y
-          → Follows (tables readers follow) (states_of sets n) (length cells - 1) y
-      moved_before y f =
-          let moved : TableMove readers follow (set_of sets i) b y =
-          (cell_at (length cells) b y turns short).0 f in
-          let exact = exactly_repeats readers follow (set_of sets i) b (b - 1) repeats moved.exact in
-          (cell_at (length cells - 1) (b - 1) y earlier (omega arith)).1
-          (record { exact = exact; nonempty = moved.nonempty })
+    moved_before : (y : ℕ) → Follows (machine_of given) (found_in states) (length cells) y
+        → Follows (machine_of given) (found_in states) (length cells - 1) y
+    moved_before y f =
+        let moved : TableMove given.readers.now given.follow.now (set_of states.sets i) b y =
+        (cell_at (length cells) b y turns short).0 f in
+        let exact = exactly_repeats given.readers.now given.follow.now (set_of states.sets i) b (b - 1) repeats moved.exact in
+        (cell_at (length cells - 1) (b - 1) y earlier (omega arith)).1
+        (record { exact = exact; nonempty = moved.nonempty })
 
-      pub turned_again : (v : Option ℕ) × Found (tables readers follow) (states_of sets n) (cells ++ (v ∷ []))
-      turned_again = go (element cells (length cells - 1) (omega arith))
-        where
-          go : (v : Option ℕ) × (get_elem? cells (length cells - 1) ≡ some v)
-              → (v : Option ℕ) × Found (tables readers follow) (states_of sets n) (cells ++ (v ∷ []))
-          go (none, e) = (none, turn_nothing found room (λ y f. found.empty (length cells - 1) e y (moved_before y f)))
-          go (some j, e) =
-              let (y, follows, is) = found.filled (length cells - 1) j e in
-              (some j, turn_met found room j y (moved_now y follows) is)
+    pub turned_again : (v : Option ℕ) × Found (machine_of given) (found_in states) (cells ++ (v ∷ []))
+    turned_again = go (element cells (length cells - 1) (omega arith))
+      where
+        go : (v : Option ℕ) × (get_elem? cells (length cells - 1) ≡ some v)
+            → (v : Option ℕ) × Found (machine_of given) (found_in states) (cells ++ (v ∷ []))
+        go (none, e) = (none, turn_nothing found room (λ y f. found.empty (length cells - 1) e y (moved_before y f)))
+        go (some j, e) =
+            let (y, follows, is) = found.filled (length cells - 1) j e in
+            (some j, turn_met found room j y (moved_now y follows) is)
 
 -- what was sought is there, or is not
 module _ (sets : List ℕ) (n y : ℕ) where
@@ -138,7 +137,7 @@ module _ (given : Tables) (states : States) (i b : ℕ) (short : b < byte_values
     pub search_again : (0 < b) × (readers_of given.readers.now b ≡ readers_of given.readers.now (b - 1))
         → SearchedTo given states (i * byte_values + b + 1)
     search_again (above, repeats) =
-        let (v, found) = turned_again given.readers.now given.follow.now states.sets states.count i b short row s.found s.turns above repeats in
+        let (v, found) = turned_again given states i b short row s.found s.turns above repeats in
         longer s.cells v states s.turns found refl
 
     module _ {next : List ℕ} (after : NextWords states.sets i given.readers.now b given.follow.now next) where
@@ -146,7 +145,7 @@ module _ (given : Tables) (states : States) (i b : ℕ) (short : b < byte_values
       pub search_nothing : set_of next 0 ≡ 0 → SearchedTo given states (i * byte_values + b + 1)
       search_nothing empty =
           longer s.cells none states s.turns
-          (turned_nothing given.readers.now given.follow.now states.sets states.count i b short row s.found s.turns (set_of next 0) after.exact empty)
+          (turned_nothing given states i b short row s.found s.turns (set_of next 0) after.exact empty)
           refl
 
       module _ (full : set_of next 0 ≢ 0) where
@@ -155,14 +154,14 @@ module _ (given : Tables) (states : States) (i b : ℕ) (short : b < byte_values
             → SearchedTo given states (i * byte_values + b + 1)
         search_met {j} met =
             longer s.cells (some j) states s.turns
-            (turned_met given.readers.now given.follow.now states.sets states.count i b short row s.found s.turns (set_of next 0) after.exact j full met.inside met.holds)
+            (turned_met given states i b short row s.found s.turns (set_of next 0) after.exact j full met.inside met.holds)
             refl
 
         module _ (new : (j : ℕ) → j < states.count → set_of states.sets j ≢ set_of next 0) where
           -- or it is new
           found_new : Found (machine_of given) (found_in states ++ (set_of next 0 ∷ [])) (s.cells ++ (some (length (found_in states)) ∷ []))
           found_new =
-              turned_new given.readers.now given.follow.now states.sets states.count i b short row s.found s.turns (set_of next 0) after.exact full new
+              turned_new given states i b short row s.found s.turns (set_of next 0) after.exact full new
 
           pub search_new : (later : States) → Kept states.sets states.count next later.sets → later.count ≡ states.count + 1
               → SearchedTo given later (i * byte_values + b + 1)
