@@ -24,7 +24,7 @@ use Rattle.points.proofs.Promise.{points_alike, points_same, points_none, rows_a
 use Rattle.answers.specs.Limits.{most_positions, point_words}
 use Rattle.numbering.proofs.Promise.{at_append, at_last}
 use Rattle.moves.specs.Tables.{follow_of, first_of, set_of}
-use Rattle.states.specs.Searching.{states_of, Kept}
+use Rattle.states.specs.Sets.{states_of, Kept}
 
 pub states_length : (sets : List ℕ) (n : ℕ) → length (states_of sets n) ≡ n
 unfolding states_of

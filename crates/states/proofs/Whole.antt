@@ -22,107 +22,109 @@ use Rattle.answers.specs.Refusals.{room, machine_room}
 use Rattle.numbering.specs.Numbering.{IsState, FoundAll}
 use Rattle.numbering.proofs.Promise.{inside, moves_cell, cell_none}
 use Rattle.moves.specs.Tables.{set_of, NextPoint}
-use Rattle.states.specs.Machine.{TableMove, tables, no_cell, cell_of, token_of, rows_of}
-use Rattle.states.specs.Searching.{states_of, Numbered, nothing, not_there, numbered, Searched}
+use Rattle.states.specs.declared.found.States.{States}
+use Rattle.states.specs.declared.tables.Tables.{Tables}
+use Rattle.states.specs.Machine.{TableMove, no_cell, cell_of, token_of, rows_of}
+use Rattle.states.specs.Sets.{Numbered, nothing, not_there, numbered}
+use Rattle.states.specs.Searching.{machine_of, found_in, Searched}
 use Rattle.states.specs.Making.{no_room, made, MadeOutcome}
 use Rattle.states.specs.Filling.{Cell, Filled}
 use Rattle.states.proofs.Sets.{states_length, state_at}
 use Rattle.states.proofs.Turning.{tables_lawful}
 use Rattle.states.proofs.Rows.{rows_length, rows_next, rows_token}
 
-module _ (readers follow sets : List ℕ) (n : ℕ) {cells : List (Option ℕ)}
-    (all : FoundAll (tables readers follow) (states_of sets n) cells) where
-  long : length cells ≡ byte_values * length (states_of sets n)
+module _ (given : Tables) (states : States) {cells : List (Option ℕ)} (all : FoundAll (machine_of given) (found_in states) cells) where
+  long : length cells ≡ byte_values * length (found_in states)
   long = all.all
 
-  state : (i : ℕ) → i < n → IsState (tables readers follow) (states_of sets n) i (set_of sets i)
-  state i row = record { state = set_of sets i; at = state_at sets n i row; same = refl }
+  state : (i : ℕ) → i < states.count → IsState (machine_of given) (found_in states) i (set_of states.sets i)
+  state i row = record { state = set_of states.sets i; at = state_at states.sets states.count i row; same = refl }
 
   -- a state by its number is the set of that number
-  set_of_lem : (j y : ℕ) → IsState (tables readers follow) (states_of sets n) j y → (j < n) × (set_of sets j ≡ y)
+  set_of_lem : (j y : ℕ) → IsState (machine_of given) (found_in states) j y → (j < states.count) × (set_of states.sets j ≡ y)
   set_of_lem j y is =
-      let lower : j < n = omega (arith, inside (states_of sets n) j is.at, states_length sets n) in
-      (lower, some-injective (set_of sets j) is.state (sym (state_at sets n j lower) ∙ is.at) ∙ sym is.same)
+      let lower : j < states.count = omega (arith, inside (found_in states) j is.at, states_length states.sets states.count) in
+      (lower, some-injective (set_of states.sets j) is.state (sym (state_at states.sets states.count j lower) ∙ is.at) ∙ sym is.same)
 
-  module _ (i b : ℕ) (row : i < n) (short : b < byte_values) (y : ℕ)
-      (exact : Exactly (places point_words) y (NextPoint readers follow (set_of sets i) b)) where
+  module _ (i b : ℕ) (row : i < states.count) (short : b < byte_values) (y : ℕ)
+      (exact : Exactly (places point_words) y (NextPoint given.readers.now given.follow.now (set_of states.sets i) b)) where
     -- a set that comes after is a state, whose number the cell holds
-    held : y ≢ 0 → (j : ℕ) × (get_elem? cells (i * byte_values + b) ≡ some (some j)) × IsState (tables readers follow) (states_of sets n) j y
+    held : y ≢ 0 → (j : ℕ) × (get_elem? cells (i * byte_values + b) ≡ some (some j)) × IsState (machine_of given) (found_in states) j y
     held full =
-        let moved : TableMove readers follow (set_of sets i) b y = record { exact = exact; nonempty = full } in
-        moves_cell (tables_lawful readers follow) all i b (set_of sets i) y short (state i row) moved
+        let moved : TableMove given.readers.now given.follow.now (set_of states.sets i) b y = record { exact = exact; nonempty = full } in
+        moves_cell (tables_lawful given.readers.now given.follow.now) all i b (set_of states.sets i) y short (state i row) moved
 
     -- what a cell holds is what was found for it
-    named : (r : ℕ) → y ≢ 0 → LowestAt (λ (j : ℕ). set_of sets j ≡ y) n r → get_elem? cells (i * byte_values + b) ≡ some (some r)
+    named : (r : ℕ) → y ≢ 0 → LowestAt (λ (j : ℕ). set_of states.sets j ≡ y) states.count r → get_elem? cells (i * byte_values + b) ≡ some (some r)
     named r full sought =
         let (j, names, is) = held full in
-        let other : IsState (tables readers follow) (states_of sets n) r y =
-        record { state = set_of sets r; at = state_at sets n r sought.inside; same = sym sought.holds } in
+        let other : IsState (machine_of given) (found_in states) r y =
+        record { state = set_of states.sets r; at = state_at states.sets states.count r sought.inside; same = sym sought.holds } in
         let one : j ≡ r = all.found.distinct j r y is other in
         rw one at names
 
     -- and what comes after is nothing where it is none of the states
-    empty_cell : y ≡ 0 → get_or (rows_of (states_of sets n) cells) (i * row_cells + b) 0 ≡ no_cell
+    empty_cell : y ≡ 0 → get_or (rows_of (found_in states) cells) (i * row_cells + b) 0 ≡ no_cell
     unfolding cell_of
     empty_cell empty =
-        rows_next (states_of sets n) cells i b none long (omega (arith, states_length sets n)) short
-        ((cell_none (tables_lawful readers follow) all i b (set_of sets i) short (state i row)).1
+        rows_next (found_in states) cells i b none long (omega (arith, states_length states.sets states.count)) short
+        ((cell_none (tables_lawful given.readers.now given.follow.now) all i b (set_of states.sets i) short (state i row)).1
         (λ z moved. moved.nonempty (exactly_unique z y moved.exact exact ∙ empty)))
 
-    pub cell_right : (r : ℕ) → Numbered sets n y r → get_or (rows_of (states_of sets n) cells) (i * row_cells + b) 0 ≡ r
+    pub cell_right : (r : ℕ) → Numbered states.sets states.count y r → get_or (rows_of (found_in states) cells) (i * row_cells + b) 0 ≡ r
     unfolding cell_of
     cell_right r (nothing empty) = empty_cell empty
     cell_right r (not_there away) = go (ℕ_discrete y 0)
       where
-        go : Dec (y ≡ 0) → get_or (rows_of (states_of sets n) cells) (i * row_cells + b) 0 ≡ no_cell
+        go : Dec (y ≡ 0) → get_or (rows_of (found_in states) cells) (i * row_cells + b) 0 ≡ no_cell
         go (yes empty) = empty_cell empty
         go (no full) =
             let (j, names, is) = held full in
             let (lower, there) = set_of_lem j y is in
             absurd (away j lower there)
     cell_right r (numbered full sought) =
-        rows_next (states_of sets n) cells i b (some r) long (omega (arith, states_length sets n)) short (named r full sought)
+        rows_next (found_in states) cells i b (some r) long (omega (arith, states_length states.sets states.count)) short (named r full sought)
 
-  module _ {before after : List ℕ} (enough : n * row_cells ≤ length before)
-      (filled : Filled readers follow sets n before (n * row_cells) after) where
-    size : length (rows_of (states_of sets n) cells) ≡ n * row_cells
-    size = rows_length (states_of sets n) cells long ∙ ap (λ (k : ℕ). k * row_cells) (states_length sets n)
+  module _ {before after : List ℕ} (enough : states.count * row_cells ≤ length before)
+      (filled : Filled given states before (states.count * row_cells) after) where
+    size : length (rows_of (found_in states) cells) ≡ states.count * row_cells
+    size = rows_length (found_in states) cells long ∙ ap (λ (k : ℕ). k * row_cells) (states_length states.sets states.count)
 
     -- a cell of the rows
-    laid : (k : ℕ) → k < n * row_cells → get_or after k 0 ≡ get_or (rows_of (states_of sets n) cells) k 0
+    laid : (k : ℕ) → k < states.count * row_cells → get_or after k 0 ≡ get_or (rows_of (found_in states) cells) k 0
     laid k below = go (dec_lt (k % row_cells) byte_values)
       where
         here : k ≡ k / row_cells * row_cells + k % row_cells
         here = omega arith
 
-        go : Dec (k % row_cells < byte_values) → get_or after k 0 ≡ get_or (rows_of (states_of sets n) cells) k 0
+        go : Dec (k % row_cells < byte_values) → get_or after k 0 ≡ get_or (rows_of (found_in states) cells) k 0
         go (yes short) =
             let place = k / row_cells * row_cells + k % row_cells in
-            let cell : Cell readers follow sets n (k / row_cells) (k % row_cells) (get_or after place 0) =
+            let cell : Cell given states (k / row_cells) (k % row_cells) (get_or after place 0) =
             filled.next (k / row_cells) (k % row_cells) short (omega arith) in
-            let right : get_or (rows_of (states_of sets n) cells) place 0 ≡ get_or after place 0 =
+            let right : get_or (rows_of (found_in states) cells) place 0 ≡ get_or after place 0 =
             cell_right (k / row_cells) (k % row_cells) (omega arith) short cell.points cell.exact (get_or after place 0) cell.number in
             sym (rw (← here) at right)
         go (no last) =
             let end = k / row_cells * row_cells + byte_values in
             let is : k ≡ end = omega arith in
-            let row : k / row_cells < n = omega arith in
-            let token : get_or after end 0 ≡ token_of (set_of sets (k / row_cells)) = filled.token (k / row_cells) (omega arith) in
-            let right : get_or (rows_of (states_of sets n) cells) end 0 ≡ token_of (set_of sets (k / row_cells)) =
-            rows_token (states_of sets n) cells (k / row_cells) (set_of sets (k / row_cells)) long (state_at sets n (k / row_cells) row) in
+            let row : k / row_cells < states.count = omega arith in
+            let token : get_or after end 0 ≡ token_of (set_of states.sets (k / row_cells)) = filled.token (k / row_cells) (omega arith) in
+            let right : get_or (rows_of (found_in states) cells) end 0 ≡ token_of (set_of states.sets (k / row_cells)) =
+            rows_token (found_in states) cells (k / row_cells) (set_of states.sets (k / row_cells)) long (state_at states.sets states.count (k / row_cells) row) in
             rw (← is) at (token ∙ sym right)
 
-    pub filled_rows : after ≡ over (rows_of (states_of sets n) cells) before
-    filled_rows = ext_get_or 0 after (over (rows_of (states_of sets n) cells) before) same_length (λ k within. go k (dec_lt k (n * row_cells)))
+    pub filled_rows : after ≡ over (rows_of (found_in states) cells) before
+    filled_rows = ext_get_or 0 after (over (rows_of (found_in states) cells) before) same_length (λ k within. go k (dec_lt k (states.count * row_cells)))
       where
         rows : List ℕ
-        rows = rows_of (states_of sets n) cells
+        rows = rows_of (found_in states) cells
 
         same_length : length after ≡ length (over rows before)
         same_length =
             omega (arith, filled.long, length-append rows (drop (length rows) before), length-drop (length rows) before, size)
 
-        go : (k : ℕ) → Dec (k < n * row_cells) → get_or after k 0 ≡ get_or (over rows before) k 0
+        go : (k : ℕ) → Dec (k < states.count * row_cells) → get_or after k 0 ≡ get_or (over rows before) k 0
         go k (yes below) =
             laid k below ∙ sym (get_or-append rows (drop (length rows) before) 0 k (omega (arith, size)))
         go k (no above) =
@@ -132,20 +134,20 @@ module _ (readers follow sets : List ℕ) (n : ℕ) {cells : List (Option ℕ)}
             ∙ get_or-drop (length rows) before (k - length rows) 0))
 
 -- what making answers, after the search
-module _ {readers follow sets : List ℕ} {n : ℕ} (searched : Searched readers follow sets n) (machine : List ℕ) where
+module _ {given : Tables} {states : States} (searched : Searched given states) (machine : List ℕ) where
   pub make_no_room : {a : Answer}
-      → Lacking (length machine) (n * row_cells) machine_room a
-      → MadeOutcome readers follow machine (Err a) machine
+      → Lacking (length machine) (states.count * row_cells) machine_room a
+      → MadeOutcome given.readers.now given.follow.now machine (Err a) machine
   make_no_room (because short) =
-      let outcome : MadeOutcome readers follow machine (Err (refusal room (length (states_of sets n) * row_cells) machine_room)) machine =
-      no_room searched.all (omega (arith, states_length sets n, searched.few)) (omega (arith, states_length sets n)) in
-      rw (states_length sets n) at outcome
+      let outcome : MadeOutcome given.readers.now given.follow.now machine (Err (refusal room (length (found_in states) * row_cells) machine_room)) machine =
+      no_room searched.all (omega (arith, states_length states.sets states.count, states.few)) (omega (arith, states_length states.sets states.count)) in
+      rw (states_length states.sets states.count) at outcome
 
-  pub make_whole : n * row_cells ≤ length machine → {after : List ℕ}
-      → Filled readers follow sets n machine (n * row_cells) after
-      → MadeOutcome readers follow machine (Ok n) after
+  pub make_whole : states.count * row_cells ≤ length machine → {after : List ℕ}
+      → Filled given states machine (states.count * row_cells) after
+      → MadeOutcome given.readers.now given.follow.now machine (Ok states.count) after
   make_whole enough {after} filled =
-      let rows = rows_of (states_of sets n) searched.cells in
-      let outcome : MadeOutcome readers follow machine (Ok (length (states_of sets n))) (over rows machine) =
-      made searched.all (omega (arith, states_length sets n, searched.few)) (omega (arith, states_length sets n)) in
-      rw (filled_rows readers follow sets n searched.all enough filled) (rw (states_length sets n) at outcome)
+      let rows = rows_of (found_in states) searched.cells in
+      let outcome : MadeOutcome given.readers.now given.follow.now machine (Ok (length (found_in states))) (over rows machine) =
+      made searched.all (omega (arith, states_length states.sets states.count, states.few)) (omega (arith, states_length states.sets states.count)) in
+      rw (filled_rows given states searched.all enough filled) (rw (states_length states.sets states.count) at outcome)

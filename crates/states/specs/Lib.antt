@@ -1,4 +1,6 @@
 pub mod Machine
 pub mod Making
+pub mod Runs
+pub mod Sets
 pub mod Searching
 pub mod Filling

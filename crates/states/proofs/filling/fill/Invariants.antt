@@ -5,4 +5,4 @@ use Rattle.states.specs.Filling.{Filled}
 use Rattle.states.proofs.filling.fill.Given as goal
 
 abbrev pub invariant-loop-state : goal.invariant-loop-state
-invariant-loop-state l = Filled l.readers l.follow l.sets l.count l.initial.machine (l.state * row_cells) l.machine
+invariant-loop-state l = Filled l.tables l.states l.initial.machine (l.state * row_cells) l.machine

@@ -8,8 +8,8 @@ use Rattle.states.proofs.filling.fill_row.Given as goal
 abbrev pub invariant-loop-byte : goal.invariant-loop-byte
 invariant-loop-byte l =
     (l.byte ≤ byte_values)
-    × ((start : List ℕ) → Filled l.readers l.follow l.sets l.count start (l.state * row_cells) l.initial.machine
-    → Filled l.readers l.follow l.sets l.count start (l.state * row_cells + l.byte) l.machine)
+    × ((start : List ℕ) → Filled l.tables l.states start (l.state * row_cells) l.initial.machine
+    → Filled l.tables l.states start (l.state * row_cells + l.byte) l.machine)
 
 abbrev pub decreases-loop-byte : goal.decreases-loop-byte
 decreases-loop-byte l = byte_values - l.byte

@@ -3,15 +3,7 @@ use Rattle.states.proofs.Turning.{search_begun, search_whole}
 use Rattle.states.proofs.finding.find.Goals as goal
 
 pub loop-state-init : goal.loop-state-init
-loop-state-init c =
-    let begun = c.begin-found.ensures in (
-      omega arith,
-      omega (arith, begun.few),
-      search_begun c.args.readers.now c.args.follow.now c.begin-found.result begun,
-    )
+loop-state-init c = (omega arith, search_begun c.args.tables.now c.begin.new.self c.begin.ensures)
 
 pub returns : goal.returns
-returns c =
-    let loop = c.loop-state in
-    let whole = search_whole loop.invariant.2 (omega arith) in
-    record { few = loop.invariant.1; cells = whole.0; all = whole.1 }
+returns c = search_whole c.loop-state.invariant.1 (omega arith)

@@ -1,8 +1,8 @@
--- `states::finding::same_readers` meets its contract.
+-- `states::tables::same_readers` meets its contract.
 use Rattle.std.proofs.lemmas.Bool.Decides.{Decides-eqb}
 use Rattle.std.proofs.lemmas.Slice.Eq.{slice_eq-Decides}
 use Rattle.states.proofs.Bytes.{part_readers}
-use Rattle.states.proofs.finding.same_readers.Goals as goal
+use Rattle.states.proofs.tables.same_readers.Goals as goal
 
 pub returns-then-end-readers : goal.returns-then-end-readers
 returns-then-end-readers c =
