@@ -5,7 +5,7 @@ use Rattle.expand.proofs.ExpandAnswers.{unfolds_countable, unfolds_answered}
 use Rattle.expand.proofs.expand_on.Goals as goal
 
 pub unfold_all-u-requires : goal.unfold_all-u-requires
-unfold_all-u-requires c = (search rules, c.gather_lefts-lefts.ensures, c.gather_lengths-lengths.ensures)
+unfold_all-u-requires c = (search rules, c.gather_lefts-lefts.ensures)
 
 pub answer_to-requires : goal.answer_to-requires
 answer_to-requires c =
