@@ -64,9 +64,7 @@ fn unfold_all(
     let mut written: usize = 0;
     let mut deepest: usize = 1;
     loop {
-        let turn = turn_at(
-            rules, lefts, list, used, stack, height, written, cells,
-        );
+        let turn = turn_at(rules, lefts, list, used, stack, height, written, cells);
         match turn {
             Turn::Write(t) => {
                 height -= 1;

@@ -10,7 +10,6 @@ use lib.Seq.{length-sets}
 use Rattle.grammar.specs.Grammar.{Form, Column}
 use Rattle.grammar.specs.declared.Symbol.{Symbol}
 use Rattle.answers.specs.Buffers.{counted}
-use Rattle.reader.specs.Fields.{form_in}
 use Rattle.book.specs.Columns.{grammar_in}
 use Rattle.book.specs.declared.Index.{Index}
 use Rattle.table.specs.Table.{cell_of}
@@ -69,7 +68,7 @@ module _ (book : List ℕ) (index : Index) (table : List ℕ) (ahead : Option �
     by_room : {n : Result Move Reason} → m ≡ n → Chosen right cell (counted stack₀) (counted list₀) c (spelled_by stack height) listed n
     by_room {n} same =
         subst (λ (m : Result Move Reason). Chosen right cell (counted stack₀) (counted list₀) c (spelled_by stack height) listed m) same
-        (subst₂ (λ (room cells : ℕ). Chosen right cell room cells c (spelled_by stack height) listed m) (ap (λ (n : ℕ). min n 65535) t.stack_length) t.cells_are choice.chosen)
+        (subst₂ (λ (room cells : ℕ). Chosen right cell room cells c (spelled_by stack height) listed m) (ap (λ (n : ℕ). min n 65535) t.stack_length) t.cells_are choice)
 
     -- a token is matched only where there is one
     pub match_some : m ≡ Ok Match → 1 ≤ height

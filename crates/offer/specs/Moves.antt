@@ -70,14 +70,15 @@ pub record Decision (step : Step) (table : List ℕ) (o : Outline) (r : Result M
   pub faces : (g : Grammar) → Outlines o g → Faces (cell_of g table) (column_in step.ahead) step.symbol r
 
 -- and what is done with the first cells of the stack in use, and so many of the list's cells
-pub record Choice (book : List ℕ) (index : Index) (table : List ℕ) (ahead : Option ℕ) (stack : List ℕ)
-    (height cells listed : ℕ) (r : Result Move Reason) : Type 0 where
-  pub chosen : Chosen
-      (right_of (grammar_in book index))
-      (cell_of (grammar_in book index) table)
-      (counted stack)
-      cells
-      (column_in ahead)
-      (spelled_by stack height)
-      listed
-      r
+abbrev pub Choice : (book : List ℕ) → Index → (table : List ℕ) → Option ℕ → (stack : List ℕ) → (height cells listed : ℕ)
+    → Result Move Reason
+    → Type 0
+Choice book index table ahead stack height cells listed =
+    Chosen
+    (right_of (grammar_in book index))
+    (cell_of (grammar_in book index) table)
+    (counted stack)
+    cells
+    (column_in ahead)
+    (spelled_by stack height)
+    listed

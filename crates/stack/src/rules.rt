@@ -15,8 +15,8 @@ use book::columns::gather_lengths;
 pub struct Rules<'b> {
     pub book: &'b [u8],
     pub index: &'b Index,
-    pub lengths: [u8; 256],
-    pub ghost gathered: { Lengths book.now index.now lengths },
+    lengths: [u8; 256],
+    ghost gathered: { Lengths book.now index.now lengths },
 }
 
 impl<'b> Rules<'b> {

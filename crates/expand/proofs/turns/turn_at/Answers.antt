@@ -23,11 +23,11 @@ returns-then-not-is_of c =
 
 pub returns-then-counts-below : goal.returns-then-counts-below
 returns-then-counts-below c =
-    record { turns = λ lefts. turn_no_stack (spelled_top _ _ c.if-height-eq0.false c.symbol_of-symbol.ensures) c.in-Nonterminal.is c.ahead_of-ahead.ensures c.in-Some.is (is_of_fits _ _ _ _ c.is_of.result lefts c.is_of.ensures ∙ c.if-not-is_of.false) (omega (arith, replaced_length (c.length.ensures) c.args.stack.now (c.args.height - 1))) }
+    record { turns = λ lefts. turn_no_stack (spelled_top _ _ c.if-height-eq0.false c.symbol_of-symbol.ensures) c.in-Nonterminal.is c.ahead_of-ahead.ensures c.in-Some.is (is_of_fits _ _ _ _ c.is_of.result lefts c.is_of.ensures ∙ c.if-not-is_of.false) (omega (arith, replaced_length c.length.ensures c.args.stack.now (c.args.height - 1))) }
 
 pub returns-else-counts-below : goal.returns-else-counts-below
 returns-else-counts-below c =
-    record { turns = λ lefts. turn_apply (spelled_top _ _ c.if-height-eq0.false c.symbol_of-symbol.ensures) c.in-Nonterminal.is c.ahead_of-ahead.ensures c.in-Some.is (is_of_fits _ _ _ _ c.is_of.result lefts c.is_of.ensures ∙ c.if-not-is_of.false) (omega (arith, replaced_length (c.length.ensures) c.args.stack.now (c.args.height - 1))) }
+    record { turns = λ lefts. turn_apply (spelled_top _ _ c.if-height-eq0.false c.symbol_of-symbol.ensures) c.in-Nonterminal.is c.ahead_of-ahead.ensures c.in-Some.is (is_of_fits _ _ _ _ c.is_of.result lefts c.is_of.ensures ∙ c.if-not-is_of.false) (omega (arith, replaced_length c.length.ensures c.args.stack.now (c.args.height - 1))) }
 
 pub returns-in-None : goal.returns-in-None
 returns-in-None c =
