@@ -12,7 +12,7 @@ use Rattle.grammar.specs.declared.Symbol.TheVariants.{Token, Nonterminal}
 use Rattle.answers.specs.Buffers.{over, counted}
 use Rattle.reader.specs.Fields.{form_in}
 use Rattle.reader.specs.Book.{byte_of}
-use Rattle.book.specs.Columns.{grammar_in, outlined, Lefts, Lengths}
+use Rattle.book.specs.Columns.{grammar_in, outlined, Lefts}
 use Rattle.book.specs.declared.Index.{Index}
 use Rattle.machine.specs.Expansion.{opened, expansion, Course, Expansion, ended, wrote, applied, expand_from}
 use Rattle.machine.specs.declared.Obstacle.{Obstacle}
@@ -21,7 +21,7 @@ use Rattle.machine.specs.Room.{right_of, is_of}
 use Rattle.machine.proofs.Promise.{finished_is, left_over_is, too_short_is, misfit_is, no_stack_is, apply_is, no_output_is, write_is}
 use Rattle.stack.specs.Sides.{RightSide}
 use Rattle.stack.specs.Stack.{Spelled, stack_bytes, spelled_by, stacked, replacing}
-use Rattle.stack.proofs.Promise.{right_side, replacing_fits, over_more, symbols_spelled, every_append, every_rest, length_symbols, spelled_stacked, stacked_pop, stacked_replace, length_stacked, stacked_open, nonterminal_spelled, length_over}
+use Rattle.stack.proofs.Promise.{replacing_fits, over_more, symbols_spelled, every_append, every_rest, length_symbols, spelled_stacked, stacked_pop, stacked_replace, length_stacked, stacked_open, nonterminal_spelled, length_over}
 use Rattle.expand.specs.Turns.{Turns, TurnAt, unfolded, Unfolds}
 use Rattle.expand.specs.declared.Turn.TheVariants.{Write, Apply, Close}
 use Rattle.expand.specs.declared.Turn.{Turn}
@@ -33,7 +33,7 @@ drop_next [] used {p} {qs} e = let none : ◌≡◌ {A = List ℕ} [] (p ∷ qs)
 drop_next (x ∷ list) zero e = ((cc), omega arith)
 drop_next (x ∷ list) (suc used) e = let (rest, inside) = drop_next list used e in let one : suc used + 1 ≡ suc (used + 1) = omega arith in (rw one rest, omega arith)
 
-module _ (book : List ℕ) (index : Index) (lefts lengths list stack₀ output₀ : List ℕ) (cells : ℕ) where
+module _ (book : List ℕ) (index : Index) (lefts list stack₀ output₀ : List ℕ) (cells : ℕ) where
   abbrev fits : ℕ → ℕ → Bool
   fits = is_of (grammar_in book index)
 
@@ -46,10 +46,9 @@ module _ (book : List ℕ) (index : Index) (lefts lengths list stack₀ output�
   abbrev whole : Expansion
   whole = expansion (grammar_in book index) (counted stack₀) (counted output₀) list
 
-  -- what stays: the columns are the book's, and so many cells of the output count
+  -- what stays: the column of left sides is the book's, and so many cells of the output count
   pub record Given : Type 0 where
     pub lefts_are : Lefts book index lefts
-    pub lengths_are : Lengths book index lengths
     pub cells_are : cells ≡ counted output₀
 
   pub record Unrolled (stack output : List ℕ) (height used written deepest : ℕ) : Type 0 where
@@ -103,13 +102,12 @@ module _ (book : List ℕ) (index : Index) (lefts lengths list stack₀ output�
     unrolled_spells : spelled_by stack height ≡ u.form
     unrolled_spells = rw (u.height_is, u.stack_cells) (spelled_stacked u.spelled u.progress.height stack₀)
 
-    module _ {m : Turn} (turn : TurnAt lefts lengths index list used stack height written cells m) where
+    module _ {m : Turn} (turn : TurnAt book index lefts list used stack height written cells m) where
       -- the turn is chosen by what the buffers hold and the room as it was lent
       by_form : {n : Turn} → m ≡ n → Turns fits right (counted stack₀) (counted output₀) (drop used list) u.form (length u.progress.written) n
       by_form same =
-          let k = turn.turns book u.given.lefts_are u.given.lengths_are in
           subst₃ (λ (α : Form) (w : ℕ) (n : Turn). Turns fits right (counted stack₀) (counted output₀) (drop used list) α w n) unrolled_spells u.written_is same
-          (subst₂ (λ (room cells : ℕ). Turns fits right room cells (drop used list) (spelled_by stack height) written m) (ap (λ (n : ℕ). min n 65535) unrolled_stack) u.given.cells_are k)
+          (subst₂ (λ (room cells : ℕ). Turns fits right room cells (drop used list) (spelled_by stack height) written m) (ap (λ (n : ℕ). min n 65535) unrolled_stack) u.given.cells_are (turn.turns u.given.lefts_are))
 
       pub record WriteFits : Type 0 where
         pub some_symbol : 1 ≤ height
@@ -152,43 +150,39 @@ module _ (book : List ℕ) (index : Index) (lefts lengths list stack₀ output�
         pub list_left : used < length list
         pub stack_left : height - 1 + count ≤ counted stack₀
 
-      pub apply_fits : {p count : ℕ} → m ≡ Apply p → count ≡ get_or lengths p 0 → ApplyFits count
-      apply_fits {p = p} {count = count} same e = go (by_form same)
+      pub apply_fits : {p count : ℕ} → m ≡ Apply p → RightSide book index p count → ApplyFits count
+      apply_fits {p = p} {count = count} same side = go (by_form same)
         where
-          side : RightSide book index p count
-          side = right_side book index p u.given.lengths_are e
-
           go : Turns fits right (counted stack₀) (counted output₀) (drop used list) u.form (length u.progress.written) (Apply p) → ApplyFits count
           go (Turns.applies {β = β} e f g h) =
               let many : length (right p) ≡ count = ap length side.symbols ∙ length_symbols book (get_or index.places p 0 + 4) count in
               record { some_symbol = omega (arith, u.height_is, ap length e); list_left = (drop_next list used f).1; stack_left = omega (arith, u.height_is, ap length e, length-append (right p) β) }
 
-      pub unrolled_apply : {p count place deeper : ℕ} {after : List ℕ}
+      pub unrolled_apply : {p count deeper : ℕ} {after : List ℕ}
           → m ≡ Apply p
-          → count ≡ get_or lengths p 0
-          → place ≡ get_or index.places p 0
-          → after ≡ replacing (stack_bytes (form_in book (place + 4) count)) (height - 1) stack
+          → RightSide book index p count
+          → after ≡ replacing (stack_bytes (right p)) (height - 1) stack
           → deeper ≡ max deepest (height - 1 + count)
           → Unrolled after output (height - 1 + count) (used + 1) written deeper
       unfolding applied
-      unrolled_apply {p = p} {count = count} {place = place} {deeper = deeper} {after = after} same counts at replaced greatest = go (by_form same)
+      unrolled_apply {p = p} {count = count} {deeper = deeper} {after = after} same side replaced greatest = go (by_form same)
         where
-          side : RightSide book index p count
-          side = right_side book index p u.given.lengths_are counts
+          from : ℕ
+          from = get_or index.places p 0 + 4
 
           room : ApplyFits count
-          room = apply_fits same counts
+          room = apply_fits same side
 
-          cells_are : after ≡ sets (set stack (height - 1) 0) (height - 1) (stack_bytes (form_in book (place + 4) count))
+          cells_are : after ≡ sets (set stack (height - 1) 0) (height - 1) (stack_bytes (form_in book from count))
           cells_are =
-              replaced
-              ∙ replacing_fits book (place + 4) count (height - 1) stack (omega (arith, room.some_symbol, unrolled_height, unrolled_stack)) (omega (arith, room.stack_left, unrolled_stack))
+              (rw side.symbols at replaced)
+              ∙ replacing_fits book from count (height - 1) stack (omega (arith, room.some_symbol, unrolled_height, unrolled_stack)) (omega (arith, room.stack_left, unrolled_stack))
 
           go : Turns fits right (counted stack₀) (counted output₀) (drop used list) u.form (length u.progress.written) (Apply p) → Unrolled after output (height - 1 + count) (used + 1) written deeper
           go (Turns.applies {A = A} {β = β} {qs = qs} e f g h) =
               let n : height ≡ suc (length β) = u.height_is ∙ ap length e in
               let below : height - 1 ≡ length β = omega arith in
-              let many : length (right p) ≡ count = ap length side.symbols ∙ length_symbols book (get_or index.places p 0 + 4) count in
+              let many : length (right p) ≡ count = ap length side.symbols ∙ length_symbols book from count in
               let long = length-append (right p) β in
               let (rest, inside) = drop_next list used f in
               record {
@@ -204,8 +198,8 @@ module _ (book : List ℕ) (index : Index) (lefts lengths list stack₀ output�
                 highest = omega arith;
                 stack_room = omega (arith, u.stack_room);
                 output_room = u.output_room;
-                spelled = every_append (subst (λ (γ : Form). Every Spelled γ) (sym side.symbols) (symbols_spelled book (get_or index.places p 0 + 4) count)) (every_rest (subst (λ (γ : Form). Every Spelled γ) e u.spelled));
-                stack_cells = cells_are ∙ rw (at, below, u.stack_cells, e, ← side.symbols) (stacked_replace (Nonterminal A) (right p) β u.progress.height stack₀ (omega (arith, u.highest, u.height_is)) (omega arith));
+                spelled = every_append (subst (λ (γ : Form). Every Spelled γ) (sym side.symbols) (symbols_spelled book from count)) (every_rest (subst (λ (γ : Form). Every Spelled γ) e u.spelled));
+                stack_cells = cells_are ∙ rw (below, u.stack_cells, e, ← side.symbols) (stacked_replace (Nonterminal A) (right p) β u.progress.height stack₀ (omega (arith, u.highest, u.height_is)) (omega arith));
                 output_cells = u.output_cells;
               }
 

@@ -6,7 +6,7 @@ use Rattle.grammar.specs.declared.Symbol.TheVariants.{Token, Nonterminal}
 use Rattle.answers.specs.declared.Answer.{Answer}
 use Rattle.answers.specs.Buffers.{over, counted, cleared}
 use Rattle.book.specs.declared.Index.{Index}
-use Rattle.book.specs.Columns.{grammar_in, Lefts, Lengths}
+use Rattle.book.specs.Columns.{grammar_in, Lefts}
 use Rattle.machine.specs.Room.{is_of, right_of}
 use Rattle.machine.specs.Expansion.{expansion, Expansion}
 use Rattle.machine.specs.declared.Obstacle.{Obstacle}
@@ -50,12 +50,10 @@ module _ (fits : ℕ → ℕ → Bool) (right : ℕ → Form) (cells output : �
     writes : {t : ℕ} {β : Form} → α ≡ Token t ∷ β → written < output → Turns ps α written (Write t)
 
 -- what is done next with the first cells of the stack in use, so many productions of the list used, and so many tokens
--- written of the output's cells; by the columns of any book
-pub record TurnAt (lefts lengths : List ℕ) (index : Index) (list : List ℕ) (used : ℕ) (stack : List ℕ)
+-- written of the output's cells; where the column of left sides is the book's
+pub record TurnAt (book : List ℕ) (index : Index) (lefts list : List ℕ) (used : ℕ) (stack : List ℕ)
     (height written cells : ℕ) (r : Turn) : Type 0 where
-  pub turns : (book : List ℕ)
-      → Lefts book index lefts
-      → Lengths book index lengths
+  pub turns : Lefts book index lefts
       → Turns
       (is_of (grammar_in book index))
       (right_of (grammar_in book index))

@@ -3,21 +3,21 @@
 
 ghost use Rattle.std.specs.Prelude.{◌≡◌, ◌+◌, ◌^◌, ◌≤◌, ◌<◌, length};
 ghost use Rattle.answers.specs.Answers.{at_depth};
-ghost use Rattle.book.specs.Columns.{grammar_in, Lefts, Lengths};
+ghost use Rattle.book.specs.Columns.{grammar_in, Lefts};
 ghost use Rattle.expand.specs.Expanding.{closing, ExpandOutcome};
 ghost use Rattle.expand.specs.Turns.{Unfolds, ExpandedOn};
 
 use crate::turns::turn_at;
-use answers::buffers::cell_or;
 use answers::limits::LONGEST_LIST;
 use answers::refusals::{Lent, Refusal};
 use answers::{Answer, at_depth, done, refusal, stop};
 use book::Index;
-use book::columns::{gather_lefts, gather_lengths};
+use book::columns::gather_lefts;
 use book::judging::judge;
 use machine::Obstacle;
 use sets::none;
-use stack::{clear, counts, put_start, replace};
+use stack::rules::Rules;
+use stack::{clear, counts, put_start};
 
 mod turns;
 
@@ -41,19 +41,15 @@ pub(crate) struct Unfolding {
 
 // From the start symbol on, tokens on top are written and the list's productions used.
 fn unfold_all(
-    book: &[u8],
-    index: &Index,
+    rules: &Rules,
     lefts: &[u8],
-    lengths: &[u8],
     list: &[u8],
     stack: &mut [u8],
     output: &mut [u8],
 ) -> Unfolding
-    requires { (1 ≤ length stack.old)
-        × Lefts book.now index.now lefts.now
-        × Lengths book.now index.now lengths.now }
+    requires { (1 ≤ length stack.old) × Lefts rules.now.book.now rules.now.index.now lefts.now }
     ensures { Unfolds
-        (grammar_in book.now index.now)
+        (grammar_in rules.now.book.now rules.now.index.now)
         list.now
         stack.old
         output.old
@@ -61,16 +57,14 @@ fn unfold_all(
         stack.new
         output.new }
 {
-    put_start(stack, index.outline.start);
+    put_start(stack, rules.index.outline.start);
     let cells = counts(output.len());
     let mut height: usize = 1;
     let mut used: usize = 0;
     let mut written: usize = 0;
     let mut deepest: usize = 1;
     loop {
-        let turn = turn_at(
-            lefts, lengths, index, list, used, stack, height, written, cells,
-        );
+        let turn = turn_at(rules, lefts, list, used, stack, height, written, cells);
         match turn {
             Turn::Write(t) => {
                 height -= 1;
@@ -79,10 +73,9 @@ fn unfold_all(
                 written += 1;
             }
             Turn::Apply(p) => {
-                let count = cell_or(lengths, p as usize, 0);
+                let count = rules.length(p);
                 let below = height - 1;
-                let at = cell_or(&index.places, p as usize, 0);
-                replace(book, at, count, stack, below);
+                rules.apply(p, stack, below);
                 height = below + count as usize;
                 deepest = deepest.max(height);
                 used += 1;
@@ -139,8 +132,8 @@ fn expand_on(book: &[u8], index: &Index, list: &[u8], stack: &mut [u8], output: 
         output.new }
 {
     let lefts = gather_lefts(book, index);
-    let lengths = gather_lengths(book, index);
-    let u = unfold_all(book, index, &lefts, &lengths, list, stack, output);
+    let rules = Rules::new(book, index);
+    let u = unfold_all(&rules, &lefts, list, stack, output);
     clear(stack);
     answer_to(u)
 }

@@ -3,12 +3,11 @@ ghost use Rattle.std.specs.Prelude.{◌≡◌, ◌≤◌, length};
 ghost use Rattle.expand.specs.Turns.{emptied, TurnAt};
 
 use crate::Turn;
-use answers::buffers::cell_or;
-use book::Index;
 use book::columns::is_of;
 use grammar::Symbol;
 use machine::Obstacle;
 use reader::fields::symbol_of;
+use stack::rules::Rules;
 use stack::{ahead_of, counts};
 
 // How an expansion ends where the stack is empty.
@@ -24,9 +23,8 @@ fn at_bottom(ahead: Option<u8>) -> Result<(), Obstacle>
 // What is done next with the first `height` cells of the stack in use, `used` productions of the list and `written` of
 // the output's `cells`.
 pub(crate) fn turn_at(
+    rules: &Rules,
     lefts: &[u8],
-    lengths: &[u8],
-    index: &Index,
     list: &[u8],
     used: usize,
     stack: &[u8],
@@ -36,9 +34,9 @@ pub(crate) fn turn_at(
 ) -> Turn
     requires { height ≤ length stack.now }
     ensures { TurnAt
+        rules.now.book.now
+        rules.now.index.now
         lefts.now
-        lengths.now
-        index.now
         list.now
         used
         stack.now
@@ -64,11 +62,9 @@ pub(crate) fn turn_at(
             let ahead = ahead_of(list, used);
             match ahead {
                 Some(p) => {
-                    if !is_of(lefts, index.outline, n, p) {
+                    if !is_of(lefts, rules.index.outline, n, p) {
                         Turn::Close(Err(Obstacle::Unfit))
-                    } else if counts(stack.len())
-                        < below + cell_or(lengths, p as usize, 0) as usize
-                    {
+                    } else if counts(stack.len()) < below + rules.length(p) as usize {
                         Turn::Close(Err(Obstacle::FullStack))
                     } else {
                         Turn::Apply(p)

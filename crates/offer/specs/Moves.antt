@@ -7,7 +7,7 @@ use Rattle.grammar.specs.Grammar.{Form, Grammar, Column, token, endmark}
 use Rattle.grammar.specs.declared.Symbol.TheVariants.{Token, Nonterminal}
 use Rattle.grammar.specs.declared.Symbol.{Symbol}
 use Rattle.answers.specs.Buffers.{counted}
-use Rattle.book.specs.Columns.{grammar_in, Outlines, Lengths}
+use Rattle.book.specs.Columns.{grammar_in, Outlines}
 use Rattle.book.specs.declared.Index.{Index}
 use Rattle.book.specs.declared.columns.Outline.{Outline}
 use Rattle.table.specs.Table.{held, cell_of}
@@ -69,18 +69,16 @@ pub record CellFacing (o : Outline) (table : List ℕ) (A : ℕ) (ahead : Option
 pub record Decision (step : Step) (table : List ℕ) (o : Outline) (r : Result Move Reason) : Type 0 where
   pub faces : (g : Grammar) → Outlines o g → Faces (cell_of g table) (column_in step.ahead) step.symbol r
 
--- and what is done with the first cells of the stack in use, and so many of the list's cells; by the lengths of any
--- book that has the index
-pub record Choice (lengths : List ℕ) (index : Index) (table : List ℕ) (ahead : Option ℕ) (stack : List ℕ)
-    (height cells listed : ℕ) (r : Result Move Reason) : Type 0 where
-  pub chosen : (book : List ℕ)
-      → Lengths book index lengths
-      → Chosen
-      (right_of (grammar_in book index))
-      (cell_of (grammar_in book index) table)
-      (counted stack)
-      cells
-      (column_in ahead)
-      (spelled_by stack height)
-      listed
-      r
+-- and what is done with the first cells of the stack in use, and so many of the list's cells
+abbrev pub Choice : (book : List ℕ) → Index → (table : List ℕ) → Option ℕ → (stack : List ℕ) → (height cells listed : ℕ)
+    → Result Move Reason
+    → Type 0
+Choice book index table ahead stack height cells listed =
+    Chosen
+    (right_of (grammar_in book index))
+    (cell_of (grammar_in book index) table)
+    (counted stack)
+    cells
+    (column_in ahead)
+    (spelled_by stack height)
+    listed

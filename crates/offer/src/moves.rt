@@ -5,13 +5,12 @@ ghost use Rattle.stack.specs.Ahead.{column_in};
 ghost use Rattle.offer.specs.Moves.{Bottom, CellFacing, Decision, Choice};
 
 use crate::{Move, Step};
-use answers::buffers::cell_or;
-use book::Index;
 use book::columns::Outline;
 use grammar::Symbol;
 use machine::Reason;
 use reader::fields::symbol_of;
 use stack::counts;
+use stack::rules::Rules;
 use table::VACANT;
 use table::fitting::cell_at;
 
@@ -79,8 +78,7 @@ fn at_bottom(ahead: Option<u8>) -> Result<Move, Reason>
 
 // What is done next with the first `height` cells of the stack in use and `listed` of the list's `cells`.
 pub(crate) fn choose(
-    lengths: &[u8],
-    index: &Index,
+    rules: &Rules,
     table: &[u8],
     ahead: Option<u8>,
     stack: &[u8],
@@ -90,8 +88,8 @@ pub(crate) fn choose(
 ) -> Result<Move, Reason>
     requires { height ≤ length stack.now }
     ensures { Choice
-        lengths.now
-        index.now
+        rules.now.book.now
+        rules.now.index.now
         table.now
         ahead
         stack.now
@@ -105,14 +103,14 @@ pub(crate) fn choose(
     }
     let below = height - 1;
     let symbol = symbol_of(stack[below]);
-    let choice = decide(Step { symbol, ahead }, table, index.outline)?;
+    let choice = decide(Step { symbol, ahead }, table, rules.index.outline)?;
     let Move::Use(p) = choice else {
         return Ok(choice);
     };
     if cells <= listed {
         return Err(Reason::FullList);
     }
-    if counts(stack.len()) < below + cell_or(lengths, p as usize, 0) as usize {
+    if counts(stack.len()) < below + rules.length(p) as usize {
         return Err(Reason::FullStack);
     }
     Ok(choice)

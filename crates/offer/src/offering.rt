@@ -1,17 +1,16 @@
 // One column offered to a run in progress.
 ghost use Rattle.std.specs.Prelude.{◌≡◌, ◌-◌, ◌^◌, ◌≤◌, ◌<◌, length, set};
-ghost use Rattle.book.specs.Columns.{grammar_in, Lengths};
+ghost use Rattle.book.specs.Columns.{grammar_in};
 ghost use Rattle.offer.specs.Offering.{matched_at, ColumnAhead, Ready, OfferedAt};
 ghost use Rattle.offer.specs.Resuming.{clamped, OfferedOn, OfferOutcome};
 
 use crate::moves::choose;
 use crate::{Halt, Move, Progress};
 use answers::Answer;
-use answers::buffers::cell_or;
 use answers::limits::MOST_CELLS;
 use book::Index;
-use book::columns::gather_lengths;
-use stack::{counts, replace};
+use stack::counts;
+use stack::rules::Rules;
 
 // The token on top is matched and popped.
 fn pop(stack: &mut [u8], at: Progress) -> Progress
@@ -29,19 +28,17 @@ fn pop(stack: &mut [u8], at: Progress) -> Progress
 
 // One column is offered: productions are used until it is taken or the run stops.
 pub(crate) fn offer_at(
-    book: &[u8],
-    index: &Index,
-    lengths: &[u8],
+    rules: &Rules,
     table: &[u8],
     ahead: Option<u8>,
     stack: &mut [u8],
     list: &mut [u8],
     at: Progress,
 ) -> Result<Progress, Halt>
-    requires { Ready at stack.old list.old × Lengths book.now index.now lengths.now }
+    requires { Ready at stack.old list.old }
     ensures { OfferedAt
-        book.now
-        index.now
+        rules.now.book.now
+        rules.now.index.now
         table.now
         ahead
         at
@@ -62,19 +59,18 @@ pub(crate) fn offer_at(
             matched: at.matched,
             deepest,
         };
-        let choice = choose(lengths, index, table, ahead, stack, height, cells, listed);
+        let choice = choose(rules, table, ahead, stack, height, cells, listed);
         let next = match choice {
             Ok(next) => next,
             Err(reason) => return Err(Halt::Stopped(reason, here)),
         };
         match next {
             Move::Use(p) => {
-                let count = cell_or(lengths, p as usize, 0);
+                let count = rules.length(p);
                 let below = height - 1;
                 list[listed] = p;
                 listed += 1;
-                let at = cell_or(&index.places, p as usize, 0);
-                replace(book, at, count, stack, below);
+                rules.apply(p, stack, below);
                 height = below + count as usize;
                 deepest = deepest.max(height);
             }
@@ -125,10 +121,10 @@ fn offer_on(
         stack.new
         list.new }
 {
-    let lengths = gather_lengths(book, index);
+    let rules = Rules::new(book, index);
     let ahead = column_ahead(column, index.outline.tokens);
     let from = clamp(at, stack.len(), list.len());
-    offer_at(book, index, &lengths, table, ahead, stack, list, from)
+    offer_at(&rules, table, ahead, stack, list, from)
 }
 
 // One column offered to a run in progress, whatever the reading and the counts; every column from T on is the end

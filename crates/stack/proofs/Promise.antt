@@ -6,7 +6,7 @@ pub use Rattle.stack.proofs.Stacked.{stacked_pop, stacked_replace, stacked_open,
 pub use Rattle.stack.proofs.Stacked.{length_stacked, spelled_stacked}
 pub use Rattle.stack.proofs.Replacing.{replacing_fits}
 pub use Rattle.stack.proofs.Next.{next_first, end_none}
-pub use Rattle.stack.proofs.Sides.{right_side, spelled_none, spelled_top, replaced_length}
+pub use Rattle.stack.proofs.Sides.{spelled_none, spelled_top, replaced_length}
 pub use Rattle.stack.proofs.Calls.{Call, refused, barred, ended, Apart, call_unique}
 pub use Rattle.stack.proofs.Unique.{ahead_unique, counts_unique}
 pub use Rattle.stack.proofs.Unique.{put_start_unique, replace_unique, clear_unique}

@@ -14,6 +14,8 @@ ghost use Rattle.stack.specs.Stack.{stack_bytes, replacing};
 use answers::limits::MOST_CELLS;
 use reader::fields::symbol_byte;
 
+pub mod rules;
+
 // What comes after the first i bytes.
 pub fn ahead_of(bytes: &[u8], i: usize) -> Option<u8>
     ensures { result ≡ ahead_in (drop i bytes.now) }

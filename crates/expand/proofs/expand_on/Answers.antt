@@ -5,7 +5,8 @@ use Rattle.expand.proofs.ExpandAnswers.{unfolds_countable, unfolds_answered}
 use Rattle.expand.proofs.expand_on.Goals as goal
 
 pub unfold_all-u-requires : goal.unfold_all-u-requires
-unfold_all-u-requires c = (search rules, c.gather_lefts-lefts.ensures, c.gather_lengths-lengths.ensures)
+unfold_all-u-requires c =
+    (search rules, rw (c.new-rules.ensures.book, c.new-rules.ensures.index) c.gather_lefts-lefts.ensures)
 
 pub answer_to-requires : goal.answer_to-requires
 answer_to-requires c =
@@ -13,4 +14,4 @@ answer_to-requires c =
 
 pub returns : goal.returns
 returns c =
-    unfolds_answered c.unfold_all-u.ensures c.answer_to.ensures c.clear.ensures
+    unfolds_answered (rw (c.new-rules.ensures.book, c.new-rules.ensures.index) at c.unfold_all-u.ensures) c.answer_to.ensures c.clear.ensures

@@ -7,7 +7,7 @@ use Rattle.expand.proofs.unfold_all.Given as goal
 
 abbrev pub invariant-loop-t : goal.invariant-loop-t
 invariant-loop-t l =
-    Unrolled l.book l.index l.lefts l.lengths l.list l.initial.stack l.initial.output l.cells l.stack l.output l.height l.used l.written l.deepest
+    Unrolled l.rules.book.now l.rules.index.now l.lefts l.list l.initial.stack l.initial.output l.cells l.stack l.output l.height l.used l.written l.deepest
 
 abbrev pub decreases-loop-t : goal.decreases-loop-t
 decreases-loop-t l =

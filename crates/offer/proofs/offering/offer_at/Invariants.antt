@@ -6,7 +6,7 @@ use Rattle.offer.proofs.offering.offer_at.Given as goal
 
 abbrev pub invariant-loop-next : goal.invariant-loop-next
 invariant-loop-next l =
-    Turning l.book l.index l.lengths l.table l.ahead l.at l.initial.stack l.initial.list l.cells l.stack l.list l.height l.listed l.deepest
+    Turning l.rules.book.now l.rules.index.now l.table l.ahead l.at l.initial.stack l.initial.list l.cells l.stack l.list l.height l.listed l.deepest
 
 abbrev pub decreases-loop-next : goal.decreases-loop-next
 decreases-loop-next l =

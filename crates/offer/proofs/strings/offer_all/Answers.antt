@@ -5,7 +5,7 @@ use Rattle.offer.proofs.Steps.{front_token, front_end, running_start, running_st
 use Rattle.offer.proofs.strings.offer_all.Goals as goal
 
 pub loop-token-init : goal.loop-token-init
-loop-token-init c = (running_start _ _ _ _ _ _ c.args.stack.now c.requires.0 c.put_start.ensures, refl)
+loop-token-init c = (running_start _ _ _ _ _ _ c.args.stack.now c.requires c.put_start.ensures, refl)
 
 pub returns-in_err-at : goal.returns-in_err-at
 returns-in_err-at c =

@@ -5,4 +5,4 @@ use Rattle.offer.proofs.strings.offer_all.Given as goal
 
 abbrev pub invariant-loop-token : goal.invariant-loop-token
 invariant-loop-token l =
-    Running l.book l.index l.table l.tokens l.initial.stack l.initial.list l.at l.stack l.list × (l.at.matched ≡ l.token-index)
+    Running l.rules.book.now l.rules.index.now l.table l.tokens l.initial.stack l.initial.list l.at l.stack l.list × (l.at.matched ≡ l.token-index)

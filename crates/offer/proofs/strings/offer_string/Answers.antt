@@ -8,7 +8,8 @@ pub returns-then-stack-eq0 : goal.returns-then-stack-eq0
 returns-then-stack-eq0 c = no_stack c.if-stack-eq0.true
 
 pub offer_all-reply-requires : goal.offer_all-reply-requires
-offer_all-reply-requires c = (omega (arith, c.if-stack-eq0.false), c.gather_lengths-lengths.ensures)
+offer_all-reply-requires c = omega (arith, c.if-stack-eq0.false)
 
 pub returns : goal.returns
-returns c = stepped_cleared (omega (arith, c.if-stack-eq0.false)) c.offer_all-reply.ensures c.clear.ensures
+returns c =
+    stepped_cleared (omega (arith, c.if-stack-eq0.false)) (rw (c.new-rules.ensures.book, c.new-rules.ensures.index) at c.offer_all-reply.ensures) c.clear.ensures
