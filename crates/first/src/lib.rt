@@ -16,14 +16,20 @@ pub mod families;
 mod first;
 pub mod forms;
 
-// FIRST of each nonterminal, in a family that is cleared first; with a refusal it stays so.
+// FIRST of each nonterminal, in a family that is cleared first; with a refusal it stays so. Here and below the index is
+// borrowed where it is found, and not moved by `?`, which keeps the stack low.
 pub fn find_first(book: &[u8], first: &mut [u64; 64]) -> Result<Index, Answer>
     ensures { FirstWorkedOut book.now result first.new }
 {
     *first = [0u64; 64];
-    let index = judge(book)?;
-    firsts(book, &index, first);
-    Ok(index)
+    let judged = judge(book);
+    match &judged {
+        Ok(index) => {
+            firsts(book, index, first);
+            judged
+        }
+        Err(_) => judged,
+    }
 }
 
 // FIRST of a symbol string, and how many of its leading symbols can vanish.
@@ -31,7 +37,11 @@ pub fn first_of(book: &[u8], symbols: &[u8]) -> Result<Trail, Answer>
     ensures { FirstOutcome book.now symbols.now result }
 {
     let mut begins = [0u64; 64];
-    let index = find_first(book, &mut begins)?;
-    spelled(symbols, index.outline.tokens, index.outline.nonterminals)?;
-    Ok(trail_of(symbols, &begins, single(EMPTY_STRING)))
+    match &find_first(book, &mut begins) {
+        Ok(index) => {
+            spelled(symbols, index.outline.tokens, index.outline.nonterminals)?;
+            Ok(trail_of(symbols, &begins, single(EMPTY_STRING)))
+        }
+        Err(refused) => Err(*refused),
+    }
 }

@@ -11,8 +11,8 @@ ghost use Rattle.follow.specs.Walks.{SetsFound};
 use crate::ahead::{fill_ahead, lookahead_at};
 use crate::checks::{numbered, sets_room};
 use crate::follow::follows;
-use answers::{Answer, told};
 use answers::buffers::write_front;
+use answers::{Answer, told};
 use book::Index;
 use first::find_first;
 use first::forms::Trail;
@@ -22,14 +22,20 @@ pub mod checks;
 mod follow;
 mod tails;
 
-// FIRST and FOLLOW of each nonterminal; with a refusal neither family has a member.
+// FIRST and FOLLOW of each nonterminal; with a refusal neither family has a member. Here and below the index is borrowed
+// where it is found, and not moved by `?`, which keeps the stack low.
 fn find_sets(book: &[u8], first: &mut [u64; 64], follow: &mut [u64; 64]) -> Result<Index, Answer>
     requires { follow.old ≡ replicate most_nonterminals 0 }
     ensures { SetsFound book.now result first.new follow.new }
 {
-    let index = find_first(book, first)?;
-    follows(book, &index, first, follow);
-    Ok(index)
+    let found = find_first(book, first);
+    match &found {
+        Ok(index) => {
+            follows(book, index, first, follow);
+            found
+        }
+        Err(_) => found,
+    }
 }
 
 // The sets of a book with room for them, or the refusal.
@@ -39,12 +45,16 @@ fn write_sets(book: &[u8], first: &mut [u64], follow: &mut [u64]) -> Result<(), 
 {
     let mut begins = [0u64; 64];
     let mut ends = [0u64; 64];
-    let index = find_sets(book, &mut begins, &mut ends)?;
-    let n = index.outline.nonterminals as usize;
-    sets_room(first.len(), follow.len(), n)?;
-    write_front(&begins[..n], first);
-    write_front(&ends[..n], follow);
-    Ok(())
+    match &find_sets(book, &mut begins, &mut ends) {
+        Ok(index) => {
+            let n = index.outline.nonterminals as usize;
+            sets_room(first.len(), follow.len(), n)?;
+            write_front(&begins[..n], first);
+            write_front(&ends[..n], follow);
+            Ok(())
+        }
+        Err(refused) => Err(*refused),
+    }
 }
 
 // FIRST and FOLLOW of each nonterminal into the lent buffers; how many symbols can vanish is worked out on the way and
@@ -69,9 +79,14 @@ pub fn work_out(
 {
     *follow = [0u64; 64];
     *ahead = [0u64; 128];
-    let index = find_sets(book, first, follow)?;
-    fill_ahead(book, &index, first, follow, ahead);
-    Ok(index)
+    let found = find_sets(book, first, follow);
+    match &found {
+        Ok(index) => {
+            fill_ahead(book, index, first, follow, ahead);
+            found
+        }
+        Err(_) => found,
+    }
 }
 
 // The lookahead of a production, and how many leading symbols of its right side can vanish: all of them exactly where
@@ -81,8 +96,12 @@ pub fn lookahead(book: &[u8], production: u64) -> Result<Trail, Answer>
 {
     let mut begins = [0u64; 64];
     let mut ends = [0u64; 64];
-    let index = find_sets(book, &mut begins, &mut ends)?;
-    numbered(production, index.outline.productions)?;
-    let place = index.places[production as usize];
-    Ok(lookahead_at(book, place, &begins, &ends))
+    match &find_sets(book, &mut begins, &mut ends) {
+        Ok(index) => {
+            numbered(production, index.outline.productions)?;
+            let place = index.places[production as usize];
+            Ok(lookahead_at(book, place, &begins, &ends))
+        }
+        Err(refused) => Err(*refused),
+    }
 }

@@ -1,5 +1,4 @@
 -- FIRST is worked out with the judgement; FOLLOW only of a book that is not refused.
-use Rattle.std.proofs.lemmas.Result.{err_from_is_err_and}
 use Rattle.first.proofs.Promise.{given_count}
 use Rattle.follow.proofs.Walking.{given_walkable}
 use Rattle.follow.proofs.Served.{found_sets}
@@ -7,13 +6,13 @@ use Rattle.follow.proofs.find_sets.Goals as goal
 
 pub follows-requires : goal.follows-requires
 follows-requires c =
-    let given = c.in_ok-index.ensures.given in
-    (given_walkable given, given_count given, c.requires)
+    let found = rw c.in-Ok.is at c.find_first-found.ensures in
+    (given_walkable found.given, given_count found.given, c.requires)
 
-pub returns-in_err-index : goal.returns-in_err-index
-returns-in_err-index c =
-    let p = err_from_is_err_and c.from_residual.result c.from_residual.ensures.1 in
-    rw (p.1, p.2) (c.in_err-index.ensures.0, c.in_err-index.ensures.1, c.requires)
+pub returns-in-Ok : goal.returns-in-Ok
+returns-in-Ok c = rw c.in-Ok.is (found_sets (rw c.in-Ok.is at c.find_first-found.ensures) c.follows.ensures)
 
-pub returns : goal.returns
-returns c = found_sets c.in_ok-index.ensures c.follows.ensures
+pub returns-in-Err : goal.returns-in-Err
+returns-in-Err c =
+    let refused = rw c.in-Err.is at c.find_first-found.ensures in
+    rw c.in-Err.is (refused.0, refused.1, c.requires)

@@ -7,27 +7,38 @@ use Rattle.follow.specs.Calls.{refused}
 use Rattle.follow.proofs.Served.{lookahead_refused, lookahead_served}
 use Rattle.follow.proofs.lookahead.Goals as goal
 
-pub returns-in_err-index : goal.returns-in_err-index
-returns-in_err-index c =
-    let p = err_from_is_err_and c.from_residual.result c.from_residual.ensures.1 in
-    rw (p.1, p.2) (refused c.in_err-index.ensures.0)
+pub returns-in-Err : goal.returns-in-Err
+returns-in-Err c =
+    let judged = rw c.in-Err.is at c.find_sets.ensures in
+    refused judged.0
 
-pub returns-in_err-numbered : goal.returns-in_err-numbered
-returns-in_err-numbered c =
-    let p = err_from_is_err_and c.from_residual-in_err-numbered.result c.from_residual-in_err-numbered.ensures.1 in
-    rw (p.1, p.2) (lookahead_refused c.in_ok-index.ensures c.in_err-numbered.ensures)
+pub returns-in_err-numbered-in-Ok : goal.returns-in_err-numbered-in-Ok
+returns-in_err-numbered-in-Ok c =
+    let found = rw c.in-Ok.is at c.find_sets.ensures in
+    let p = err_from_is_err_and c.from_residual.result c.from_residual.ensures.1 in
+    rw (p.1, p.2) (lookahead_refused found c.in_err-numbered-in-Ok.ensures)
 
 pub bounds-index-production : goal.bounds-index-production
-bounds-index-production c = omega (arith, given_count c.in_ok-index.ensures.given, c.in_ok-numbered.ensures)
+bounds-index-production c =
+    let found = rw c.in-Ok.is at c.find_sets.ensures in
+    omega (arith, given_count found.given, c.in_ok-numbered-in-Ok.ensures)
 
 pub slice_bounds-lookahead_at-end : goal.slice_bounds-lookahead_at-end
-slice_bounds-lookahead_at-end c = sym c.in_ok-index.ensures.first.sized
+slice_bounds-lookahead_at-end c =
+    let found = rw c.in-Ok.is at c.find_sets.ensures in
+    sym found.first.sized
 
-pub slice_bounds-lookahead_at-end-2 : goal.slice_bounds-lookahead_at-end-2
-slice_bounds-lookahead_at-end-2 c = sym c.in_ok-index.ensures.follow.sized
+pub slice_bounds-lookahead_at-end-in-Ok : goal.slice_bounds-lookahead_at-end-in-Ok
+slice_bounds-lookahead_at-end-in-Ok c =
+    let found = rw c.in-Ok.is at c.find_sets.ensures in
+    sym found.follow.sized
 
 pub lookahead_at-requires : goal.lookahead_at-requires
-lookahead_at-requires c = (given_readable c.in_ok-index.ensures.given).each _ c.in_ok-numbered.ensures
+lookahead_at-requires c =
+    let found = rw c.in-Ok.is at c.find_sets.ensures in
+    (given_readable found.given).each _ c.in_ok-numbered-in-Ok.ensures
 
-pub returns : goal.returns
-returns c = lookahead_served c.in_ok-index.ensures c.in_ok-numbered.ensures c.lookahead_at.ensures
+pub returns-in_ok-numbered-in-Ok : goal.returns-in_ok-numbered-in-Ok
+returns-in_ok-numbered-in-Ok c =
+    let found = rw c.in-Ok.is at c.find_sets.ensures in
+    lookahead_served found c.in_ok-numbered-in-Ok.ensures c.lookahead_at.ensures

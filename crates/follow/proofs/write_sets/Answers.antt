@@ -6,30 +6,38 @@ use Rattle.follow.specs.Calls.{refused}
 use Rattle.follow.proofs.Served.{sets_no_room, sets_served}
 use Rattle.follow.proofs.write_sets.Goals as goal
 
-pub returns-in_err-index : goal.returns-in_err-index
-returns-in_err-index c =
-    let p = err_from_is_err_and c.from_residual.result c.from_residual.ensures.1 in
-    rw (p.1, p.2) (refused c.in_err-index.ensures.0)
+pub returns-in-Err : goal.returns-in-Err
+returns-in-Err c =
+    let judged = rw c.in-Err.is at c.find_sets.ensures in
+    refused judged.0
 
-pub returns-in_err-sets_room : goal.returns-in_err-sets_room
-returns-in_err-sets_room c =
-    let p = err_from_is_err_and c.from_residual-in_err-sets_room.result c.from_residual-in_err-sets_room.ensures.1 in
-    rw (p.1, p.2) (sets_no_room c.in_ok-index.ensures _ _ c.in_err-sets_room.ensures)
+pub returns-in_err-sets_room-in-Ok : goal.returns-in_err-sets_room-in-Ok
+returns-in_err-sets_room-in-Ok c =
+    let found = rw c.in-Ok.is at c.find_sets.ensures in
+    let p = err_from_is_err_and c.from_residual.result c.from_residual.ensures.1 in
+    rw (p.1, p.2) (sets_no_room found _ _ c.in_err-sets_room-in-Ok.ensures)
 
 pub slice_bounds-begins-end : goal.slice_bounds-begins-end
 slice_bounds-begins-end c =
-    omega (arith, given_nonterminals c.in_ok-index.ensures.given, c.in_ok-index.ensures.first.sized)
+    let found = rw c.in-Ok.is at c.find_sets.ensures in
+    omega (arith, given_nonterminals found.given, found.first.sized)
 
 pub slice_bounds-write_front-end : goal.slice_bounds-write_front-end
-slice_bounds-write_front-end c = given_part c.in_ok-index.ensures.given _ c.in_ok-index.ensures.first.sized
+slice_bounds-write_front-end c =
+    let found = rw c.in-Ok.is at c.find_sets.ensures in
+    given_part found.given _ found.first.sized
 
 pub slice_bounds-ends-end : goal.slice_bounds-ends-end
 slice_bounds-ends-end c =
-    omega (arith, given_nonterminals c.in_ok-index.ensures.given, c.in_ok-index.ensures.follow.sized)
+    let found = rw c.in-Ok.is at c.find_sets.ensures in
+    omega (arith, given_nonterminals found.given, found.follow.sized)
 
-pub slice_bounds-write_front-end-2 : goal.slice_bounds-write_front-end-2
-slice_bounds-write_front-end-2 c = given_part c.in_ok-index.ensures.given _ c.in_ok-index.ensures.follow.sized
+pub slice_bounds-write_front-end-in-Ok : goal.slice_bounds-write_front-end-in-Ok
+slice_bounds-write_front-end-in-Ok c =
+    let found = rw c.in-Ok.is at c.find_sets.ensures in
+    given_part found.given _ found.follow.sized
 
-pub returns : goal.returns
-returns c =
-    sets_served c.in_ok-index.ensures _ _ c.in_ok-sets_room.ensures c.write_front.ensures c.write_front-2.ensures
+pub returns-in_ok-sets_room-in-Ok : goal.returns-in_ok-sets_room-in-Ok
+returns-in_ok-sets_room-in-Ok c =
+    let found = rw c.in-Ok.is at c.find_sets.ensures in
+    sets_served found _ _ c.in_ok-sets_room-in-Ok.ensures c.write_front.ensures c.write_front-in-Ok.ensures
