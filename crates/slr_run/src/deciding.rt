@@ -12,13 +12,7 @@ use slr::{ACCEPT, EMPTY, REDUCE};
 use stack::counts;
 
 // What is done where the state on top says to reduce by p.
-fn reduction(
-    machine: &Machine,
-    stack: &[u8],
-    at: Stage,
-    cells: usize,
-    p: u8,
-) -> Turn
+fn reduction(machine: &Machine, stack: &[u8], at: Stage, cells: usize, p: u8) -> Turn
     requires { Held (machine_rows machine.now) at stack.now
         × (p < machine.now.outline.productions) }
     ensures { Reduction
@@ -35,7 +29,9 @@ fn reduction(
         return Turn::Finish(Ending::Stop(Cause::Wants));
     }
     let base = at.height - 1 - size;
-    let column = machine.outline.tokens as usize + 1 + cell_or(&machine.lefts, p as usize, 0) as usize;
+    let column = machine.outline.tokens as usize
+        + 1
+        + cell_or(&machine.lefts, p as usize, 0) as usize;
     let to = machine.number(stack[base], column);
     if to == EMPTY {
         return Turn::Finish(Ending::Stop(Cause::Wants));
@@ -50,13 +46,7 @@ fn reduction(
 }
 
 // What the state on top says to a column.
-pub(crate) fn decide(
-    machine: &Machine,
-    column: u8,
-    stack: &[u8],
-    at: Stage,
-    cells: usize,
-) -> Turn
+pub(crate) fn decide(machine: &Machine, column: u8, stack: &[u8], at: Stage, cells: usize) -> Turn
     requires { Held (machine_rows machine.now) at stack.now
         × (column ≤ machine.now.outline.tokens) }
     ensures { Turns
