@@ -7,7 +7,6 @@ ghost use Rattle.slr_run.specs.Deciding.{Turns, Reduction};
 
 use crate::reading::Machine;
 use crate::{Cause, Ending, Stage, Turn};
-use answers::buffers::cell_or;
 use slr::{ACCEPT, EMPTY, REDUCE};
 use stack::counts;
 
@@ -24,14 +23,12 @@ fn reduction(machine: &Machine, stack: &[u8], at: Stage, cells: usize, p: u8) ->
         at.listed
         result }
 {
-    let size = cell_or(&machine.lengths, p as usize, 0) as usize;
+    let size = machine.lengths[p as usize] as usize;
     if at.height <= size {
         return Turn::Finish(Ending::Stop(Cause::Wants));
     }
     let base = at.height - 1 - size;
-    let column = machine.outline.tokens as usize
-        + 1
-        + cell_or(&machine.lefts, p as usize, 0) as usize;
+    let column = machine.outline.tokens as usize + 1 + machine.lefts[p as usize] as usize;
     let to = machine.number(stack[base], column);
     if to == EMPTY {
         return Turn::Finish(Ending::Stop(Cause::Wants));
