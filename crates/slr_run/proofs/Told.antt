@@ -56,12 +56,13 @@ module _ (b : Machine) where
   by_fit one state column row col f = ∥∥₁_elim b.grounded one (λ x. f (x.fits state column row col))
 
   -- the cell of a row and a column lies in the table
-  pub cell_inside : (state column : ℕ)
+  pub cell_inside : {state column columns : ℕ}
+      → columns ≡ columns_in b.outline
       → state < machine_rows b
       → column < columns_in b.outline
-      → state * columns_in b.outline + column < length b.table.now
-  cell_inside state column row col =
-      let inside : state * columns_in b.outline + column < machine_rows b * columns_in b.outline = digits_lt row col in omega (arith, sized)
+      → state * columns + column < length b.table.now
+  cell_inside {state} {column} wide row col =
+      let inside : state * columns_in b.outline + column < machine_rows b * columns_in b.outline = digits_lt row col in rw wide (omega (arith, sized))
 
 -- column T is the end mark, and a lower one a token
 pub under_end : (T column : ℕ) → column ≡ T → column_at T column ≡ endmark
@@ -106,23 +107,22 @@ module _ (b : Machine) (room cells : ℕ) {at : Stage} {stack : List ℕ} (held 
         ap (drop (get_or b.lengths p 0)) (held_top stack at.height held.some held.top)
         ∙ drop_held stack (get_or b.lengths p 0) at.height
 
-    pub reduction_bare : {size : ℕ} → size ≡ get_or b.lengths p 0 → at.height ≤ size → Made (Finish (Stop Wants))
+    pub reduction_bare : at.height ≤ get_or b.lengths p 0 → Made (Finish (Stop Wants))
     unfolding setting_by
-    reduction_bare e h =
+    reduction_bare h =
         record { turns = λ c says. Turns.bare says (stays ∙ held_none stack (omega arith)) }
 
-    module _ {size base side to : ℕ} (sized : size ≡ get_or b.lengths p 0) (some_left : size < at.height)
-        (under : base ≡ at.height - 1 - size) (sides : side ≡ get_or b.lefts p 0)
-        (read : to ≡ number_at o table (get_or stack base 0) (o.tokens + 1 + side)) where
-      number : to ≡ number_at o table (get_or stack base 0) (o.tokens + 1 + left)
-      number = read ∙ rw sides
+    abbrev base : ℕ
+    base = at.height - 1 - get_or b.lengths p 0
 
+    module _ (some_left : get_or b.lengths p 0 < at.height) {to : ℕ}
+        (read : to ≡ number_at o table (get_or stack base 0) (o.tokens + 1 + left)) where
       uncovers : drop (get_or b.lengths p 0) (at.top ∷ below) ≡ get_or stack base 0 ∷ held_by stack base
       uncovers = stays ∙ held_more stack base (omega arith)
 
       moves_by : move_in (numbers_of o) table (get_or stack base 0) left ≡ move_of to
       unfolding move_in
-      moves_by = rw (lt-ltb left o.nonterminals (left_known b p known), move_in, number)
+      moves_by = rw (lt-ltb left o.nonterminals (left_known b p known), move_in, read)
 
       pub reduction_none : to ≡ 65535 → Made (Finish (Stop Wants))
       unfolding setting_by move_of
@@ -132,7 +132,7 @@ module _ (b : Machine) (room cells : ℕ) {at : Stage} {stack : List ℕ} (held 
         pub to_row : to < rows_of o table
         to_row =
             by_fit b (search props) (get_or stack base 0) (o.tokens + 1 + left) (held.states base (omega arith)) left_inside
-            (λ x. go (subst (NumberFits o.tokens o.productions (rows_of o table) (o.tokens + 1 + left)) (sym number) x))
+            (λ x. go (subst (NumberFits o.tokens o.productions (rows_of o table) (o.tokens + 1 + left)) (sym read) x))
           where
             go : NumberFits o.tokens o.productions (rows_of o table) (o.tokens + 1 + left) to → to < rows_of o table
             go (empty e) = absurd (filled e)
