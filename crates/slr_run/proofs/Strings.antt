@@ -11,10 +11,11 @@ use lib.Seq.{drop-cons, get_or-set_same, length-take-le}
 use Rattle.grammar.specs.Grammar.{token, endmark}
 use Rattle.grammar.specs.Machine.{front}
 use Rattle.answers.specs.Buffers.{counted}
-use Rattle.book.specs.declared.columns.Outline.{Outline}
 use Rattle.slr.specs.RoomMachine.{Setting, SlrOffered, slr_begun, slr_run_from, slr_run}
 use Rattle.slr.specs.Ends.{slr_final}
-use Rattle.slr_run.specs.Stages.{setting_by, column_at, held_by, stage_in, Held, stage_of, outcome_in}
+use Rattle.slr_run.specs.Stages.{column_at, held_by, stage_in, Held, stage_of, outcome_in}
+use Rattle.slr_run.specs.Machines.{machine_setting}
+use Rattle.slr_run.specs.declared.reading.Machine.{Machine}
 use Rattle.slr_run.specs.Reducing.{goes_on, continued, Kept, Offered, Ended}
 use Rattle.std.specs.Prelude.{[], Ok, Err}
 use Rattle.slr_run.specs.Stages.{Reply}
@@ -153,8 +154,8 @@ module _ (m : Setting) (rows : ℕ) (tokens stack₀ list₀ : List ℕ) where
         )
 
 -- that state 0 is put on the stack, and that a buffer is written, changes no room
-pub setting_same : (o : Outline) (lefts lengths table : List ℕ) (stack list stack₀ list₀ : List ℕ)
+pub setting_same : (b : Machine) (stack list stack₀ list₀ : List ℕ)
     → length stack ≡ length stack₀
     → length list ≡ length list₀
-    → setting_by o lefts lengths table (counted stack) (counted list) ≡ setting_by o lefts lengths table (counted stack₀) (counted list₀)
-setting_same o lefts lengths table stack list stack₀ list₀ e f = rw (e, f)
+    → machine_setting b (counted stack) (counted list) ≡ machine_setting b (counted stack₀) (counted list₀)
+setting_same b stack list stack₀ list₀ e f = rw (e, f)

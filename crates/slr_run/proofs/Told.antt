@@ -1,6 +1,9 @@
 -- What a checked table says, and the machine's next turn by it.
 use mathlib.Core.Path.{◌≡◌, sym, ◌∙◌, ap, subst}
-use mathlib.Core.Logic.{◌≢◌}
+use mathlib.Core.Logic.{◌≢◌, ∥∥₁_elim}
+use mathlib.Core.HLevel.{×_prop}
+use native.Mathlib.Bridge.{le_prop}
+use denote.Struct.Props.{props}
 use mathlib.Core.List.{List, ◌∷◌}
 use mathlib.Core.Option.{some}
 use Prim.Native.Nat.{ℕ, ◌+◌, ◌-◌, ◌*◌, ◌≤◌, ◌<◌}
@@ -17,7 +20,9 @@ use Rattle.slr.specs.RoomMachine.{Setting}
 use Rattle.slr.proofs.Promise.{coded_shift, coded_reduce, code_action}
 use Rattle.slr_run.specs.Fitting.{NumberFits, empty, shifts, reduces, accepts, moves}
 use Rattle.slr_run.specs.Checking.{columns_in, rows_of}
-use Rattle.slr_run.specs.Stages.{numbers_of, setting_by, column_at, number_at, held_by, Grounds, Held}
+use Rattle.slr_run.specs.Stages.{numbers_of, setting_by, column_at, number_at, held_by, Held}
+use Rattle.slr_run.specs.Machines.{machine_rows, machine_setting}
+use Rattle.slr_run.specs.declared.reading.Machine.{Machine}
 use Rattle.slr_run.specs.Deciding.{Turns, Reduction}
 use Rattle.slr_run.specs.declared.Cause.TheVariants.{FullList, FullStack, Wants}
 use Rattle.slr_run.specs.declared.Ending.TheVariants.{Shift, Accept, Stop}
@@ -26,14 +31,38 @@ use Rattle.slr_run.specs.declared.Turn.{Turn}
 use Rattle.slr_run.specs.declared.Stage.{Stage}
 use Rattle.slr_run.proofs.Held.{length_held, held_none, held_more, held_top, drop_held}
 
--- the cell of a row and a column lies in the table
-pub cell_inside : (o : Outline) (table : List ℕ) (state column : ℕ)
-    → length table ≡ rows_of o table * columns_in o
-    → state < rows_of o table
-    → column < columns_in o
-    → state * columns_in o + column < length table
-cell_inside o table state column sized row col =
-    let inside : state * columns_in o + column < rows_of o table * columns_in o = digits_lt row col in omega arith
+-- what a machine's ghost field says, of which there is one proof at most
+module _ (b : Machine) where
+  sized : length b.table.now ≡ machine_rows b * columns_in b.outline
+  sized = ∥∥₁_elim b.grounded (search props) (λ x. x.sized)
+
+  pub some_row : 1 ≤ machine_rows b
+  some_row = ∥∥₁_elim b.grounded (search props) (λ x. x.some)
+
+  pub few_rows : machine_rows b ≤ 256
+  few_rows = ∥∥₁_elim b.grounded (search props) (λ x. x.few)
+
+  left_known : (p : ℕ) → p < b.outline.productions → get_or b.lefts p 0 < b.outline.nonterminals
+  left_known p h = ∥∥₁_elim b.grounded (search props) (λ x. x.lefts_known p h)
+
+  -- what follows from how the number in a cell fits
+  by_fit : {X : Type 0}
+      → IsProp X
+      → (state column : ℕ)
+      → state < machine_rows b
+      → column < columns_in b.outline
+      → (NumberFits b.outline.tokens b.outline.productions (machine_rows b) column (number_at b.outline b.table.now state column) → X)
+      → X
+  by_fit one state column row col f = ∥∥₁_elim b.grounded one (λ x. f (x.fits state column row col))
+
+  -- the cell of a row and a column lies in the table
+  pub cell_inside : {state column columns : ℕ}
+      → columns ≡ columns_in b.outline
+      → state < machine_rows b
+      → column < columns_in b.outline
+      → state * columns + column < length b.table.now
+  cell_inside {state} {column} wide row col =
+      let inside : state * columns_in b.outline + column < machine_rows b * columns_in b.outline = digits_lt row col in rw wide (omega (arith, sized))
 
 -- column T is the end mark, and a lower one a token
 pub under_end : (T column : ℕ) → column ≡ T → column_at T column ≡ endmark
@@ -48,10 +77,15 @@ under_token T column h = rw (lt-ltb column T h, column_at)
 pub top_row : {rows : ℕ} {at : Stage} {stack : List ℕ} → Held rows at stack → at.top < rows
 top_row {at = at} held = rw held.top (held.states (at.height - 1) (omega (arith, held.some)))
 
-module _ (o : Outline) (table lefts lengths : List ℕ) (room cells : ℕ) (grounds : Grounds o table lefts)
-    {at : Stage} {stack : List ℕ} (held : Held (rows_of o table) at stack) where
+module _ (b : Machine) (room cells : ℕ) {at : Stage} {stack : List ℕ} (held : Held (machine_rows b) at stack) where
   abbrev m : Setting
-  m = setting_by o lefts lengths table room cells
+  m = machine_setting b room cells
+
+  abbrev o : Outline
+  o = b.outline
+
+  abbrev table : List ℕ
+  table = b.table.now
 
   abbrev below : List ℕ
   below = held_by stack (at.height - 1)
@@ -61,35 +95,34 @@ module _ (o : Outline) (table lefts lengths : List ℕ) (room cells : ℕ) (grou
     Made = Reduction m (rows_of o table) p at.top below at.listed
 
     abbrev left : ℕ
-    left = get_or lefts p 0
+    left = get_or b.lefts p 0
 
     -- the column of the left side
     pub left_inside : o.tokens + 1 + left < columns_in o
-    left_inside = omega (arith, grounds.lefts_known p known)
+    left_inside = omega (arith, left_known b p known)
 
     -- the states that a reduction leaves
-    stays : drop (get_or lengths p 0) (at.top ∷ below) ≡ held_by stack (at.height - get_or lengths p 0)
+    stays : drop (get_or b.lengths p 0) (at.top ∷ below) ≡ held_by stack (at.height - get_or b.lengths p 0)
     stays =
-        ap (drop (get_or lengths p 0)) (held_top stack at.height held.some held.top)
-        ∙ drop_held stack (get_or lengths p 0) at.height
+        ap (drop (get_or b.lengths p 0)) (held_top stack at.height held.some held.top)
+        ∙ drop_held stack (get_or b.lengths p 0) at.height
 
-    pub reduction_bare : {size : ℕ} → size ≡ get_or lengths p 0 → at.height ≤ size → Made (Finish (Stop Wants))
+    pub reduction_bare : at.height ≤ get_or b.lengths p 0 → Made (Finish (Stop Wants))
     unfolding setting_by
-    reduction_bare e h =
+    reduction_bare h =
         record { turns = λ c says. Turns.bare says (stays ∙ held_none stack (omega arith)) }
 
-    module _ {size base side to : ℕ} (sized : size ≡ get_or lengths p 0) (some_left : size < at.height)
-        (under : base ≡ at.height - 1 - size) (sides : side ≡ get_or lefts p 0)
-        (read : to ≡ number_at o table (get_or stack base 0) (o.tokens + 1 + side)) where
-      number : to ≡ number_at o table (get_or stack base 0) (o.tokens + 1 + left)
-      number = read ∙ rw sides
+    abbrev base : ℕ
+    base = at.height - 1 - get_or b.lengths p 0
 
-      uncovers : drop (get_or lengths p 0) (at.top ∷ below) ≡ get_or stack base 0 ∷ held_by stack base
+    module _ (some_left : get_or b.lengths p 0 < at.height) {to : ℕ}
+        (read : to ≡ number_at o table (get_or stack base 0) (o.tokens + 1 + left)) where
+      uncovers : drop (get_or b.lengths p 0) (at.top ∷ below) ≡ get_or stack base 0 ∷ held_by stack base
       uncovers = stays ∙ held_more stack base (omega arith)
 
       moves_by : move_in (numbers_of o) table (get_or stack base 0) left ≡ move_of to
       unfolding move_in
-      moves_by = rw (lt-ltb left o.nonterminals (grounds.lefts_known p known), move_in, number)
+      moves_by = rw (lt-ltb left o.nonterminals (left_known b p known), move_in, read)
 
       pub reduction_none : to ≡ 65535 → Made (Finish (Stop Wants))
       unfolding setting_by move_of
@@ -97,7 +130,9 @@ module _ (o : Outline) (table lefts lengths : List ℕ) (room cells : ℕ) (grou
 
       module _ (filled : to ≢ 65535) where
         pub to_row : to < rows_of o table
-        to_row = go (subst (NumberFits o.tokens o.productions (rows_of o table) (o.tokens + 1 + left)) (sym number) (grounds.fits (get_or stack base 0) (o.tokens + 1 + left) (held.states base (omega arith)) left_inside))
+        to_row =
+            by_fit b (search props) (get_or stack base 0) (o.tokens + 1 + left) (held.states base (omega arith)) left_inside
+            (λ x. go (subst (NumberFits o.tokens o.productions (rows_of o table) (o.tokens + 1 + left)) (sym read) x))
           where
             go : NumberFits o.tokens o.productions (rows_of o table) (o.tokens + 1 + left) to → to < rows_of o table
             go (empty e) = absurd (filled e)
@@ -147,30 +182,33 @@ module _ (o : Outline) (table lefts lengths : List ℕ) (room cells : ℕ) (grou
             let last : column ≡ o.tokens = omega arith in
             ap (action_in (numbers_of o) table at.top) (under_end o.tokens column last) ∙ end_says last
 
-    fits : NumberFits o.tokens o.productions (rows_of o table) column number
-    fits = rw is (grounds.fits at.top column (top_row held) (omega arith))
+    abbrev Fits : Type 0
+    Fits = NumberFits o.tokens o.productions (rows_of o table) column number
+
+    by_number : {X : Type 0} → IsProp X → (Fits → X) → X
+    by_number one f = by_fit b one at.top column (top_row held) (omega arith) (λ x. f (rw is x))
 
     pub turn_empty : number ≡ 65535 → Told (Finish (Stop Wants))
     unfolding setting_by action_of
     turn_empty e = Turns.empty (says ∙ rw e)
 
-    pub turn_accept : o.productions < 256 → number ≡ 1023 → Told (Finish Accept)
+    pub turn_accept : number ≡ 1023 → Told (Finish Accept)
     unfolding setting_by action_of
-    turn_accept short e = Turns.accepts (says ∙ rw e) (under_end o.tokens column (go fits))
+    turn_accept e = Turns.accepts (says ∙ rw e) (under_end o.tokens column (by_number (search props) go))
       where
-        go : NumberFits o.tokens o.productions (rows_of o table) column number → column ≡ o.tokens
+        go : Fits → column ≡ o.tokens
         go (empty f) = absurd (omega arith)
-        go (shifts h k) = absurd (omega (arith, grounds.few))
-        go (reduces h k f) = absurd (omega arith)
+        go (shifts h k) = absurd (omega (arith, few_rows b))
+        go (reduces h k f) = absurd (omega (arith, b.few_productions))
         go (accepts h f) = h
         go (moves h k) = absurd (omega arith)
 
     module _ (small : number < 512) where
       -- under a token, to a row
       pub shift_fits : (column < o.tokens) × (number < rows_of o table)
-      shift_fits = go fits
+      shift_fits = by_number (×_prop le_prop le_prop) go
         where
-          go : NumberFits o.tokens o.productions (rows_of o table) column number → (column < o.tokens) × (number < rows_of o table)
+          go : Fits → (column < o.tokens) × (number < rows_of o table)
           go (empty f) = absurd (omega arith)
           go (shifts h k) = (h, k)
           go (reduces h k f) = absurd (omega arith)
@@ -193,25 +231,24 @@ module _ (o : Outline) (table lefts lengths : List ℕ) (room cells : ℕ) (grou
 
     module _ (large : 512 ≤ number) (filled : number ≢ 65535) (other : number ≢ 1023) where
       pub reduce_known : number - 512 < o.productions
-      reduce_known = go fits
+      reduce_known = by_number (search props) go
         where
-          go : NumberFits o.tokens o.productions (rows_of o table) column number → number - 512 < o.productions
+          go : Fits → number - 512 < o.productions
           go (empty f) = absurd (filled f)
-          go (shifts h k) = absurd (omega (arith, grounds.few))
+          go (shifts h k) = absurd (omega (arith, few_rows b))
           go (reduces h k f) = omega arith
           go (accepts h f) = absurd (other f)
           go (moves h k) = absurd (omega arith)
 
-      reduce_said : o.productions < 256 → action_in (numbers_of o) table at.top (column_at o.tokens column) ≡ some (reduce (number - 512))
+      reduce_said : action_in (numbers_of o) table at.top (column_at o.tokens column) ≡ some (reduce (number - 512))
       unfolding code_of
-      reduce_said short =
+      reduce_said =
           let whole : 512 + (number - 512) ≡ number = omega arith in
-          let fits_code : number - 512 < 511 = omega (arith, reduce_known) in
+          let fits_code : number - 512 < 511 = omega (arith, reduce_known, b.few_productions) in
           says ∙ ap action_of (sym whole) ∙ code_action (coded_reduce fits_code)
 
       pub turn_reduce : {r : Turn}
-          → o.productions < 256
           → Reduction m (rows_of o table) (number - 512) at.top below at.listed r
           → Told r
       unfolding setting_by
-      turn_reduce short made = made.turns (column_at o.tokens column) (reduce_said short)
+      turn_reduce made = made.turns (column_at o.tokens column) (reduce_said)

@@ -2,6 +2,7 @@ pub mod Fitting
 pub mod Running
 pub mod Checking
 pub mod Stages
+pub mod Machines
 pub mod Deciding
 pub mod Reducing
 pub mod Answering

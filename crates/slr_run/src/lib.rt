@@ -4,6 +4,7 @@
 mod answering;
 mod checking;
 mod deciding;
+mod reading;
 mod reducing;
 pub mod running;
 

@@ -1,14 +1,14 @@
 // One column offered to a run: reductions are made until it is shifted, accepted or the run stops.
 ghost use Rattle.std.specs.Prelude.{◌≡◌, ℕ, ◌+◌, ◌^◌, ◌≤◌, ◌<◌, length};
 ghost use Rattle.answers.specs.Buffers.{counted};
-ghost use Rattle.slr_run.specs.Checking.{rows_of};
-ghost use Rattle.slr_run.specs.Stages.{setting_by, column_at, Grounds, Held};
+ghost use Rattle.slr_run.specs.Stages.{column_at, Held};
+ghost use Rattle.slr_run.specs.Machines.{machine_rows, machine_setting};
 ghost use Rattle.slr_run.specs.Reducing.{reduced_to, finished, finished_stack, Offered};
 ghost use Rattle.slr_run.specs.declared.Ending.TheVariants as endings;
 
 use crate::deciding::decide;
+use crate::reading::Machine;
 use crate::{Ending, Halt, Stage, Turn};
-use book::columns::Outline;
 use stack::counts;
 
 // The counts after a reduction that keeps the states up to cell `base` and pushes a state.
@@ -52,30 +52,20 @@ fn finish(ending: Ending, stack: &mut [u8], at: Stage) -> Result<Stage, Halt>
 
 // One column is offered.
 pub(crate) fn reduce_all(
-    table: &[u16],
-    outline: Outline,
-    lefts: &[u8],
-    lengths: &[u8],
+    machine: &Machine,
     column: u8,
     stack: &mut [u8],
     list: &mut [u8],
     at: Stage,
 ) -> Result<Stage, Halt>
-    requires { Grounds outline table.now lefts.now
-        × (column ≤ outline.tokens)
-        × Held (rows_of outline table.now) at stack.old
+    requires { (column ≤ machine.now.outline.tokens)
+        × Held (machine_rows machine.now) at stack.old
         × (at.listed ≤ counted list.old)
         × (at.matched < 2 ^ 63) }
     ensures { Offered
-        (setting_by
-        outline
-        lefts.now
-        lengths.now
-        table.now
-        (counted stack.old)
-        (counted list.old))
-        (rows_of outline table.now)
-        (column_at outline.tokens column)
+        (machine_setting machine.now (counted stack.old) (counted list.old))
+        (machine_rows machine.now)
+        (column_at machine.now.outline.tokens column)
         at
         stack.old
         list.old
@@ -86,7 +76,7 @@ pub(crate) fn reduce_all(
     let cells = counts(list.len());
     let mut here = at;
     loop {
-        let turn = decide(table, outline, lefts, lengths, column, stack, here, cells);
+        let turn = decide(machine, column, stack, here, cells);
         match turn {
             Turn::Reduce(p, state, base) => {
                 let listed = here.listed;

@@ -3,42 +3,33 @@ ghost use Rattle.std.specs.Prelude.{◌≡◌, ℕ, ◌≤◌, ◌<◌, length, 
 ghost use Rattle.grammar.specs.Grammar.{WellFormed};
 ghost use Rattle.answers.specs.Buffers.{counted};
 ghost use Rattle.book.specs.Columns.{grammar_in};
-ghost use Rattle.slr_run.specs.Stages.{setting_by, Grounds};
+ghost use Rattle.slr_run.specs.Machines.{machine_setting};
 ghost use Rattle.slr_run.specs.Reducing.{Ended};
 ghost use Rattle.slr_run.specs.Answering.{RanFor};
 ghost use Rattle.slr_run.specs.Running.{SlrRunOutcome};
 
 use crate::answering::answer_of;
 use crate::checking::check;
+use crate::reading::Machine;
 use crate::reducing::reduce_all;
 use crate::{Halt, Stage};
 use answers::Answer;
 use book::Index;
-use book::columns::{Outline, gather_lefts, gather_lengths};
+use book::columns::{gather_lefts, gather_lengths};
 use book::judging::judge;
 use stack::clear;
 
 // From state 0 on, the tokens are offered one by one, then the end mark.
 fn run_all(
-    table: &[u16],
-    outline: Outline,
-    lefts: &[u8],
-    lengths: &[u8],
+    machine: &Machine,
     tokens: &[u8],
     stack: &mut [u8],
     list: &mut [u8],
 ) -> Result<Stage, Halt>
-    requires { Grounds outline table.now lefts.now
-        × (1 ≤ length stack.old)
-        × ((i : ℕ) → i < length tokens.now → get_or tokens.now i 0 < outline.tokens) }
+    requires { (1 ≤ length stack.old)
+        × ((i : ℕ) → i < length tokens.now → get_or tokens.now i 0 < machine.now.outline.tokens) }
     ensures { Ended
-        (setting_by
-        outline
-        lefts.now
-        lengths.now
-        table.now
-        (counted stack.old)
-        (counted list.old))
+        (machine_setting machine.now (counted stack.old) (counted list.old))
         tokens.now
         stack.old
         list.old
@@ -55,10 +46,10 @@ fn run_all(
         deepest: 1,
     };
     for token in tokens {
-        at = reduce_all(table, outline, lefts, lengths, *token, stack, list, at)?;
+        at = reduce_all(machine, *token, stack, list, at)?;
     }
-    let last = outline.tokens;
-    reduce_all(table, outline, lefts, lengths, last, stack, list, at)
+    let last = machine.outline.tokens;
+    reduce_all(machine, last, stack, list, at)
 }
 
 // The checks, and the steps where these admit them; after that every stack cell is 0.
@@ -87,7 +78,8 @@ fn run_on(
     }
     let lefts = gather_lefts(book, index);
     let lengths = gather_lengths(book, index);
-    let reply = run_all(table, outline, &lefts, &lengths, tokens, stack, list);
+    let machine = Machine::new(table, outline, lefts, lengths);
+    let reply = run_all(&machine, tokens, stack, list);
     clear(stack);
     answer_of(table, outline, reply)
 }

@@ -7,7 +7,7 @@ use Rattle.slr_run.proofs.reducing.reduce_all.Given as goal
 
 abbrev pub invariant-loop-p : goal.invariant-loop-p
 invariant-loop-p l =
-    Looping l.outline l.lefts l.lengths l.table (column_at l.outline.tokens l.column) l.initial.here l.initial.stack l.initial.list l.here l.stack l.list
+    Looping l.machine (column_at l.machine.outline.tokens l.column) l.initial.here l.initial.stack l.initial.list l.here l.stack l.list
 
 abbrev pub decreases-loop-p : goal.decreases-loop-p
 decreases-loop-p l = counted l.initial.list - l.here.listed

@@ -5,6 +5,6 @@ use Rattle.slr_run.proofs.running.run_all.Given as goal
 
 abbrev pub invariant-loop-token : goal.invariant-loop-token
 invariant-loop-token l = record {
-  walking : Walking l.outline l.lefts l.lengths l.table l.tokens l.initial.stack l.initial.list l.at l.stack l.list;
+  walking : Walking l.machine l.tokens l.initial.stack l.initial.list l.at l.stack l.list;
   matched : l.at.matched ≡ l.token-index;
 }
