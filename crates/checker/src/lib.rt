@@ -37,9 +37,14 @@ fn check_all(book: &[u8], table: &[u8], first: &mut [u64; 64]) -> Result<(), Ans
 {
     let mut follow = [0u64; 64];
     let mut ahead = [0u64; 128];
-    let index = work_out(book, first, &mut follow, &mut ahead)?;
-    match check_table(book, &index, table) {
-        Ok(()) => compare(book, &index, &ahead, table),
+    // The index is borrowed and not moved, which keeps the stack low.
+    let found = work_out(book, first, &mut follow, &mut ahead);
+    let index = match &found {
+        Ok(index) => index,
+        Err(refused) => return Err(*refused),
+    };
+    match check_table(book, index, table) {
+        Ok(()) => compare(book, index, &ahead, table),
         Err(place) => Err(refusal(Refusal::Table, place as u64, 0)),
     }
 }

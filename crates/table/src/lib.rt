@@ -31,11 +31,16 @@ fn write_all(
     let mut begins = [0u64; 64];
     let mut ends = [0u64; 64];
     let mut ahead = [0u64; 128];
-    let index = work_out(book, &mut begins, &mut ends, &mut ahead)?;
+    // The index is borrowed and not moved, which keeps the stack low.
+    let found = work_out(book, &mut begins, &mut ends, &mut ahead);
+    let index = match &found {
+        Ok(index) => index,
+        Err(refused) => return Err(*refused),
+    };
     let n = index.outline.nonterminals as usize;
     sets_room(first.len(), follow.len(), n)?;
     check_room(table.len(), index.outline.cells(), Lent::Table)?;
-    enter(book, &index, &ahead, table)?;
+    enter(book, index, &ahead, table)?;
     write_front(&begins[..n], first);
     write_front(&ends[..n], follow);
     Ok(())
