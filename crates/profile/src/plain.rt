@@ -109,7 +109,13 @@ fn run_plain(book: &[u8], index: &Index, tokens: &[u8], stack: &mut [u8], list: 
 }
 
 // A run on a judged book, where it is plain.
-fn run_profiled(book: &[u8], index: &Index, tokens: &[u8], stack: &mut [u8], list: &mut [u8]) -> Answer
+fn run_profiled(
+    book: &[u8],
+    index: &Index,
+    tokens: &[u8],
+    stack: &mut [u8],
+    list: &mut [u8],
+) -> Answer
     requires { Indexes book.now index.now }
     ensures { PlainRunOutcome
         book.now
