@@ -1,6 +1,6 @@
 -- What is found of one production by the columns of an index, and what the profile of a reading comes to.
 -- Request W14. Only contracts inside the crate cite what stands here.
-use Rattle.std.specs.Prelude.{◌≡◌, Bool, Result, MatchResult, List, ℕ, ◌<◌, get_or}
+use Rattle.std.specs.Prelude.{◌≡◌, Bool, Result, MatchResult, ⊤, List, ℕ, ◌<◌, get_or}
 use Rattle.grammar.specs.Grammar.{Grammar}
 use Rattle.grammar.specs.Plain.{Breaks, LowestBreak}
 use Rattle.sets.specs.Calls.{Decides}
@@ -38,6 +38,6 @@ pub data PlainRefused (book : List ℕ) : Answer → Type 0 where
   refused : {a : Answer} → Refuses book a → PlainRefused book a
   unfit : {g : Grammar} {p : ℕ} → Serves book g → LowestBreak g p → PlainRefused book (refusal profile p 0)
 
--- the index of a plain book, or what it is refused with
-abbrev pub Profiled : List ℕ → Result Index Answer → Type 0
-Profiled book r = MatchResult r (PlainBook book) (PlainRefused book)
+-- a judged book is plain, or what it is refused with
+abbrev pub Profiled : List ℕ → Index → Result ⊤ Answer → Type 0
+Profiled book i r = MatchResult r (λ done. PlainBook book i) (PlainRefused book)

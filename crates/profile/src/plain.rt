@@ -1,5 +1,6 @@
 // The test of the profile, and the run on a plain book: judging, the profile, a table of its own, checks and steps.
 ghost use Rattle.std.specs.Prelude.{◌≡◌, ◌+◌, ◌*◌, ◌≤◌};
+ghost use Rattle.book.specs.Judging.{Indexes};
 ghost use Rattle.profile.specs.Plain.{PlainOutcome, PlainRunOutcome};
 ghost use Rattle.profile.specs.Entering.{PlainBook, PlainCells};
 ghost use Rattle.profile.specs.Breaking.{Profiled};
@@ -14,22 +15,26 @@ use run::checking::check_tokens;
 use run::running::run_judged;
 use table::vacancy::{FEW, MOST, vacant};
 
-// The index of a plain book, or the refusal 1 to 6 or 21.
-fn profile_of(book: &[u8]) -> Result<Index, Answer>
-    ensures { Profiled book.now result }
+// Whether a judged book is plain, or refusal 21.
+fn profile_of(book: &[u8], index: &Index) -> Result<(), Answer>
+    requires { Indexes book.now index.now }
+    ensures { Profiled book.now index.now result }
 {
-    let index = judge(book)?;
-    match first_break(book, &index) {
+    match first_break(book, index) {
         Some(broken) => Err(refusal(Refusal::Profile, broken as u64, 0)),
-        None => Ok(index),
+        None => Ok(()),
     }
 }
 
-// Whether a book is plain.
+// Whether a book is plain. The index is borrowed and not moved, which keeps the stack low.
 pub fn plain(book: &[u8]) -> Answer
     ensures { PlainOutcome book.now result }
 {
-    told(profile_of(book))
+    let judged = judge(book);
+    match &judged {
+        Ok(index) => told(profile_of(book, index)),
+        Err(refused) => *refused,
+    }
 }
 
 // A run on the table of a plain book, made in these cells; it fits, and is not checked.
@@ -103,7 +108,31 @@ fn run_plain(book: &[u8], index: &Index, tokens: &[u8], stack: &mut [u8], list: 
     }
 }
 
-// A token string run on a plain book alone.
+// A run on a judged book, where it is plain.
+fn run_profiled(
+    book: &[u8],
+    index: &Index,
+    tokens: &[u8],
+    stack: &mut [u8],
+    list: &mut [u8],
+) -> Answer
+    requires { Indexes book.now index.now }
+    ensures { PlainRunOutcome
+        book.now
+        tokens.now
+        stack.old
+        list.old
+        result
+        stack.new
+        list.new }
+{
+    match profile_of(book, index) {
+        Ok(()) => run_plain(book, index, tokens, stack, list),
+        Err(unfit) => unfit,
+    }
+}
+
+// A token string run on a plain book alone. The index is borrowed and not moved, which keeps the stack low.
 pub fn plain_run(book: &[u8], tokens: &[u8], stack: &mut [u8], list: &mut [u8]) -> Answer
     ensures { PlainRunOutcome
         book.now
@@ -114,8 +143,9 @@ pub fn plain_run(book: &[u8], tokens: &[u8], stack: &mut [u8], list: &mut [u8]) 
         stack.new
         list.new }
 {
-    match profile_of(book) {
-        Ok(index) => run_plain(book, &index, tokens, stack, list),
-        Err(refused) => refused,
+    let judged = judge(book);
+    match &judged {
+        Ok(index) => run_profiled(book, index, tokens, stack, list),
+        Err(refused) => *refused,
     }
 }
