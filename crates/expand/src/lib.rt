@@ -131,8 +131,8 @@ fn expand_on(book: &[u8], index: &Index, list: &[u8], stack: &mut [u8], output: 
         stack.new
         output.new }
 {
-    let lefts = gather_lefts(book, index);
     let rules = Rules::new(book, index);
+    let lefts = gather_lefts(book, index);
     let u = unfold_all(&rules, &lefts, list, stack, output);
     clear(stack);
     answer_to(u)

@@ -1,4 +1,5 @@
-// What a run and an expansion share: the stack as bytes, how many cells of a lent buffer count, and what comes next.
+// What a run and an expansion share: the productions, the stack as bytes, how many cells of a lent buffer count, and what
+// comes next.
 #![tactic(auto)]
 
 ghost use Rattle.std.specs.Prelude.{◌≡◌, ◌+◌, ◌%◌, ◌≤◌, min, length, drop, set};

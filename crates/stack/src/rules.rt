@@ -25,11 +25,10 @@ impl<'b> Rules<'b> {
         ensures book { result.book.now ≡ book.now }
         ensures index { result.index.now ≡ index.now }
     {
-        let lengths = gather_lengths(book, index);
         Rules {
             book,
             index,
-            lengths,
+            lengths: gather_lengths(book, index),
         }
     }
 
