@@ -16,7 +16,6 @@ use Rattle.grammar.specs.Grammar.{token, endmark}
 use Rattle.book.specs.declared.columns.Outline.{Outline}
 use Rattle.slr.specs.Actions.{shift, reduce}
 use Rattle.slr.specs.Cells.{code_of, action_of, move_of, action_in, move_in}
-use Rattle.slr.specs.RoomMachine.{Setting}
 use Rattle.slr.proofs.Promise.{coded_shift, coded_reduce, code_action}
 use Rattle.slr_run.specs.Fitting.{NumberFits, empty, shifts, reduces, accepts, moves}
 use Rattle.slr_run.specs.Checking.{columns_in, rows_of}
@@ -44,6 +43,10 @@ module _ (b : Machine) where
 
   left_known : (p : ℕ) → p < b.outline.productions → get_or b.lefts p 0 < b.outline.nonterminals
   left_known p h = ∥∥₁_elim b.grounded (search props) (λ x. x.lefts_known p h)
+
+  -- the column of a left side
+  pub left_inside : {p : ℕ} → p < b.outline.productions → b.outline.tokens + 1 + get_or b.lefts p 0 < columns_in b.outline
+  left_inside {p} known = omega (arith, left_known p known)
 
   -- what follows from how the number in a cell fits
   by_fit : {X : Type 0}
@@ -77,10 +80,7 @@ under_token T column h = rw (lt-ltb column T h, column_at)
 pub top_row : {rows : ℕ} {at : Stage} {stack : List ℕ} → Held rows at stack → at.top < rows
 top_row {at = at} held = rw held.top (held.states (at.height - 1) (omega (arith, held.some)))
 
-module _ (b : Machine) (room cells : ℕ) {at : Stage} {stack : List ℕ} (held : Held (machine_rows b) at stack) where
-  abbrev m : Setting
-  m = machine_setting b room cells
-
+module _ (b : Machine) {at : Stage} {stack : List ℕ} (held : Held (machine_rows b) at stack) where
   abbrev o : Outline
   o = b.outline
 
@@ -90,16 +90,12 @@ module _ (b : Machine) (room cells : ℕ) {at : Stage} {stack : List ℕ} (held 
   abbrev below : List ℕ
   below = held_by stack (at.height - 1)
 
-  module _ (p : ℕ) (known : p < o.productions) where
-    abbrev Made : Turn → Type 0
-    Made = Reduction m (rows_of o table) p at.top below at.listed
+  module _ {p : ℕ} (known : p < o.productions) where
+    abbrev Made : (room cells : ℕ) → Turn → Type 0
+    Made room cells = Reduction (machine_setting b room cells) (rows_of o table) p at.top below at.listed
 
     abbrev left : ℕ
     left = get_or b.lefts p 0
-
-    -- the column of the left side
-    pub left_inside : o.tokens + 1 + left < columns_in o
-    left_inside = omega (arith, left_known b p known)
 
     -- the states that a reduction leaves
     stays : drop (get_or b.lengths p 0) (at.top ∷ below) ≡ held_by stack (at.height - get_or b.lengths p 0)
@@ -107,9 +103,9 @@ module _ (b : Machine) (room cells : ℕ) {at : Stage} {stack : List ℕ} (held 
         ap (drop (get_or b.lengths p 0)) (held_top stack at.height held.some held.top)
         ∙ drop_held stack (get_or b.lengths p 0) at.height
 
-    pub reduction_bare : at.height ≤ get_or b.lengths p 0 → Made (Finish (Stop Wants))
+    pub reduction_bare : (room cells : ℕ) → at.height ≤ get_or b.lengths p 0 → Made room cells (Finish (Stop Wants))
     unfolding setting_by
-    reduction_bare h =
+    reduction_bare room cells h =
         record { turns = λ c says. Turns.bare says (stays ∙ held_none stack (omega arith)) }
 
     abbrev base : ℕ
@@ -124,14 +120,14 @@ module _ (b : Machine) (room cells : ℕ) {at : Stage} {stack : List ℕ} (held 
       unfolding move_in
       moves_by = rw (lt-ltb left o.nonterminals (left_known b p known), move_in, read)
 
-      pub reduction_none : to ≡ 65535 → Made (Finish (Stop Wants))
+      pub reduction_none : (room cells : ℕ) → to ≡ 65535 → Made room cells (Finish (Stop Wants))
       unfolding setting_by move_of
-      reduction_none e = record { turns = λ c says. Turns.no_move says uncovers (moves_by ∙ rw e) }
+      reduction_none room cells e = record { turns = λ c says. Turns.no_move says uncovers (moves_by ∙ rw e) }
 
       module _ (filled : to ≢ 65535) where
         pub to_row : to < rows_of o table
         to_row =
-            by_fit b (search props) (get_or stack base 0) (o.tokens + 1 + left) (held.states base (omega arith)) left_inside
+            by_fit b (search props) (get_or stack base 0) (o.tokens + 1 + left) (held.states base (omega arith)) (left_inside b known)
             (λ x. go (subst (NumberFits o.tokens o.productions (rows_of o table) (o.tokens + 1 + left)) (sym read) x))
           where
             go : NumberFits o.tokens o.productions (rows_of o table) (o.tokens + 1 + left) to → to < rows_of o table
@@ -145,25 +141,25 @@ module _ (b : Machine) (room cells : ℕ) {at : Stage} {stack : List ℕ} (held 
         unfolding move_of
         moved = moves_by ∙ rw (ne_eqb to 65535 filled, move_of)
 
-        pub reduction_list_full : cells ≤ at.listed → Made (Finish (Stop FullList))
+        pub reduction_list_full : (room cells : ℕ) → cells ≤ at.listed → Made room cells (Finish (Stop FullList))
         unfolding setting_by
-        reduction_list_full h = record { turns = λ c says. Turns.list_full says uncovers moved h }
+        reduction_list_full room cells h = record { turns = λ c says. Turns.list_full says uncovers moved h }
 
-        pub reduction_stack_full : at.listed < cells → room ≤ base + 1 → Made (Finish (Stop FullStack))
+        pub reduction_stack_full : (room cells : ℕ) → at.listed < cells → room ≤ base + 1 → Made room cells (Finish (Stop FullStack))
         unfolding setting_by
-        reduction_stack_full h k =
+        reduction_stack_full room cells h k =
             record { turns = λ c says. Turns.stack_full says uncovers moved h (omega (arith, length_held stack base)) }
 
-        pub reduction_made : at.listed < cells → base + 1 < room → Made (Reduce p to base)
+        pub reduction_made : (room cells : ℕ) → at.listed < cells → base + 1 < room → Made room cells (Reduce p to base)
         unfolding setting_by
-        reduction_made h k =
+        reduction_made room cells h k =
             record {
               turns = λ c says. Turns.reduces says uncovers moved to_row h (omega (arith, length_held stack base)) (length_held stack base);
             }
 
   module _ {column number : ℕ} (low : column ≤ o.tokens) (is : number ≡ number_at o table at.top column) where
-    abbrev Told : Turn → Type 0
-    Told = Turns m (rows_of o table) (column_at o.tokens column) at.top below at.listed
+    abbrev Told : (room cells : ℕ) → Turn → Type 0
+    Told room cells = Turns (machine_setting b room cells) (rows_of o table) (column_at o.tokens column) at.top below at.listed
 
     token_says : column < o.tokens → action_in (numbers_of o) table at.top (token column) ≡ action_of number
     unfolding action_in
@@ -188,13 +184,13 @@ module _ (b : Machine) (room cells : ℕ) {at : Stage} {stack : List ℕ} (held 
     by_number : {X : Type 0} → IsProp X → (Fits → X) → X
     by_number one f = by_fit b one at.top column (top_row held) (omega arith) (λ x. f (rw is x))
 
-    pub turn_empty : number ≡ 65535 → Told (Finish (Stop Wants))
+    pub turn_empty : (room cells : ℕ) → number ≡ 65535 → Told room cells (Finish (Stop Wants))
     unfolding setting_by action_of
-    turn_empty e = Turns.empty (says ∙ rw e)
+    turn_empty room cells e = Turns.empty (says ∙ rw e)
 
-    pub turn_accept : number ≡ 1023 → Told (Finish Accept)
+    pub turn_accept : (room cells : ℕ) → number ≡ 1023 → Told room cells (Finish Accept)
     unfolding setting_by action_of
-    turn_accept e = Turns.accepts (says ∙ rw e) (under_end o.tokens column (by_number (search props) go))
+    turn_accept room cells e = Turns.accepts (says ∙ rw e) (under_end o.tokens column (by_number (search props) go))
       where
         go : Fits → column ≡ o.tokens
         go (empty f) = absurd (omega arith)
@@ -219,14 +215,14 @@ module _ (b : Machine) (room cells : ℕ) {at : Stage} {stack : List ℕ} (held 
       unfolding code_of
       shift_said = says ∙ code_action (coded_shift small)
 
-      pub turn_shift : at.height < room → Told (Finish (Shift number))
+      pub turn_shift : (room cells : ℕ) → at.height < room → Told room cells (Finish (Shift number))
       unfolding setting_by
-      turn_shift h =
+      turn_shift room cells h =
           Turns.shifts shift_said (under_token o.tokens column shift_fits.0) shift_fits.1 (omega (arith, held.some, length_held stack (at.height - 1)))
 
-      pub turn_shift_full : room ≤ at.height → Told (Finish (Stop FullStack))
+      pub turn_shift_full : (room cells : ℕ) → room ≤ at.height → Told room cells (Finish (Stop FullStack))
       unfolding setting_by
-      turn_shift_full h =
+      turn_shift_full room cells h =
           Turns.shift_full shift_said (under_token o.tokens column shift_fits.0) (omega (arith, held.some, length_held stack (at.height - 1)))
 
     module _ (large : 512 ≤ number) (filled : number ≢ 65535) (other : number ≢ 1023) where
@@ -247,8 +243,8 @@ module _ (b : Machine) (room cells : ℕ) {at : Stage} {stack : List ℕ} (held 
           let fits_code : number - 512 < 511 = omega (arith, reduce_known, b.few_productions) in
           says ∙ ap action_of (sym whole) ∙ code_action (coded_reduce fits_code)
 
-      pub turn_reduce : {r : Turn}
-          → Reduction m (rows_of o table) (number - 512) at.top below at.listed r
-          → Told r
+      pub turn_reduce : (room cells : ℕ) {r : Turn}
+          → Reduction (machine_setting b room cells) (rows_of o table) (number - 512) at.top below at.listed r
+          → Told room cells r
       unfolding setting_by
-      turn_reduce made = made.turns (column_at o.tokens column) (reduce_said)
+      turn_reduce room cells made = made.turns (column_at o.tokens column) (reduce_said)

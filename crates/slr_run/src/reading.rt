@@ -6,8 +6,8 @@ ghost use Rattle.slr_run.specs.Stages.{setting_by, number_at, Grounds};
 use crate::checking::columns_of;
 use book::columns::Outline;
 
-// A table whose numbers fit the book's T, N and P, and the left side and the length of each production; there are so few
-// productions that the number of no reduction is `ACCEPT`.
+// A table whose numbers fit the book's T, N and P, and the left side and the length of each production: so few that the
+// number of no reduction is `ACCEPT`.
 #[derive(Drop)]
 pub(crate) struct Machine<'t> {
     pub table: &'t [u16],
