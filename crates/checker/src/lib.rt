@@ -16,7 +16,9 @@ use table::fitting::check_table;
 mod contests;
 mod differences;
 
-// A table that fits its book, by the lookaheads: the first conflict, else the first cell that differs, else none.
+// A table that fits its book, by the lookaheads: the first conflict, else the first cell that differs, else none. Its
+// frame is its own, so that the claims are on the stack only while they are compared.
+#[inline(never)]
 fn compare(book: &[u8], index: &Index, ahead: &[u64], table: &[u8]) -> Result<(), Answer>
     requires { Comparable book.now index.now ahead.now table.now }
     ensures { CheckOutcome book.now table.now (told result) }

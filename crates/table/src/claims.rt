@@ -106,7 +106,9 @@ fn refused(contest: Contest) -> Answer
     )
 }
 
-// Every claim is laid on vacant cells, enough for the table and at most N, which are written if none is contested.
+// Every claim is laid on vacant cells, enough for the table and at most N, which are written if none is contested. Its
+// frame is its own, so that the cells are on the stack only while it runs.
+#[inline(never)]
 fn tabulate<const N: usize>(
     book: &[u8],
     index: &Index,
