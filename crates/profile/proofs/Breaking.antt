@@ -18,7 +18,7 @@ use Rattle.book.specs.declared.Index.{Index}
 use Rattle.book.specs.Columns.{grammar_in}
 use Rattle.book.specs.Judging.{Indexes}
 use Rattle.book.proofs.Promise.{reading_grammar}
-use Rattle.profile.specs.Breaking.{Shared, BreaksAt, PlainRefused, refused, unfit}
+use Rattle.profile.specs.Breaking.{Shared, BreaksAt, PlainRefused, unfit}
 use Rattle.profile.specs.Entering.{PlainBook}
 use Rattle.profile.specs.Plain.{PlainOutcome}
 use Rattle.profile.specs.Plain as plain
@@ -96,5 +96,4 @@ pub plain_fits : {book : List ℕ} {i : Index} → PlainBook book i → PlainOut
 plain_fits x = plain.fits x.given.serves x.plain
 
 pub refused_plain : {book : List ℕ} {a : Answer} → PlainRefused book a → PlainOutcome book a
-refused_plain (refused r) = plain.refused r
 refused_plain (unfit s l) = plain.unfit s l

@@ -30,7 +30,6 @@ use Rattle.profile.specs.Plain as plain
 pub told_refused : {book tokens stack list : List ℕ} {a : Answer}
     → PlainRefused book a
     → PlainRunOutcome book tokens stack list a stack list
-told_refused (breaking.refused r) = plain.refused r
 told_refused (breaking.unfit s l) = plain.unfit s l
 
 -- the grammar of a plain book is what its index finds

@@ -1,4 +1,4 @@
--- What is found of one production by the columns of an index, and what the profile of a reading comes to.
+-- What is found of one production by the columns of an index, and what the profile of a judged book comes to.
 -- Request W14. Only contracts inside the crate cite what stands here.
 use Rattle.std.specs.Prelude.{◌≡◌, Bool, Result, MatchResult, ⊤, List, ℕ, ◌<◌, get_or}
 use Rattle.grammar.specs.Grammar.{Grammar}
@@ -9,7 +9,7 @@ use Rattle.answers.specs.Answers.{refusal}
 use Rattle.answers.specs.Refusals.{profile}
 use Rattle.book.specs.declared.Index.{Index}
 use Rattle.book.specs.Columns.{grammar_in, Lefts, Lengths, Heads}
-use Rattle.book.specs.Judging.{Refuses, Serves}
+use Rattle.book.specs.Judging.{Serves}
 use Rattle.profile.specs.Entering.{PlainBook}
 
 -- two productions have the same left side and the same first byte
@@ -33,9 +33,8 @@ pub record BreaksAt (lefts lengths heads : List ℕ) (p : ℕ) (r : Bool) : Type
       → ((q : ℕ) → q < p → ¬ Breaks (grammar_in book i) q)
       → Decides r (Breaks (grammar_in book i) p)
 
--- the refusal 1 to 6, or 21 at the lowest production that breaks the profile
+-- refusal 21 at the lowest production that breaks the profile
 pub data PlainRefused (book : List ℕ) : Answer → Type 0 where
-  refused : {a : Answer} → Refuses book a → PlainRefused book a
   unfit : {g : Grammar} {p : ℕ} → Serves book g → LowestBreak g p → PlainRefused book (refusal profile p 0)
 
 -- a judged book is plain, or what it is refused with
