@@ -23,13 +23,10 @@ pub fn find_first(book: &[u8], first: &mut [u64; 64]) -> Result<Index, Answer>
 {
     *first = [0u64; 64];
     let judged = judge(book);
-    match &judged {
-        Ok(index) => {
-            firsts(book, index, first);
-            judged
-        }
-        Err(_) => judged,
+    if let Ok(index) = &judged {
+        firsts(book, index, first);
     }
+    judged
 }
 
 // FIRST of a symbol string, and how many of its leading symbols can vanish.

@@ -29,13 +29,10 @@ fn find_sets(book: &[u8], first: &mut [u64; 64], follow: &mut [u64; 64]) -> Resu
     ensures { SetsFound book.now result first.new follow.new }
 {
     let found = find_first(book, first);
-    match &found {
-        Ok(index) => {
-            follows(book, index, first, follow);
-            found
-        }
-        Err(_) => found,
+    if let Ok(index) = &found {
+        follows(book, index, first, follow);
     }
+    found
 }
 
 // The sets of a book with room for them, or the refusal.
@@ -80,13 +77,10 @@ pub fn work_out(
     *follow = [0u64; 64];
     *ahead = [0u64; 128];
     let found = find_sets(book, first, follow);
-    match &found {
-        Ok(index) => {
-            fill_ahead(book, index, first, follow, ahead);
-            found
-        }
-        Err(_) => found,
+    if let Ok(index) = &found {
+        fill_ahead(book, index, first, follow, ahead);
     }
+    found
 }
 
 // The lookahead of a production, and how many leading symbols of its right side can vanish: all of them exactly where

@@ -10,5 +10,5 @@ firsts-requires c = (given_readable (rw c.in-Ok.is at c.judge-judged.ensures), r
 pub returns-in-Ok : goal.returns-in-Ok
 returns-in-Ok c = rw c.in-Ok.is (found_first (rw c.in-Ok.is at c.judge-judged.ensures) c.firsts.ensures)
 
-pub returns-in-Err : goal.returns-in-Err
-returns-in-Err c = rw c.in-Err.is (rw c.in-Err.is at c.judge-judged.ensures, refl)
+pub returns-in_default : goal.returns-in_default
+returns-in_default c = rw c.in_default.is (rw c.in_default.is at c.judge-judged.ensures, refl)

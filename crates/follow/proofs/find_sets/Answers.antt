@@ -12,7 +12,7 @@ follows-requires c =
 pub returns-in-Ok : goal.returns-in-Ok
 returns-in-Ok c = rw c.in-Ok.is (found_sets (rw c.in-Ok.is at c.find_first-found.ensures) c.follows.ensures)
 
-pub returns-in-Err : goal.returns-in-Err
-returns-in-Err c =
-    let refused = rw c.in-Err.is at c.find_first-found.ensures in
-    rw c.in-Err.is (refused.0, refused.1, c.requires)
+pub returns-in_default : goal.returns-in_default
+returns-in_default c =
+    let refused = rw c.in_default.is at c.find_first-found.ensures in
+    rw c.in_default.is (refused.0, refused.1, c.requires)

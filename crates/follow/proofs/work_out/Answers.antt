@@ -12,7 +12,7 @@ fill_ahead-requires c =
 pub returns-in-Ok : goal.returns-in-Ok
 returns-in-Ok c = rw c.in-Ok.is (found_worked_out (rw c.in-Ok.is at c.find_sets-found.ensures) c.fill_ahead.ensures)
 
-pub returns-in-Err : goal.returns-in-Err
-returns-in-Err c =
-    let refused = rw c.in-Err.is at c.find_sets-found.ensures in
-    rw c.in-Err.is (refused.0, refused.1, refused.2, refl)
+pub returns-in_default : goal.returns-in_default
+returns-in_default c =
+    let refused = rw c.in_default.is at c.find_sets-found.ensures in
+    rw c.in_default.is (refused.0, refused.1, refused.2, refl)
