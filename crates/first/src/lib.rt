@@ -17,7 +17,8 @@ mod first;
 pub mod forms;
 
 // FIRST of each nonterminal, in a family that is cleared first; with a refusal it stays so. Here and below the index is
-// borrowed where it is found, and not moved by `?`, which keeps the stack low.
+// borrowed where it is found, and not moved by `?`, nor copied for a call, which keeps the stack low.
+#[inline(always)]
 pub fn find_first(book: &[u8], first: &mut [u64; 64]) -> Result<Index, Answer>
     ensures { FirstWorkedOut book.now result first.new }
 {

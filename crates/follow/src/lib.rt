@@ -11,7 +11,7 @@ ghost use Rattle.follow.specs.Walks.{SetsFound};
 use crate::ahead::{fill_ahead, lookahead_at};
 use crate::checks::{numbered, sets_room};
 use crate::follow::follows;
-use answers::buffers::write_front;
+use answers::buffers::{cell_or, write_front};
 use answers::{Answer, told};
 use book::Index;
 use first::find_first;
@@ -23,7 +23,8 @@ mod follow;
 mod tails;
 
 // FIRST and FOLLOW of each nonterminal; with a refusal neither family has a member. Here and below the index is borrowed
-// where it is found, and not moved by `?`, which keeps the stack low.
+// where it is found, and not moved by `?`, nor copied for a call, which keeps the stack low.
+#[inline(always)]
 fn find_sets(book: &[u8], first: &mut [u64; 64], follow: &mut [u64; 64]) -> Result<Index, Answer>
     requires { follow.old ≡ replicate most_nonterminals 0 }
     ensures { SetsFound book.now result first.new follow.new }
@@ -93,7 +94,7 @@ pub fn lookahead(book: &[u8], production: u64) -> Result<Trail, Answer>
     match &find_sets(book, &mut begins, &mut ends) {
         Ok(index) => {
             numbered(production, index.outline.productions)?;
-            let place = index.places[production as usize];
+            let place = cell_or(&index.places, production as usize, 0);
             Ok(lookahead_at(book, place, &begins, &ends))
         }
         Err(refused) => Err(*refused),

@@ -1,8 +1,7 @@
 -- The number decides between a refusal and the lookahead.
 use mathlib.Core.Path.{sym}
-use native.Mathlib.Omega.{arith}
 use Rattle.std.proofs.lemmas.Result.{err_from_is_err_and}
-use Rattle.first.proofs.Promise.{given_readable, given_count}
+use Rattle.first.proofs.Promise.{given_readable}
 use Rattle.follow.specs.Calls.{refused}
 use Rattle.follow.proofs.Served.{lookahead_refused, lookahead_served}
 use Rattle.follow.proofs.lookahead.Goals as goal
@@ -18,11 +17,6 @@ returns-in_err-numbered-in-Ok c =
     let p = err_from_is_err_and c.from_residual.result c.from_residual.ensures.1 in
     rw (p.1, p.2) (lookahead_refused found c.in_err-numbered-in-Ok.ensures)
 
-pub bounds-index-production : goal.bounds-index-production
-bounds-index-production c =
-    let found = rw c.in-Ok.is at c.find_sets.ensures in
-    omega (arith, given_count found.given, c.in_ok-numbered-in-Ok.ensures)
-
 pub slice_bounds-lookahead_at-end : goal.slice_bounds-lookahead_at-end
 slice_bounds-lookahead_at-end c =
     let found = rw c.in-Ok.is at c.find_sets.ensures in
@@ -36,9 +30,9 @@ slice_bounds-lookahead_at-end-in-Ok c =
 pub lookahead_at-requires : goal.lookahead_at-requires
 lookahead_at-requires c =
     let found = rw c.in-Ok.is at c.find_sets.ensures in
-    (given_readable found.given).each _ c.in_ok-numbered-in-Ok.ensures
+    rw c.cell_or-place.ensures ((given_readable found.given).each _ c.in_ok-numbered-in-Ok.ensures)
 
 pub returns-in_ok-numbered-in-Ok : goal.returns-in_ok-numbered-in-Ok
 returns-in_ok-numbered-in-Ok c =
     let found = rw c.in-Ok.is at c.find_sets.ensures in
-    lookahead_served found c.in_ok-numbered-in-Ok.ensures c.lookahead_at.ensures
+    lookahead_served found c.in_ok-numbered-in-Ok.ensures (rw c.cell_or-place.ensures at c.lookahead_at.ensures)
