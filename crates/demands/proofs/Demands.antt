@@ -1,5 +1,5 @@
 -- The demands, one page: a call that keeps its promise meets them, each theorem under the sentence that it proves.
-use Rattle.std.specs.Prelude.{Result}
+use Rattle.std.specs.Prelude.{Result, Ok}
 use mathlib.Core.Path.{◌≡◌, refl, ap, ◌∙◌}
 use mathlib.Core.Logic.{◌↔◌, ◌⊎◌, ◌≢◌}
 use mathlib.Core.List.{List, [], ◌∷◌}
@@ -34,7 +34,7 @@ use Rattle.demands.specs.Depth.{RunDepth, ExpandDepth}
 use Rattle.demands.specs.Formula.{RunWithinFormula}
 use Rattle.demands.specs.Examples.{Given}
 use Rattle.demands.specs.ChainExample.{chain_book, chain_table, long_run, low_run, listless_run}
-use Rattle.demands.specs.Offers.{tokens_in, start_on, at_start, OfferedInTurn, deepest_of, MakesRun}
+use Rattle.demands.specs.Offers.{start_on, at_start, OfferedInTurn, deepest_of, MakesRun}
 use Rattle.demands.proofs.BuildDemands.{done_exactly, conflict_exactly, done_exactly_if}
 use Rattle.demands.proofs.ExpandDemands.{ends_moves, done_complete, done_exact, unfit_exact, unfit_place}
 use Rattle.demands.proofs.ExpandDemands.{expands_to, complete_room_iff}
@@ -324,11 +324,11 @@ module _ (book table : List ℕ) where
 
 module _ (book : List ℕ) (reading : Result Index Answer) (table tokens stack list : List ℕ) where
   -- offers make a run: with the start symbol on the stack, an offer for each token and then one of the end mark give
-  -- what a run on the judged book gives, for any reading and table, a string of the book's tokens that can be counted
+  -- what a run on the judged book gives, for any reading and table, a string of its tokens that can be counted
   -- and a stack cell; its depth is the greatest that any of the offers tells
   pub offers_run : 1 ≤ length stack
       → length tokens ≤ most_cells
-      → ((i : ℕ) → i < length tokens → get_or tokens i 0 < tokens_in reading)
+      → ((index : Index) → reading ≡ Ok index → (i : ℕ) → i < length tokens → get_or tokens i 0 < index.outline.tokens)
       → {r : Reply} {s l : List ℕ}
       → (turn : OfferedInTurn book reading table tokens at_start (start_on reading stack) list r s l)
       → {a : Answer} {stack' list' : List ℕ}

@@ -42,7 +42,7 @@ use Rattle.offer.specs.Reply.{Reply}
 use Rattle.offer.proofs.Promise.{offer_outcome_unique}
 use Rattle.run.specs.Judged.{JudgedRun, RanOn, ran_on}
 use Rattle.run.specs.Judged as judged
-use Rattle.demands.specs.Offers.{tokens_in, start_on, at_start, OfferedInTurn, at_end, stops, goes_on, deepest_of, MakesRun}
+use Rattle.demands.specs.Offers.{start_on, at_start, OfferedInTurn, at_end, stops, goes_on, deepest_of, MakesRun}
 use Rattle.demands.proofs.Height.{Alike, AlikeEnds, both_taken, both_stopped, alike_final, run_alike}
 
 -- every right side of a book is spelled by its bytes
@@ -463,7 +463,7 @@ module _ {book : List ℕ} {answer : Answer} {table : List ℕ} where
 pub offers_made : (book : List ℕ) (reading : Result Index Answer) (table tokens stack list : List ℕ)
     → 1 ≤ length stack
     → length tokens ≤ most_cells
-    → ((i : ℕ) → i < length tokens → get_or tokens i 0 < tokens_in reading)
+    → ((index : Index) → reading ≡ Ok index → (i : ℕ) → i < length tokens → get_or tokens i 0 < index.outline.tokens)
     → {r : Reply} {s l : List ℕ}
     → (turn : OfferedInTurn book reading table tokens at_start (start_on reading stack) list r s l)
     → {a : Answer} {stack' list' : List ℕ}
@@ -473,7 +473,7 @@ offers_made book (Ok index) table tokens stack list some_cell short known turn (
     let bad : ◌≡◌ {A = ℕ} 0 1 = cc in absurd (omega arith)
 offers_made book (Ok index) table tokens stack list some_cell short known turn {a} {stack'} {list'} (ran_on {index = other} e on) =
     let same : other ≡ index = cc in
-    made_ran book index table tokens stack list some_cell short known turn
+    made_ran book index table tokens stack list some_cell short (known index refl) turn
     (subst (λ (x : Index). RanOn (grammar_in book x) table tokens stack list a stack' list') same on)
 offers_made book (Err answer) table tokens stack list some_cell short known turn (judged.refused {answer = other} e) =
     let same : other ≡ answer = cc in rw same (made_refused turn)

@@ -91,8 +91,9 @@ pub fn lookahead(book: &[u8], production: u64) -> Result<Trail, Answer>
 {
     let mut begins = [0u64; 64];
     let mut ends = [0u64; 64];
-    match &find_sets(book, &mut begins, &mut ends) {
+    match &find_first(book, &mut begins) {
         Ok(index) => {
+            follows(book, index, &begins, &mut ends);
             numbered(production, index.outline.productions)?;
             let place = cell_or(&index.places, production as usize, 0);
             Ok(lookahead_at(book, place, &begins, &ends))
