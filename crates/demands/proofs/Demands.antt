@@ -337,8 +337,8 @@ module _ (book : List ℕ) (reading : Result Index Answer) (table tokens stack l
   offers_run some_cell short known turn = offers_made book reading table tokens stack list some_cell short known turn
 
 -- and offers in turn allow one outcome
-pub offers_unique : {book : List ℕ} {reading : Result Index Answer} {table tokens : List ℕ} {at : Progress} {stack list : List ℕ}
-    {r q : Reply} {s l t m : List ℕ}
+pub offers_unique : {book : List ℕ} {reading : Result Index Answer} {table tokens : List ℕ} {at : Progress}
+    {stack list : List ℕ} {r q : Reply} {s l t m : List ℕ}
     → OfferedInTurn book reading table tokens at stack list r s l
     → OfferedInTurn book reading table tokens at stack list q t m
     → ◌≡◌ {A = OfferResult} (r, s, l) (q, t, m)

@@ -3,7 +3,8 @@
 // all else, and nothing changes.
 #![tactic(auto)]
 
-ghost use Rattle.desk.specs.Desk.{JudgeOutcome, JudgeCall, SetsCall, BuildCall, RunCall, ExpandCall, LookaheadCall, FirstCall};
+ghost use Rattle.desk.specs.Desk.{JudgeOutcome, JudgeCall, SetsCall, BuildCall, RunCall, ExpandCall};
+ghost use Rattle.desk.specs.Desk.{LookaheadCall, FirstCall};
 ghost use Rattle.desk.specs.Desk.{PatternsCall, CutCall, CutWithCall, CheckCall, SlrRunCall};
 ghost use Rattle.desk.specs.Plain.{PlainCall, PlainRunCall};
 

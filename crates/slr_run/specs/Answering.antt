@@ -24,7 +24,10 @@ pub record Expects (o : Outline) (table : List ℕ) (state : ℕ) (r : Set) : Ty
 
 -- the values of the outcome that a reply tells of, and the answer to it
 pub record Values (o : Outline) (table : List ℕ) (reply : Reply) (r : Answer) : Type 0 where
-  pub values : (g : Grammar) → Outlines o g → (stack list : List ℕ) → r ≡ slr_values g table (outcome_in reply stack list)
+  pub values : (g : Grammar)
+      → Outlines o g
+      → (stack list : List ℕ)
+      → r ≡ slr_values g table (outcome_in reply stack list)
 
 pub record Answers (o : Outline) (table : List ℕ) (reply : Reply) (r : Answer) : Type 0 where
   pub answer : (g : Grammar)

@@ -22,7 +22,12 @@ impl<'t> Machine<'t> {
     ghost use Rattle.slr_run.specs.Machines.{machine_rows, machine_setting};
 
     // The machine of a checked table and of the productions that go with it.
-    pub fn new(table: &'t [u16], outline: Outline, lefts: [u8; 256], lengths: [u8; 256]) -> Self
+    pub(crate) fn new(
+        table: &'t [u16],
+        outline: Outline,
+        lefts: [u8; 256],
+        lengths: [u8; 256],
+    ) -> Self
         requires { Grounds outline table.now lefts }
         ensures outline { result.outline ≡ outline }
         ensures setting { (room cells : ℕ)
@@ -37,7 +42,7 @@ impl<'t> Machine<'t> {
     }
 
     // The number in the cell of a state and a column.
-    pub fn number(&self, state: u8, column: usize) -> u16
+    pub(crate) fn number(&self, state: u8, column: usize) -> u16
         requires { (state < machine_rows self.now) × (column < columns_in self.now.outline) }
         ensures { result ≡ number_at self.now.outline self.now.table.now state column }
     {
