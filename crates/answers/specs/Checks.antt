@@ -1,10 +1,8 @@
 -- Checks that go one after the other, each with the refusal that it gives: the first that stops is the answer.
 -- Document 01, "Refusals and their numbers".
-use Rattle.std.specs.Prelude.{ℕ, ◌≤◌, ◌<◌, ⊤, Result, MatchResult}
+use Rattle.std.specs.Prelude.{◌≡◌, ℕ, ◌≤◌, ◌<◌, ⊤, Result, Ok, Err, MatchResult}
 use Rattle.answers.specs.declared.Answer.{Answer}
 use Rattle.answers.specs.Answers.{refusal}
-use Rattle.answers.specs.Refusals.{detail_of}
-use Rattle.answers.specs.declared.refusals.Lent.{Lent}
 use Rattle.answers.specs.Refusals as refusals
 
 -- this answer, for this reason
@@ -24,6 +22,11 @@ Lacking have want detail = Because (have < want) (refusal refusals.room want det
 abbrev pub Tested : (Bad : Answer → Type 0) (Good : Type 0) → Result ⊤ Answer → Type 0
 Tested Bad Good r = MatchResult r (λ _. Good) Bad
 
+-- and the check after another one: what that one stopped with passes through
+pub data Checked (before : Result ⊤ Answer) (Bad : Answer → Type 0) (Good : Type 0) : Result ⊤ Answer → Type 0 where
+  passes : {a : Answer} → before ≡ Err a → Checked before Bad Good (Err a)
+  goes : {r : Result ⊤ Answer} → before ≡ Ok tt → Tested Bad Good r → Checked before Bad Good r
+
 -- the check that what is lent has room for so many cells
-abbrev pub RoomTested : (have want : ℕ) → Lent → Result ⊤ Answer → Type 0
-RoomTested have want lent = Tested (Lacking have want (detail_of lent)) (want ≤ have)
+abbrev pub RoomTested : (have want detail : ℕ) → Result ⊤ Answer → Type 0
+RoomTested have want detail = Tested (Lacking have want detail) (want ≤ have)

@@ -3,15 +3,16 @@ ghost use Rattle.std.specs.Prelude.{◌≡◌, slice_index_or};
 ghost use Rattle.answers.specs.Buffers.{written};
 ghost use Rattle.answers.specs.Checks.{RoomTested};
 
-use crate::refusals::{Lent, Refusal};
+use crate::refusals::{Detailed, Refusal};
 use crate::{Answer, refusal};
 
 // A buffer has room for so many cells.
-pub fn check_room(have: usize, want: usize, lent: Lent) -> Result<(), Answer>
-    ensures { RoomTested have want lent result }
+pub fn check_room<D: Detailed>(have: usize, want: usize, lent: D) -> Result<(), Answer>
+    ensures { RoomTested have want (D.detailed lent) result }
 {
+    let detail = lent.told_detail();
     if have < want {
-        Err(refusal(Refusal::Room, want as u64, lent.detail()))
+        Err(refusal(Refusal::Room, want as u64, detail))
     } else {
         Ok(())
     }

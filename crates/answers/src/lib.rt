@@ -3,9 +3,9 @@
 
 ghost use Rattle.std.specs.Prelude.{◌≡◌};
 ghost use Rattle.answers.specs.Answers as answers;
-ghost use Rattle.answers.specs.Refusals.{number_of, served};
+ghost use Rattle.answers.specs.Refusals.{served};
 
-use crate::refusals::{DONE, Refusal};
+use crate::refusals::{DONE, Numbered};
 use sets::{Set, none};
 
 pub mod buffers;
@@ -38,19 +38,19 @@ pub fn done(steps: u64) -> Answer
     }
 }
 
-// Refused before any step.
-pub fn refusal(why: Refusal, place: u64, detail: u64) -> Answer
-    ensures { result ≡ answers.refusal (number_of why) place detail }
+// Refused before any step, by the name of the refusal or by its number.
+pub fn refusal<W: Numbered>(why: W, place: u64, detail: u64) -> Answer
+    ensures { result ≡ answers.refusal (W.numbered why) place detail }
 {
     stop(why, place, detail, 0, none())
 }
 
 // Refused in steps. The depth is 0, as in the two above, until it is told by `at_depth`.
-pub fn stop(why: Refusal, place: u64, detail: u64, steps: u64, expected: Set) -> Answer
-    ensures { result ≡ answers.stop (number_of why) place detail steps expected }
+pub fn stop<W: Numbered>(why: W, place: u64, detail: u64, steps: u64, expected: Set) -> Answer
+    ensures { result ≡ answers.stop (W.numbered why) place detail steps expected }
 {
     Answer {
-        number: why.number(),
+        number: why.told_number(),
         place,
         detail,
         expected,

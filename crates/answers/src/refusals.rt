@@ -1,5 +1,5 @@
 // The papers' tables of refusals, and the details of refusal 7.
-ghost use Rattle.std.specs.Prelude.{◌≡◌};
+ghost use Rattle.std.specs.Prelude.{◌≡◌, ℕ};
 ghost use Rattle.answers.specs.Refusals.{number_of, detail_of};
 
 // The number of an answer that refuses nothing.
@@ -37,6 +37,30 @@ impl Refusal {
     }
 }
 
+// What tells the number of a refusal: its name, or the number itself.
+pub trait Numbered {
+    ghost numbered: { Self → ℕ };
+
+    fn told_number(self) -> u32
+        ensures { result ≡ numbered self };
+}
+
+impl Numbered for Refusal {
+    ghost numbered = { number_of };
+
+    fn told_number(self) -> u32 {
+        self.number()
+    }
+}
+
+impl Numbered for u32 {
+    ghost numbered = { λ number. number };
+
+    fn told_number(self) -> u32 {
+        self
+    }
+}
+
 // What is lent, of which refusal 7 finds one too short: the last two where a line is cut.
 #[derive(Clone, Copy, PartialEq, Eq, Debug)]
 pub enum Lent {
@@ -65,5 +89,29 @@ impl Lent {
             Lent::Machine => 1,
             Lent::Tokens => 2,
         }
+    }
+}
+
+// What tells a detail of refusal 7: what is lent, or the detail itself.
+pub trait Detailed {
+    ghost detailed: { Self → ℕ };
+
+    fn told_detail(self) -> u64
+        ensures { result ≡ detailed self };
+}
+
+impl Detailed for Lent {
+    ghost detailed = { detail_of };
+
+    fn told_detail(self) -> u64 {
+        self.detail()
+    }
+}
+
+impl Detailed for u64 {
+    ghost detailed = { λ detail. detail };
+
+    fn told_detail(self) -> u64 {
+        self
     }
 }

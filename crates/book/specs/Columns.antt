@@ -28,6 +28,10 @@ outlined book places o =
       productions = productions_from book places o.productions 0;
     }
 
+-- the index of so many places, whoever wrote them, and these numbers
+abbrev pub located : (places : List ℕ) → Outline → Index
+located places o = record { outline = o; places = places }
+
 -- the grammar that an index tells of
 abbrev pub grammar_in : List ℕ → Index → Grammar
 grammar_in book i = outlined book i.places i.outline

@@ -1,11 +1,10 @@
 // The columns of an index: by production its left side, its right side's length and first byte.
 ghost use Rattle.std.specs.Prelude.{◌≡◌, ◌+◌, ◌*◌, get_or};
 ghost use Rattle.sets.specs.Calls.{Decides};
-ghost use Rattle.book.specs.Columns.{Gathered, Lefts, Lengths, Heads, IsOf};
+ghost use Rattle.book.specs.Columns.{located, Gathered, Lefts, Lengths, Heads, IsOf};
 
-use crate::Index;
 use answers::buffers::cell_or;
-use reader::fields::{LEFT, LENGTH, SYMBOLS, byte_at};
+use reader::fields::{LEFT, LENGTH, SYMBOLS, byte_at, place_at};
 
 // T, N, the start symbol and P.
 #[derive(Clone, Copy, PartialEq, Eq, Debug)]
@@ -33,36 +32,35 @@ impl Outline {
 }
 
 // The byte that stands at distance `more` in the record of each production, by the production's number; 0 from P on.
-fn gather(book: &[u8], index: &Index, more: usize) -> [u8; 256]
-    ensures { Gathered (λ at. get_or book.now (at + more) 0)
-        index.now.places index.now.outline.productions result }
+fn gather(book: &[u8], places: &[u16], count: u8, more: usize) -> [u8; 256]
+    ensures { Gathered (λ at. get_or book.now (at + more) 0) places.now count result }
 {
     let mut column = [0u8; 256];
-    for p in 0..index.outline.productions as usize {
-        column[p] = byte_at(book, cell_or(&index.places, p, 0) as usize, more);
+    for p in 0..count as usize {
+        column[p] = byte_at(book, place_at(places, p) as usize, more);
     }
     column
 }
 
 // The left side of each production.
-pub fn gather_lefts(book: &[u8], index: &Index) -> [u8; 256]
-    ensures { Lefts book.now index.now result }
+pub fn gather_lefts(book: &[u8], places: &[u16], outline: Outline) -> [u8; 256]
+    ensures { Lefts book.now (located places.now outline) result }
 {
-    gather(book, index, LEFT)
+    gather(book, places, outline.productions, LEFT)
 }
 
 // The length of the right side of each production.
-pub fn gather_lengths(book: &[u8], index: &Index) -> [u8; 256]
-    ensures { Lengths book.now index.now result }
+pub fn gather_lengths(book: &[u8], places: &[u16], outline: Outline) -> [u8; 256]
+    ensures { Lengths book.now (located places.now outline) result }
 {
-    gather(book, index, LENGTH)
+    gather(book, places, outline.productions, LENGTH)
 }
 
 // The byte where the symbols of each production start; of an empty right side what stands behind it.
-pub fn gather_heads(book: &[u8], index: &Index) -> [u8; 256]
-    ensures { Heads book.now index.now result }
+pub fn gather_heads(book: &[u8], places: &[u16], outline: Outline) -> [u8; 256]
+    ensures { Heads book.now (located places.now outline) result }
 {
-    gather(book, index, SYMBOLS)
+    gather(book, places, outline.productions, SYMBOLS)
 }
 
 // Whether p is one of the productions, and its left side is nonterminal n.

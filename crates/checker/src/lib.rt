@@ -45,7 +45,7 @@ fn check_all(book: &[u8], table: &[u8], first: &mut [u64; 64]) -> Result<(), Ans
         Ok(index) => index,
         Err(refused) => return Err(*refused),
     };
-    match check_table(book, index, table) {
+    match check_table(book, &index.places, index.outline, table) {
         Ok(()) => compare(book, index, &ahead, table),
         Err(place) => Err(refusal(Refusal::Table, place as u64, 0)),
     }

@@ -42,7 +42,7 @@ use Rattle.offer.specs.Reply.{Reply}
 use Rattle.offer.proofs.Promise.{offer_outcome_unique}
 use Rattle.run.specs.Judged.{JudgedRun, RanOn, ran_on}
 use Rattle.run.specs.Judged as judged
-use Rattle.demands.specs.Offers.{start_on, at_start, OfferedInTurn, at_end, stops, goes_on, deepest_of, MakesRun}
+use Rattle.demands.specs.Offers.{grammar_on, start_on, at_start, OfferedInTurn, at_end, stops, goes_on, deepest_of, MakesRun}
 use Rattle.demands.proofs.Height.{Alike, AlikeEnds, both_taken, both_stopped, alike_final, run_alike}
 
 -- every right side of a book is spelled by its bytes
@@ -392,6 +392,7 @@ module _ (book : List ℕ) (index : Index) (table : List ℕ) where
         record {
           answer = sym (ap (λ (n : ℕ). at_depth n (values_of g table r)) deepest ∙ raised_answer g table start_ran (deepest_of turn) (values_of g table r) c.answer);
           list = sym (c.lists ∙ ap (λ (ps : List ℕ). over ps list) (alike_final start_ran).listed);
+          refused = λ e. let bad : ◌≡◌ {A = ℕ} 0 1 = cc in absurd (omega arith);
           stack_cleared = λ e. ap (λ (n : ℕ). replicate n 0) (sym (c.stack_length ∙ same));
           stack_kept = λ e. let bad : ◌≡◌ {A = ℕ} 0 1 = cc in absurd (omega arith);
         }
@@ -416,6 +417,12 @@ module _ (book : List ℕ) (reading : Result Index Answer) (table : List ℕ) wh
       let left : ◌≡◌ {A = Progress × List ℕ × List ℕ} (x, s₁, l₁) (y, t₁, m₁) = λ i. (there i, (same i).1, (same i).2) in
       turn_unique rest
       (subst (λ (z : Progress × List ℕ × List ℕ). OfferedInTurn book reading table w z.0 z.1 z.2 q t m) (sym left) more)
+
+refused_as : {r : Reply} {answer other : Answer}
+    → r ≡ Err (Refused answer)
+    → ◌≡◌ {A = Result Index Answer} (Err answer) (Err other)
+    → r ≡ Err (Refused other)
+refused_as {r} {answer} {other} reply e = let same : answer ≡ other = cc in rw (← same) reply
 
 -- on a book that was refused the first offer is the last
 module _ {book : List ℕ} {answer : Answer} {table : List ℕ} where
@@ -451,10 +458,14 @@ module _ {book : List ℕ} {answer : Answer} {table : List ℕ} where
   made_refused : {w : List ℕ} {at : Progress} {stack list : List ℕ} {r : Reply} {s l : List ℕ}
       → (turn : OfferedInTurn book (Err answer) table w at (start_on (Err answer) stack) list r s l)
       → MakesRun book (Err answer) table stack r (deepest_of turn) s l (at_depth 0 answer) stack list
-  made_refused turn =
+  unfolding values_of
+  made_refused {r = r} turn =
       let same = turn_refused turn in
+      let reply : r ≡ Err (Refused answer) = ap (λ (x : OfferResult). x.0) same in
       record {
-        answer = ap (λ (d : ℕ). at_depth d answer) (sym (refused_deepest turn));
+        answer = ap (λ (d : ℕ). at_depth d answer) (sym (refused_deepest turn))
+            ∙ ap (λ (q : Reply). at_depth (deepest_of turn) (values_of (grammar_on book (Err answer)) table q)) (sym reply);
+        refused = refused_as reply;
         list = sym (ap (λ (x : OfferResult). x.2) same);
         stack_cleared = λ e. let bad : ◌≡◌ {A = ℕ} 0 1 = cc in absurd (omega arith);
         stack_kept = λ e. (refl, ap (λ (x : OfferResult). x.1) same);

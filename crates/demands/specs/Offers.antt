@@ -2,15 +2,17 @@
 -- Document 01, "Running and expanding": the start symbol on the stack, each token, then the end mark. Document 02, W7:
 -- who offers again keeps the larger of two depths.
 use Rattle.std.specs.Prelude.{◌≡◌, ◌≢◌, List, [], ◌∷◌, ℕ, ◌%◌, max, set, Result, Ok, Err}
+use Rattle.grammar.specs.Grammar.{Grammar}
 use Rattle.grammar.specs.declared.Symbol.TheVariants.{Nonterminal}
 use Rattle.answers.specs.declared.Answer.{Answer}
 use Rattle.answers.specs.Answers.{at_depth}
 use Rattle.answers.specs.Buffers.{cleared}
 use Rattle.reader.specs.Book.{byte_of}
-use Rattle.book.specs.Columns.{grammar_in}
+use Rattle.book.specs.Columns.{outlined, grammar_in}
 use Rattle.book.specs.declared.Index.{Index}
 use Rattle.offer.specs.Resuming.{OfferOutcome}
 use Rattle.offer.specs.Stops.{values_of, deepest_in}
+use Rattle.offer.specs.declared.Halt.TheVariants.{Refused}
 use Rattle.offer.specs.declared.Progress.{Progress}
 use Rattle.offer.specs.Reply.{Reply}
 
@@ -56,17 +58,19 @@ deepest_of (at_end {r = r} o) = deepest_in r
 deepest_of (stops {r = r} o other) = deepest_in r
 deepest_of (goes_on {next = next} o rest) = max next.deepest (deepest_of rest)
 
--- the paper's values of a reply on a reading; of a book that was refused they are its answer
-abbrev pub values_on : List ℕ → Result Index Answer → List ℕ → Reply → Answer
-values_on book (Ok index) table r = values_of (grammar_in book index) table r
-values_on book (Err answer) table r = answer
+-- the grammar that a reading tells of; where the book was refused, the one that has nothing
+abbrev pub grammar_on : List ℕ → Result Index Answer → Grammar
+grammar_on book (Ok index) = grammar_in book index
+grammar_on book (Err answer) = outlined book [] (record { tokens = 0; nonterminals = 0; start = 0; productions = 0 })
 
 -- offers with the last reply r, of which `deepest` cells are the most, that leave stack and list so make the run with
 -- the answer a, which was lent `stack`: the paper's values of the reply at that depth are the run's answer, and the
--- list is the same; the run's stack is theirs with every cell 0, but where the book was refused each is as it was lent
+-- list is the same; the run's stack is theirs with every cell 0, but where the book was refused the reply is that
+-- refusal, and each is as it was lent
 pub record MakesRun (book : List ℕ) (reading : Result Index Answer) (table stack : List ℕ) (r : Reply) (deepest : ℕ)
     (offered_stack offered_list : List ℕ) (a : Answer) (stack' list' : List ℕ) : Type 0 where
-  pub answer : a ≡ at_depth deepest (values_on book reading table r)
+  pub answer : a ≡ at_depth deepest (values_of (grammar_on book reading) table r)
+  pub refused : {answer : Answer} → reading ≡ Err answer → r ≡ Err (Refused answer)
   pub list : list' ≡ offered_list
   pub stack_cleared : {index : Index} → reading ≡ Ok index → stack' ≡ cleared offered_stack
   pub stack_kept : {answer : Answer}

@@ -3,7 +3,7 @@
 
 ghost use Rattle.std.specs.Prelude.{◌≡◌, ◌+◌, ◌^◌, ◌≤◌, ◌<◌, length};
 ghost use Rattle.answers.specs.Answers.{at_depth};
-ghost use Rattle.book.specs.Columns.{grammar_in, Lefts};
+ghost use Rattle.book.specs.Columns.{located, grammar_in, outlined, Lefts};
 ghost use Rattle.expand.specs.Expanding.{closing, ExpandOutcome};
 ghost use Rattle.expand.specs.Turns.{Unfolds, ExpandedOn};
 
@@ -47,9 +47,10 @@ fn unfold_all(
     stack: &mut [u8],
     output: &mut [u8],
 ) -> Unfolding
-    requires { (1 ≤ length stack.old) × Lefts rules.now.book.now rules.now.index.now lefts.now }
+    requires { (1 ≤ length stack.old)
+        × Lefts rules.now.book.now (located rules.now.places.now rules.now.outline) lefts.now }
     ensures { Unfolds
-        (grammar_in rules.now.book.now rules.now.index.now)
+        (outlined rules.now.book.now rules.now.places.now rules.now.outline)
         list.now
         stack.old
         output.old
@@ -57,7 +58,7 @@ fn unfold_all(
         stack.new
         output.new }
 {
-    put_start(stack, rules.index.outline.start);
+    put_start(stack, rules.outline.start);
     let cells = counts(output.len());
     let mut height: usize = 1;
     let mut used: usize = 0;
@@ -131,8 +132,8 @@ fn expand_on(book: &[u8], index: &Index, list: &[u8], stack: &mut [u8], output: 
         stack.new
         output.new }
 {
-    let rules = Rules::new(book, index);
-    let lefts = gather_lefts(book, index);
+    let rules = Rules::new(book, &index.places, index.outline);
+    let lefts = gather_lefts(book, &index.places, index.outline);
     let u = unfold_all(&rules, &lefts, list, stack, output);
     clear(stack);
     answer_to(u)

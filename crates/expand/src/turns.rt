@@ -1,5 +1,6 @@
 // What an expansion does next, from the symbol on top, the next production and the room.
 ghost use Rattle.std.specs.Prelude.{◌≡◌, ◌≤◌, length};
+ghost use Rattle.book.specs.Columns.{located};
 ghost use Rattle.expand.specs.Turns.{emptied, TurnAt};
 
 use crate::Turn;
@@ -35,7 +36,7 @@ pub(crate) fn turn_at(
     requires { height ≤ length stack.now }
     ensures { TurnAt
         rules.now.book.now
-        rules.now.index.now
+        (located rules.now.places.now rules.now.outline)
         lefts.now
         list.now
         used
@@ -62,7 +63,7 @@ pub(crate) fn turn_at(
             let ahead = ahead_of(list, used);
             match ahead {
                 Some(p) => {
-                    if !is_of(lefts, rules.index.outline, n, p) {
+                    if !is_of(lefts, rules.outline, n, p) {
                         Turn::Close(Err(Obstacle::Unfit))
                     } else if counts(stack.len()) < below + rules.length(p) as usize {
                         Turn::Close(Err(Obstacle::FullStack))

@@ -9,10 +9,10 @@ use Rattle.grammar.specs.Grammar.{Grammar, Member}
 use Rattle.sets.specs.Calls.{set_at}
 use Rattle.answers.specs.declared.Answer.{Answer}
 use Rattle.answers.specs.Answers.{done}
-use Rattle.answers.specs.declared.refusals.Lent.TheVariants.{Follow}
-use Rattle.answers.specs.Checks.{because, first_stops, next_stops, RoomTested}
+use Rattle.answers.specs.Refusals.{follow_room}
+use Rattle.answers.specs.Checks.{because, first_stops, next_stops, goes, Checked, RoomTested}
 use Rattle.answers.specs.Buffers.{over, written}
-use Rattle.answers.proofs.Promise.{Unique, written_all}
+use Rattle.answers.proofs.Promise.{Unique, tested_unique, checked_then, checked_unique, checked_first, written_all}
 use Rattle.book.specs.declared.Index.{Index}
 use Rattle.reader.specs.Book.{Limits}
 use Rattle.book.specs.Judging.{Indexes}
@@ -34,10 +34,9 @@ use Rattle.follow.proofs.Lookaheads.{ahead_found}
 -- two checks of room are one
 pub both_tested : (first follow N : ℕ) (r : Result ⊤ Answer)
     → N ≤ first
-    → RoomTested follow N Follow r
+    → RoomTested follow N follow_room r
     → SetsRoomed first follow N r
-both_tested first follow N (Ok _) h room = (h, room)
-both_tested first follow N (Err a) h lacking = next_stops h lacking
+both_tested first follow N r h room = checked_first (checked_then (goes refl h) (goes refl room))
 
 -- the check of room for the sets has one answer
 lacking_unique : (first follow N : ℕ) → Unique (SetsLacking first follow N)
@@ -50,11 +49,13 @@ lacking_not_fit : (first follow N : ℕ) (a : Answer) → SetsLacking first foll
 lacking_not_fit first follow N a (first_stops (because l)) (h, i) = omega arith
 lacking_not_fit first follow N a (next_stops g (because l)) (h, i) = omega arith
 
-pub sets_roomed_unique : (first follow N : ℕ) (r s : Result ⊤ Answer) → SetsRoomed first follow N r → SetsRoomed first follow N s → r ≡ s
-sets_roomed_unique first follow N (Ok _) (Ok _) x y = refl
-sets_roomed_unique first follow N (Ok _) (Err a) x y = absurd (lacking_not_fit first follow N a y x)
-sets_roomed_unique first follow N (Err a) (Ok _) x y = absurd (lacking_not_fit first follow N a x y)
-sets_roomed_unique first follow N (Err a) (Err b) x y = ap Err (lacking_unique first follow N a b x y)
+pub sets_roomed_unique : (first follow N : ℕ) → Unique (SetsRoomed first follow N)
+sets_roomed_unique first follow N = tested_unique (lacking_unique first follow N) (lacking_not_fit first follow N)
+
+-- and after another check
+pub sets_roomed_after_unique : {before : Result ⊤ Answer} (first follow N : ℕ)
+    → Unique (Checked before (SetsLacking first follow N) ((N ≤ first) × (N ≤ follow)))
+sets_roomed_after_unique first follow N = checked_unique (lacking_unique first follow N) (lacking_not_fit first follow N)
 
 module _ {book : List ℕ} {index : Index} (first follow : List ℕ) (given : Indexes book index) where
   pub given_lacking : {a : Answer}

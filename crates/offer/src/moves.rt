@@ -1,5 +1,6 @@
 // What is done next, from the symbol on top, the table and the room.
 ghost use Rattle.std.specs.Prelude.{◌≡◌, ◌≤◌, length};
+ghost use Rattle.book.specs.Columns.{located};
 ghost use Rattle.machine.specs.Machine.{meets};
 ghost use Rattle.stack.specs.Ahead.{column_in};
 ghost use Rattle.offer.specs.Moves.{Bottom, CellFacing, Decision, Choice};
@@ -89,7 +90,7 @@ pub(crate) fn choose(
     requires { height ≤ length stack.now }
     ensures { Choice
         rules.now.book.now
-        rules.now.index.now
+        (located rules.now.places.now rules.now.outline)
         table.now
         ahead
         stack.now
@@ -103,7 +104,7 @@ pub(crate) fn choose(
     }
     let below = height - 1;
     let symbol = symbol_of(stack[below]);
-    let choice = decide(Step { symbol, ahead }, table, rules.index.outline)?;
+    let choice = decide(Step { symbol, ahead }, table, rules.outline)?;
     let Move::Use(p) = choice else {
         return Ok(choice);
     };

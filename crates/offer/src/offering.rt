@@ -1,6 +1,6 @@
 // One column offered to a run in progress.
 ghost use Rattle.std.specs.Prelude.{◌≡◌, ◌-◌, ◌^◌, ◌≤◌, ◌<◌, length, set};
-ghost use Rattle.book.specs.Columns.{grammar_in};
+ghost use Rattle.book.specs.Columns.{located, grammar_in};
 ghost use Rattle.offer.specs.Offering.{matched_at, ColumnAhead, Ready, OfferedAt};
 ghost use Rattle.offer.specs.Resuming.{clamped, OfferedOn, OfferOutcome};
 
@@ -38,7 +38,7 @@ pub(crate) fn offer_at(
     requires { Ready at stack.old list.old }
     ensures { OfferedAt
         rules.now.book.now
-        rules.now.index.now
+        (located rules.now.places.now rules.now.outline)
         table.now
         ahead
         at
@@ -121,7 +121,7 @@ fn offer_on(
         stack.new
         list.new }
 {
-    let rules = Rules::new(book, index);
+    let rules = Rules::new(book, &index.places, index.outline);
     let ahead = column_ahead(column, index.outline.tokens);
     let from = clamp(at, stack.len(), list.len());
     offer_at(&rules, table, ahead, stack, list, from)

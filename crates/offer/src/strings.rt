@@ -1,11 +1,11 @@
 // A whole token string offered from the start symbol on.
 ghost use Rattle.std.specs.Prelude.{◌≤◌, length};
-ghost use Rattle.book.specs.Columns.{grammar_in};
+ghost use Rattle.book.specs.Columns.{outlined};
 ghost use Rattle.offer.specs.Strings.{Stepped, StringOutcome};
 
 use crate::offering::offer_at;
 use crate::{Halt, Progress};
-use book::Index;
+use book::columns::Outline;
 use machine::Reason;
 use stack::rules::Rules;
 use stack::{clear, put_start};
@@ -20,7 +20,7 @@ fn offer_all(
 ) -> Result<Progress, Halt>
     requires { 1 ≤ length stack.old }
     ensures { Stepped
-        (grammar_in rules.now.book.now rules.now.index.now)
+        (outlined rules.now.book.now rules.now.places.now rules.now.outline)
         table.now
         tokens.now
         stack.old
@@ -29,7 +29,7 @@ fn offer_all(
         stack.new
         list.new }
 {
-    put_start(stack, rules.index.outline.start);
+    put_start(stack, rules.outline.start);
     let mut at = Progress {
         height: 1,
         listed: 0,
@@ -47,14 +47,15 @@ fn offer_all(
 // a stack cell nothing is done.
 pub fn offer_string(
     book: &[u8],
-    index: &Index,
+    places: &[u16],
+    outline: Outline,
     table: &[u8],
     tokens: &[u8],
     stack: &mut [u8],
     list: &mut [u8],
 ) -> Result<Progress, Halt>
     ensures { StringOutcome
-        (grammar_in book.now index.now)
+        (outlined book.now places.now outline)
         table.now
         tokens.now
         stack.old
@@ -72,7 +73,7 @@ pub fn offer_string(
         };
         return Err(Halt::Stopped(Reason::FullStack, at));
     }
-    let rules = Rules::new(book, index);
+    let rules = Rules::new(book, places, outline);
     let reply = offer_all(&rules, table, tokens, stack, list);
     clear(stack);
     reply

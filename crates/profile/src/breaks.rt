@@ -52,10 +52,11 @@ pub(crate) fn first_break(book: &[u8], index: &Index) -> Option<u8>
         index.now.outline.productions
         result }
 {
-    let lefts = gather_lefts(book, index);
-    let lengths = gather_lengths(book, index);
-    let heads = gather_heads(book, index);
-    for p in 0..index.outline.productions {
+    let outline = index.outline;
+    let lefts = gather_lefts(book, &index.places, outline);
+    let lengths = gather_lengths(book, &index.places, outline);
+    let heads = gather_heads(book, &index.places, outline);
+    for p in 0..outline.productions {
         if breaks(&lefts, &lengths, &heads, p) {
             return Some(p);
         }

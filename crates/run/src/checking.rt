@@ -61,7 +61,7 @@ pub(crate) fn check(
         cells
         result }
 {
-    if let Err(place) = check_table(book, index, table) {
+    if let Err(place) = check_table(book, &index.places, index.outline, table) {
         return Err(refusal(Refusal::Table, place as u64, 0));
     }
     check_tokens(tokens, index.outline.tokens)?;

@@ -31,7 +31,15 @@ fn run_on(
         stack.new
         list.new }
 {
-    let reply = offer_string(book, index, table, tokens, stack, list);
+    let reply = offer_string(
+        book,
+        &index.places,
+        index.outline,
+        table,
+        tokens,
+        stack,
+        list,
+    );
     answer_of(table, index.outline, reply)
 }
 
@@ -84,7 +92,15 @@ fn account_on(
     if let Err(answer) = check(book, index, table, tokens, stack.len()) {
         return Account { answer, matched: 0 };
     }
-    let reply = offer_string(book, index, table, tokens, stack, list);
+    let reply = offer_string(
+        book,
+        &index.places,
+        index.outline,
+        table,
+        tokens,
+        stack,
+        list,
+    );
     let at = progress_of(reply);
     Account {
         answer: answer_of(table, index.outline, reply),

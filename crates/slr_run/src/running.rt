@@ -76,8 +76,8 @@ fn run_on(
     if let Err(barred) = check(outline, table, tokens, stack.len()) {
         return barred;
     }
-    let lefts = gather_lefts(book, index);
-    let lengths = gather_lengths(book, index);
+    let lefts = gather_lefts(book, &index.places, outline);
+    let lengths = gather_lengths(book, &index.places, outline);
     let machine = Machine::new(table, outline, lefts, lengths);
     let reply = run_all(&machine, tokens, stack, list);
     clear(stack);

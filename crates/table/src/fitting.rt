@@ -1,11 +1,10 @@
 // Whether a table fits a book's grammar, whoever made the table: refusal 9.
 ghost use Rattle.std.specs.Prelude.{◌≡◌, ◌+◌, ◌*◌, ◌<◌, length, get_or};
-ghost use Rattle.book.specs.Columns.{grammar_in};
+ghost use Rattle.book.specs.Columns.{outlined};
 ghost use Rattle.table.specs.Fitting.{CellFits, FirstMisfit, TableFitting};
 
 use crate::VACANT;
 use answers::buffers::cell_or;
-use book::Index;
 use book::columns::{Outline, gather_lefts, is_of};
 
 // Cell i of a table; past its end no production.
@@ -29,28 +28,28 @@ fn cell_fits(lefts: &[u8], outline: Outline, table: &[u8], i: usize) -> bool
 }
 
 // The first cell that does not fit.
-fn first_misfit(book: &[u8], index: &Index, table: &[u8]) -> Option<usize>
-    requires { length table.now ≡ index.now.outline.nonterminals * (index.now.outline.tokens + 1) }
-    ensures { FirstMisfit (grammar_in book.now index.now) table.now result }
+fn first_misfit(book: &[u8], places: &[u16], outline: Outline, table: &[u8]) -> Option<usize>
+    requires { length table.now ≡ outline.nonterminals * (outline.tokens + 1) }
+    ensures { FirstMisfit (outlined book.now places.now outline) table.now result }
 {
-    let lefts = gather_lefts(book, index);
+    let lefts = gather_lefts(book, places, outline);
     for i in 0..table.len() {
-        if !cell_fits(&lefts, index.outline, table, i) {
+        if !cell_fits(&lefts, outline, table, i) {
             return Some(i);
         }
     }
     None
 }
 
-// Whether a table fits the grammar that an index tells of, for every book, index and table; if not, the place of
-// refusal 9: the length given, or the first cell that does not fit.
-pub fn check_table(book: &[u8], index: &Index, table: &[u8]) -> Result<(), usize>
-    ensures { TableFitting (grammar_in book.now index.now) table.now result }
+// Whether a table fits the grammar that places and an outline tell of, for every book, places, outline and table; if
+// not, the place of refusal 9: the length given, or the first cell that does not fit.
+pub fn check_table(book: &[u8], places: &[u16], outline: Outline, table: &[u8]) -> Result<(), usize>
+    ensures { TableFitting (outlined book.now places.now outline) table.now result }
 {
-    if table.len() != index.outline.cells() {
+    if table.len() != outline.cells() {
         return Err(table.len());
     }
-    match first_misfit(book, index, table) {
+    match first_misfit(book, places, outline, table) {
         Some(i) => Err(i),
         None => Ok(()),
     }

@@ -38,7 +38,7 @@ fn is_told(book: &[u8], cells: &mut [u8], i: usize, byte: u8) -> bool
 // row.
 fn first_untold(book: &[u8], index: &Index, cells: &mut [u8]) -> Option<usize> {
     let outline = index.outline;
-    let lefts = gather_lefts(book, index);
+    let lefts = gather_lefts(book, &index.places, outline);
     let columns = outline.tokens as usize + 1;
     for i in 0..cells.len() {
         let production = production_of(&lefts, outline, i / columns).unwrap_or(outline.productions);

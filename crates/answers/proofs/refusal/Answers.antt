@@ -2,11 +2,10 @@
 use mathlib.Core.Path.{◌∙◌, ap}
 use Rattle.sets.proofs.Promise.{none_is, number_unique}
 use Rattle.answers.specs.Answers.{refusal, stop}
-use Rattle.answers.specs.Refusals.{number_of}
 use Rattle.answers.proofs.refusal.Goals as goal
 
 pub returns : goal.returns
 unfolding refusal stop
-returns c =
+returns g c =
     let args = c.args in
-    c.stop.ensures ∙ ap (stop (number_of args.why) args.place args.detail 0) (number_unique (none_is c.none.ensures))
+    c.stop.ensures ∙ ap (stop (g.W.Numbered.numbered args.why) args.place args.detail 0) (number_unique (none_is c.none.ensures))

@@ -5,4 +5,4 @@ use Rattle.answers.proofs.stop.Goals as goal
 
 pub returns : goal.returns
 unfolding done stop
-returns c = rw (c.number.ensures, c.done.ensures) refl
+returns g c = rw (c.told_number.ensures, c.done.ensures) refl

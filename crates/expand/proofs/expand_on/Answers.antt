@@ -6,7 +6,7 @@ use Rattle.expand.proofs.expand_on.Goals as goal
 
 pub unfold_all-u-requires : goal.unfold_all-u-requires
 unfold_all-u-requires c =
-    (search rules, rw (c.new-rules.ensures.book, c.new-rules.ensures.index) c.gather_lefts-lefts.ensures)
+    (search rules, rw (c.new-rules.ensures.book, c.new-rules.ensures.places, c.new-rules.ensures.outline) c.gather_lefts-lefts.ensures)
 
 pub answer_to-requires : goal.answer_to-requires
 answer_to-requires c =
@@ -14,4 +14,4 @@ answer_to-requires c =
 
 pub returns : goal.returns
 returns c =
-    unfolds_answered (rw (c.new-rules.ensures.book, c.new-rules.ensures.index) at c.unfold_all-u.ensures) c.answer_to.ensures c.clear.ensures
+    unfolds_answered (rw (c.new-rules.ensures.book, c.new-rules.ensures.places, c.new-rules.ensures.outline) at c.unfold_all-u.ensures) c.answer_to.ensures c.clear.ensures

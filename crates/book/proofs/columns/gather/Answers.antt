@@ -9,7 +9,7 @@ loop-p-init c = (search rules, gathered_none)
 pub loop-p-preserved : goal.loop-p-preserved
 loop-p-preserved c =
     let loop = c.loop-p in
-    let byte = rw c.cell_or.ensures at c.byte_at.ensures in
+    let byte = rw c.place_at.ensures at c.byte_at.ensures in
     (search rules, gathered_turn _ loop.invariant.1 (omega arith) byte)
 
 pub returns : goal.returns

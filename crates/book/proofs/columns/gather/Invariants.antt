@@ -6,4 +6,4 @@ use Rattle.book.proofs.columns.gather.Given as goal
 
 abbrev pub invariant-loop-p : goal.invariant-loop-p
 invariant-loop-p l =
-    (l.p ≤ l.p-end) × Gathered (λ (at : ℕ). get_or l.book (at + l.more) 0) l.index.places l.p l.column
+    (l.p ≤ l.p-end) × Gathered (λ (at : ℕ). get_or l.book (at + l.more) 0) l.places l.p l.column

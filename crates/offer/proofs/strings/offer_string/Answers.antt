@@ -12,4 +12,4 @@ offer_all-reply-requires c = omega (arith, c.if-stack-eq0.false)
 
 pub returns : goal.returns
 returns c =
-    stepped_cleared (omega (arith, c.if-stack-eq0.false)) (rw (c.new-rules.ensures.book, c.new-rules.ensures.index) at c.offer_all-reply.ensures) c.clear.ensures
+    stepped_cleared (omega (arith, c.if-stack-eq0.false)) (rw (c.new-rules.ensures.book, c.new-rules.ensures.places, c.new-rules.ensures.outline) at c.offer_all-reply.ensures) c.clear.ensures

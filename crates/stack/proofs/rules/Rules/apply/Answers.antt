@@ -2,4 +2,4 @@
 use Rattle.stack.proofs.rules.Rules.apply.Goals as goal
 
 pub returns : goal.returns
-returns c = rw (c.length.ensures.symbols, ← c.cell_or-at.ensures) c.replace.ensures
+returns c = rw (c.length.ensures.symbols, ← c.place_at-at.ensures) c.replace.ensures
