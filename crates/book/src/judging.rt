@@ -8,16 +8,17 @@ ghost use Rattle.book.specs.Judging.{Judged};
 use crate::columns::Outline;
 use crate::useful::{first_useless, survey};
 use crate::{CELLS, Index};
+use answers::limits::MOST_PRODUCTIONS;
 use answers::refusals::Refusal;
 use answers::{Answer, refusal};
 use reader::fields::{NONTERMINALS, PRODUCTIONS, START, TOKENS, byte_at};
 use reader::walk::read;
 
-// At most as many records as there are cells.
+// At most as many records as there are cells. The byte is bounded, so that the compiler knows each cell to be inside.
 fn cells_for(count: u8) -> usize
     ensures { result ≡ min count most_productions }
 {
-    (count as usize).min(CELLS)
+    count.min(MOST_PRODUCTIONS) as usize
 }
 
 // Refusal 6 or the index of a book that spells a grammar.

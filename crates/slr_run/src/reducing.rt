@@ -50,7 +50,8 @@ fn finish(ending: Ending, stack: &mut [u8], at: Stage) -> Result<Stage, Halt>
     }
 }
 
-// One column is offered.
+// One column is offered. It is inlined in both of its calls, so that what it counts stays in registers.
+#[inline(always)]
 pub(crate) fn reduce_all(
     machine: &Machine,
     column: u8,
